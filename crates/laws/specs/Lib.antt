@@ -1,0 +1,13 @@
+pub mod Lists
+pub mod Once
+pub mod Outs
+pub mod Stack
+pub mod Values
+pub mod Cuts
+pub mod Room
+pub mod Splits
+pub mod Root
+pub mod Passed
+pub mod Tables
+pub mod Written
+pub mod Answered

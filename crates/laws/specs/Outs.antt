@@ -1,0 +1,53 @@
+-- Laws of answers that a bad draw may cut short. `Then m Q`: Q holds of the answer, if there is one. Assumes nothing.
+use Prim.Native.Nat.{ℕ}
+use mathlib.Core.Path.{_≡_, refl, subst}
+use Rattle.rules.specs.Draws.{Out, bad, ok, bind}
+
+pub bind-assoc {ℓ κ μ} : {A : Type ℓ} {B : Type κ} {C : Type μ} (m : Out A) (f : A → Out B) (g : B → Out C) → bind (bind m f) g ≡ bind m (λ a. bind (f a) g)
+unfolding bind
+bind-assoc (bad n) f g = refl
+bind-assoc (ok a) f g = refl
+
+abbrev pub Then {ℓ} : {A : Type ℓ} → Out A → (A → Type 0) → Type 0
+Then (bad n) Q = Unit {0}
+Then (ok a) Q = Q a
+
+-- through the next step
+pub then-then {ℓ κ} : {A : Type ℓ} {B : Type κ} (m : Out A) (f : A → Out B) (Q : A → Type 0) (R : B → Type 0) → Then m Q → ((a : A) → Q a → Then (f a) R) → Then (bind m f) R
+unfolding bind
+then-then (bad n) f Q R h k = tt
+then-then (ok a) f Q R h k = k a h
+
+-- whatever the answer is
+pub then-any {ℓ κ} : {A : Type ℓ} {B : Type κ} (m : Out A) (f : A → Out B) (R : B → Type 0) → ((a : A) → Then (f a) R) → Then (bind m f) R
+unfolding bind
+then-any (bad n) f R k = tt
+then-any (ok a) f R k = k a
+
+pub then-both {ℓ} : {A : Type ℓ} (m : Out A) (Q R : A → Type 0) → Then m Q → Then m R → Then m (λ a. Q a × R a)
+then-both (bad n) Q R h k = tt
+then-both (ok a) Q R h k = (h, k)
+
+pub then-after {ℓ} : {A : Type ℓ} (m : Out A) (Q R : A → Type 0) → Then m Q → ((a : A) → Q a → R a) → Then m R
+then-after (bad n) Q R h k = tt
+then-after (ok a) Q R h k = k a h
+
+pub always {ℓ} : {A : Type ℓ} (m : Out A) (Q : A → Type 0) → ((a : A) → Q a) → Then m Q
+always (bad n) Q h = tt
+always (ok a) Q h = h a
+
+-- of a known answer
+pub then-of {ℓ} : {A : Type ℓ} (Q : A → Type 0) (m : Out A) (a : A) → m ≡ ok a → Then m Q → Q a
+then-of Q m a e h = subst (λ x. Then x Q) e h
+
+-- two ways on that agree
+pub bind-all {ℓ κ} : {A : Type ℓ} {B : Type κ} (m : Out A) (f g : A → Out B) → ((a : A) → f a ≡ g a) → bind m f ≡ bind m g
+unfolding bind
+bind-all (bad n) f g e = refl
+bind-all (ok a) f g e = e a
+
+-- and that agree at each answer of which Q holds
+pub bind-same {ℓ κ} : {A : Type ℓ} {B : Type κ} (m : Out A) (f g : A → Out B) (Q : A → Type 0) → Then m Q → ((a : A) → Q a → f a ≡ g a) → bind m f ≡ bind m g
+unfolding bind
+bind-same (bad n) f g Q h e = refl
+bind-same (ok a) f g Q h e = e a h

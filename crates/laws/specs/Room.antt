@@ -1,0 +1,105 @@
+-- A growth from a good root makes at most max(1, 2 x rows - 1) nodes, over any way to choose fine cuts. Assumes nothing.
+use Prim.Native.Nat.{ℕ, suc, _+_, _-_, _*_, _<_, _≤_}
+use native.Mathlib.Omega.{arith}
+use mathlib.Core.Path.{_≡_, sym, ap, _∙_, subst}
+use mathlib.Core.Bool.{Bool, true, false, not, _&&_}
+use mathlib.Core.List.{List, [], _∷_, _++_}
+use lib.ListN.{length, getD}
+use lib.Dec.{ltb}
+use Rattle.rules.specs.declared.Params.{Params}
+use Rattle.rules.specs.Words.{keep, total}
+use Rattle.rules.specs.Draws.{Out}
+use Rattle.rules.specs.Search.{Element, Task, goesTrue, same, Found, uncut, cut}
+use Rattle.rules.specs.Growth.{Waiting, State, child, withChildren, joins, asked, ask, expand, fromRoot}
+use Rattle.laws.specs.Lists.{Every, every-append, getD-keep, total-append, total-sides}
+use Rattle.laws.specs.Outs.{Then, then-then, then-after}
+use Rattle.laws.specs.Stack.{children-length, root-keep}
+use Rattle.laws.specs.Cuts.{Good, Suits, Ripe, side-good}
+
+-- ---- the rows of a node, which a fine cut divides
+
+abbrev pub rowsOf : Task → ℕ
+rowsOf task = total (λ (e : Element). 1) (getD (task .columns) 0 [])
+
+module _ (P : Params) (w : Waiting) (h : Ripe P w) where
+  -- a side by any weight, in the cut's own column
+  pub side-total : (b : Bool → Bool) (f : Element → ℕ) (j : ℕ) → j < P .features
+      → total f (getD (child b w .columns) j []) ≡ total f (keep (λ e. b (goesTrue (w .cut) e)) (getD (w .task .columns) (w .cut .feature) []))
+  unfolding child
+  side-total b f j hj =
+      ap (total f) (getD-keep (λ e. b (goesTrue (w .cut) e)) (w .task .columns) j)
+      ∙ h .good .level j (w .cut .feature) hj (h .fine .known) f (λ e. b (goesTrue (w .cut) e))
+
+  -- both sides together, by any weight
+  both-sides : (f : Element → ℕ) (j : ℕ) → j < P .features
+      → total f (getD (child same w .columns) j []) + total f (getD (child not w .columns) j []) ≡ total f (getD (w .task .columns) j [])
+  unfolding child
+  both-sides f j hj =
+      (λ i. total f (getD-keep (goesTrue (w .cut)) (w .task .columns) j i) + total f (getD-keep (λ e. not (goesTrue (w .cut) e)) (w .task .columns) j i))
+      ∙ total-sides f (goesTrue (w .cut)) (getD (w .task .columns) j [])
+
+  pub halves : 0 < P .features → (1 ≤ rowsOf (child same w)) × (1 ≤ rowsOf (child not w)) × (rowsOf (child same w) + rowsOf (child not w) ≡ rowsOf (w .task))
+  halves some =
+      (subst (λ n. 1 ≤ n) (sym (side-total same (λ e. 1) 0 some)) (h .fine .someTrue),
+       subst (λ n. 1 ≤ n) (sym (side-total not (λ e. 1) 0 some)) (h .fine .someFalse),
+       both-sides (λ e. 1) 0 some)
+
+-- ---- the node room that is asked is enough
+
+-- how often the waiting nodes can still be split, and what comes of them
+abbrev pub load : List Waiting → ℕ
+load ws = total (λ (w : Waiting). rowsOf (w .task) - 1) ws
+
+module _ (P : Params) {S : Type 0} (choose : S → Task → Out (Found × S))
+    (fine : (s : S) (task : Task) → Good P task → Then (choose s task) (λ r. Suits P task (r .0))) where
+
+  joins-ripe : (n level : ℕ) (task : Task) (f : Found) → Good P task → Suits P task f → Every (Ripe P) (joins n level task f)
+  unfolding joins
+  joins-ripe n level task uncut g h = tt
+  joins-ripe n level task (cut c) g h = (record { good = g; fine = h }, tt)
+
+  joins-load : (n level : ℕ) (task : Task) (f : Found) → load (joins n level task f) ≤ rowsOf task - 1
+  unfolding joins total
+  joins-load n level task uncut = omega arith
+  joins-load n level task (cut c) = omega arith
+
+  pub ask-load : (b : Bool) (n level : ℕ) (task : Task) (s : S) → Good P task
+      → Then (ask P choose b n level task s) (λ r. Every (Ripe P) (r .0) × (load (r .0) ≤ rowsOf task - 1))
+  unfolding ask total
+  ask-load false n level task s g = (tt, omega arith)
+  ask-load true n level task s g =
+      then-then (choose s task) _ _ _ (fine s task g) (λ r h. (joins-ripe n level task (r .0) g h, joins-load n level task (r .0)))
+
+  abbrev Bounded : ℕ → List Waiting → State S → Type 0
+  Bounded top ws s = Every (Ripe P) ws × (length (s .nodes) + 2 * load ws ≤ top)
+
+  pub expand-bounded : 0 < P .features → (top : ℕ) (w : Waiting) (ws : List Waiting) (s : State S) → w .level < P .limit → Bounded top (w ∷ ws) s
+      → Then (expand P choose w s) (λ r. Bounded top (r .0 ++ ws) (r .1))
+  unfolding expand total
+  expand-bounded some top w ws s b h =
+      then-then (ask P choose (asked P (suc (w .level)) (child same w)) (length (s .nodes)) (suc (w .level)) (child same w) (s .left)) _ _ _ (ask-load _ _ _ _ _ (side-good P same w (h .0 .0)))
+      (λ t ht. then-then (ask P choose (asked P (suc (w .level)) (child not w)) (suc (length (s .nodes))) (suc (w .level)) (child not w) (t .1)) _ _ _ (ask-load _ _ _ _ _ (side-good P not w (h .0 .0)))
+      (λ f hf.
+        (every-append _ (f .0 ++ t .0) ws (every-append _ (f .0) (t .0) (hf .0) (ht .0)) (h .0 .1),
+         room (length (s .nodes)) (length (withChildren w (s .nodes))) (load (f .0 ++ t .0 ++ ws)) (load (f .0)) (load (t .0)) (load ws)
+           (rowsOf (child same w)) (rowsOf (child not w)) (rowsOf (w .task)) (children-length w (s .nodes))
+           (total-append _ (f .0 ++ t .0) ws ∙ ap (λ n. n + load ws) (total-append _ (f .0) (t .0)))
+           (hf .1) (ht .1) (halves P w (h .0 .0) some) (h .1))))
+    where
+      room : (n n′ l lf lt lw a b c : ℕ) → n′ ≡ n + 2 → l ≡ lf + lt + lw → lf ≤ b - 1 → lt ≤ a - 1 → (1 ≤ a) × (1 ≤ b) × (a + b ≡ c)
+          → n + 2 * ((c - 1) + lw) ≤ top → n′ + 2 * l ≤ top
+      room n n′ l lf lt lw a b c h₁ h₂ h₃ h₄ h₅ h₆ = omega arith
+
+  pub room-enough : 0 < P .features → (root : Task) (s : S) → Good P root → Then (fromRoot P choose root s) (λ s′. length (s′ .nodes) ≤ 1 + 2 * (rowsOf root - 1))
+  unfolding total
+  room-enough some root s g =
+      then-after (fromRoot P choose root s) _ _
+        (root-keep P choose (Bounded (1 + 2 * (rowsOf root - 1))) (expand-bounded some (1 + 2 * (rowsOf root - 1))) root s
+          (then-after (ask P choose (ltb 0 (root .count) && asked P 1 root) 0 1 root s) _ _ (ask-load _ 0 1 root s g)
+            (λ r q. (q .0, start (load (r .0)) (rowsOf root) (q .1)))))
+        (λ s′ h. last (length (s′ .nodes)) (1 + 2 * (rowsOf root - 1)) (h .1))
+    where
+      start : (l n : ℕ) → l ≤ n - 1 → 1 + 2 * l ≤ 1 + 2 * (n - 1)
+      start l n h = omega arith
+      last : (n m : ℕ) → n + 2 * 0 ≤ m → n ≤ m
+      last n m h = omega arith

@@ -1,0 +1,53 @@
+-- Each case of each answer in the paper's numbers and values; 0 is no refusal. Definitions only. Assumes nothing.
+use Prim.Native.Nat.{ℕ}
+use lib.Ieee.{Float}
+use Rattle.rules.specs.declared.Kind.the-variants.{Leaf}
+use Rattle.rules.specs.declared.Node.{Node}
+use Rattle.rules.specs.declared.Report.{Report}
+use Rattle.rules.specs.declared.TreeAnswer.{TreeAnswer}
+use Rattle.rules.specs.declared.ForestAnswer.{ForestAnswer}
+use Rattle.rules.specs.declared.Reply.{Reply}
+use Rattle.rules.specs.declared.ErrorReply.{ErrorReply}
+use Rattle.rules.specs.declared.NodeReply.{NodeReply}
+use Rattle.rules.specs.Words.{nought}
+
+-- what a fit tells: a refusal its number and zeros, and refusal 7 its tree and search besides
+pub record Told : Type 0 where
+  pub number : ℕ
+  pub tree : ℕ
+  pub search : ℕ
+  pub report : Report
+
+abbrev pub noReport : Report
+noReport = record { nodes = 0; depth = 0; mass = nought; searches = 0; words = 0; thresholds = 0 }
+
+abbrev pub treeTold : TreeAnswer → Told
+treeTold (TreeAnswer.Refused n) = record { number = n; tree = 0; search = 0; report = noReport }
+treeTold (TreeAnswer.BadDraw d) = record { number = 7; tree = d .tree; search = d .search; report = noReport }
+treeTold (TreeAnswer.Grown r) = record { number = 0; tree = 0; search = 0; report = r }
+
+-- a forest's reports stand in its report columns
+abbrev pub forestTold : ForestAnswer → Told
+forestTold (ForestAnswer.Refused n) = record { number = n; tree = 0; search = 0; report = noReport }
+forestTold (ForestAnswer.BadDraw d) = record { number = 7; tree = d .tree; search = d .search; report = noReport }
+forestTold ForestAnswer.Grown = record { number = 0; tree = 0; search = 0; report = noReport }
+
+abbrev pub replyTold : Reply → ℕ
+replyTold (Reply.Refused n) = n
+replyTold Reply.Done = 0
+
+pub record ErrorTold : Type 0 where
+  pub number : ℕ
+  pub error : Float
+
+abbrev pub errorTold : ErrorReply → ErrorTold
+errorTold (ErrorReply.Refused n) = record { number = n; error = nought }
+errorTold (ErrorReply.Error e) = record { number = 0; error = e }
+
+pub record NodeTold : Type 0 where
+  pub number : ℕ
+  pub node : Node
+
+abbrev pub nodeTold : NodeReply → NodeTold
+nodeTold (NodeReply.Refused n) = record { number = n; node = record { value = nought; kind = Leaf } }
+nodeTold (NodeReply.Read m) = record { number = 0; node = m }

@@ -1,0 +1,167 @@
+-- The fit of one tree: from what is lent to its answer and the rooms after. Definitions only. Assumes nothing.
+use Prim.Native.Nat.{ℕ, zero, suc, _-_}
+use mathlib.Core.Bool.{Bool, _&&_, cond}
+use mathlib.Core.List.{List, [], _∷_, map}
+use lib.ListN.{length, getD}
+use lib.Dec.{leb}
+use lib.Ieee.{Float, nan, binary64, mul}
+use Rattle.rules.specs.declared.Params.{Params}
+use Rattle.rules.specs.declared.Depth.{Depth}
+use Rattle.rules.specs.declared.Depth.the-variants.{Unlimited, AtMost}
+use Rattle.rules.specs.declared.Settings.{Settings}
+use Rattle.rules.specs.declared.Shape.{Shape}
+use Rattle.rules.specs.declared.Kind.{Kind}
+use Rattle.rules.specs.declared.Kind.the-variants.{Leaf, Split}
+use Rattle.rules.specs.declared.Report.{Report}
+use Rattle.rules.specs.declared.TreeAnswer.{TreeAnswer}
+use Rattle.rules.specs.Words.{nought, float, from, keep, total}
+use Rattle.rules.specs.Totals.{empty, valueOf}
+use Rattle.rules.specs.Lent.{Data, Given, Frame, Row, Waits, TreeRooms, Outcome, valuesAt, listingAt, unweighted, shortest, writeRows, zeroColumns, zeroWork}
+use Rattle.rules.specs.Checks.{Test, test, firstFailed, rowsIn, featuresIn, lengths, numbersGood, countsGood, countOf, kept, keptRows, asks, workEnough}
+use Rattle.rules.specs.Listing.{listingsGood}
+use Rattle.rules.specs.Draws.{Out, bad, ok, bind, Tapes, tape}
+use Rattle.rules.specs.Search.{Element, Column, totals, Task, search}
+use Rattle.rules.specs.Growth.{Grown, State, fromRoot}
+
+-- ---- the root
+
+-- a row's mass is its count as a float, times its weight if there are weights
+unfoldable pub massOf : Frame → ℕ → Float
+massOf F i = cond (unweighted (F .weights)) (float (countOf F i)) (mul binary64 (float (countOf F i)) (getD (F .weights) i nan))
+
+unfoldable pub targetOf : Data → ℕ → Float
+targetOf D i = getD (D .targets) i nan
+
+unfoldable pub valuesOf : Frame → Data → ℕ → List Float
+valuesOf F D i = valuesAt (F .params .features) (D .values) i
+
+unfoldable pub listing : Frame → Data → ℕ → List ℕ
+listing F D j = listingAt (F .rows) (D .listings) j
+
+unfoldable pub element : Frame → Data → ℕ → Element
+element F D i = record { row = i; count = countOf F i; mass = massOf F i; target = targetOf D i; values = valuesOf F D i }
+
+-- the kept rows, in their listing's order
+unfoldable pub column : Frame → Data → ℕ → Column
+column F D j = map (element F D) (keep (kept F) (listing F D j))
+
+-- the root's totals run over all rows by number
+unfoldable pub root : Frame → Data → Task
+root F D =
+    record {
+      columns = map (column F D) (from 0 (F .params .features));
+      totals = totals empty (map (element F D) (from 0 (F .rows)));
+      count = total (countOf F) (keptRows F);
+    }
+
+-- ---- a grown tree, and what is reported of it
+
+pub record Tree : Type 0 where
+  pub nodes : List Grown
+  pub report : Report
+
+unfoldable pub treeOf : Frame → Task → State Tapes → Tree
+treeOf F task s =
+    record {
+      nodes = s .nodes;
+      report = record {
+        nodes = length (s .nodes);
+        depth = s .depth;
+        mass = task .totals .mass;
+        searches = s .left .searches;
+        words = length (F .words) - length (s .left .words);
+        thresholds = length (F .thresholds) - length (s .left .thresholds);
+      };
+    }
+
+-- from its root on, a tree reads nothing of the data
+unfoldable pub rooted : Frame → Task → Out Tree
+rooted F task =
+    bind (fromRoot (F .params) (search (tape (F .params .features)) (F .params)) task (record { words = F .words; thresholds = F .thresholds; searches = 0 }))
+    (λ s. ok (treeOf F task s))
+
+unfoldable pub fit : Frame → Data → Out Tree
+fit F D = rooted F (root F D)
+
+-- a node as it is written: a leaf's feature, threshold, score and children are 0
+unfoldable pub rowOf : Float → Kind → Row
+rowOf v Leaf = record { value = v; feature = 0; threshold = nought; score = nought; trueChild = 0; falseChild = 0 }
+rowOf v (Split s) =
+    record {
+      value = v;
+      feature = s .cut .feature;
+      threshold = s .cut .threshold;
+      score = s .score;
+      trueChild = s .children;
+      falseChild = suc (s .children);
+    }
+
+unfoldable pub rows : List Grown → List Row
+rows [] = []
+rows (n ∷ ns) = rowOf (valueOf (n .totals)) (n .kind) ∷ rows ns
+
+-- ---- the call
+
+-- no greatest depth acts as 65,535
+unfoldable pub limitOf : Depth → ℕ
+limitOf Unlimited = 65535
+limitOf (AtMost d) = d
+
+unfoldable pub paramsOf : Settings → ℕ → ℕ → Params
+paramsOf G tried features =
+    record { limit = limitOf (G .depth); leaf = G .leaf; split = G .split; tried = tried; features = features; splitter = G .splitter }
+
+pub record TreeCall : Type 0 where
+  pub shape : Shape
+  pub settings : Settings
+  pub tried : ℕ
+  pub given : Given
+  pub words : List ℕ
+  pub thresholds : List Float
+
+unfoldable pub frameOf : TreeCall → Frame
+frameOf C =
+    record {
+      rows = C .shape .rows;
+      params = paramsOf (C .settings) (C .tried) (C .shape .features);
+      weights = C .given .weights;
+      counts = C .given .counts;
+      words = C .words;
+      thresholds = C .thresholds;
+    }
+
+unfoldable pub grownTree : TreeCall → Out Tree
+grownTree C = fit (frameOf C) (C .given .measured)
+
+module _ {W : Type 0} (K : Waits W) where
+  -- 1 to 6, in this order
+  unfoldable pub treeTests : TreeCall → TreeRooms W → List Test
+  treeTests C R =
+      test 1 (rowsIn (C .shape .rows) && featuresIn (C .shape .features))
+      ∷ test 2 (lengths (C .shape) 1 (C .given))
+      ∷ test 3 (numbersGood (C .given))
+      ∷ test 4 (countsGood (C .given))
+      ∷ test 5 (listingsGood (C .shape) (C .given .measured .values) (C .given .measured .listings))
+      ∷ test 6 (leb (asks (frameOf C)) (shortest (R .nodes)) && workEnough K (C .shape) (R .work))
+      ∷ []
+
+  -- a bad draw leaves all rooms zero; an answer leaves the nodes, and the work room zero
+  unfoldable pub treeDone : Out Tree → TreeRooms W → Outcome TreeAnswer (TreeRooms W)
+  treeDone (bad s) R =
+      record {
+        answer = TreeAnswer.BadDraw (record { tree = 0; search = s });
+        rooms = record { nodes = zeroColumns (R .nodes); work = zeroWork K (R .work) };
+      }
+  treeDone (ok t) R =
+      record {
+        answer = TreeAnswer.Grown (t .report);
+        rooms = record { nodes = writeRows (rows (t .nodes)) (R .nodes); work = zeroWork K (R .work) };
+      }
+
+  -- a refusal by 1 to 6 leaves the rooms as they were
+  unfoldable pub treeEnds : ℕ → Out Tree → TreeRooms W → Outcome TreeAnswer (TreeRooms W)
+  treeEnds zero o R = treeDone o R
+  treeEnds (suc n) o R = record { answer = TreeAnswer.Refused (suc n); rooms = R }
+
+  unfoldable pub fitTree : TreeCall → TreeRooms W → Outcome TreeAnswer (TreeRooms W)
+  fitTree C R = treeEnds (firstFailed (treeTests C R)) (grownTree C) R

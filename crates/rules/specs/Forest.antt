@@ -1,0 +1,134 @@
+-- The fit of a forest: each tree with its own counts and its own part of both tapes. Definitions only. Assumes nothing.
+use Prim.Native.Nat.{ℕ, zero, suc, _+_, _-_, _*_}
+use mathlib.Core.Bool.{Bool, _&&_, cond}
+use mathlib.Core.List.{List, [], _∷_, _++_, map}
+use lib.ListN.{length, getD}
+use lib.Dec.{leb}
+use lib.Ieee.{Float}
+use Rattle.rules.specs.declared.Settings.{Settings}
+use Rattle.rules.specs.declared.Shape.{Shape}
+use Rattle.rules.specs.declared.Tried.{Tried}
+use Rattle.rules.specs.declared.Tried.the-variants.{Root, Number}
+use Rattle.rules.specs.declared.Draw.{Draw}
+use Rattle.rules.specs.declared.ForestAnswer.{ForestAnswer}
+use Rattle.rules.specs.Words.{from, stretch, front, filled, total}
+use Rattle.rules.specs.Lent.{Data, Given, Frame, Row, Waits, ForestRooms, Outcome, shortest, writeRows, writeReports, zeroColumns, zeroReports, zeroWork}
+use Rattle.rules.specs.Checks.{Test, test, firstFailed, rowsIn, featuresIn, treesIn, lengths, goodCuts, numbersGood, countsGood, countsOne, asks, workEnough, reportsExact}
+use Rattle.rules.specs.Listing.{listingsGood}
+use Rattle.rules.specs.Draws.{Out, bad, ok}
+use Rattle.rules.specs.Fit.{Tree, fit, rows, paramsOf}
+
+pub record ForestCall : Type 0 where
+  pub shape : Shape
+  pub trees : ℕ
+  pub settings : Settings
+  pub tried : Tried
+  pub given : Given
+  pub words : List ℕ
+  pub thresholds : List Float
+  pub wordCuts : List ℕ
+  pub thresholdCuts : List ℕ
+
+-- how many of 1 to k have a square of at most n: for k = n, the floor of n's root
+unfoldable pub squares : ℕ → ℕ → ℕ
+squares n zero = 0
+squares n (suc k) = cond (leb (suc k * suc k) n) 1 0 + squares n k
+
+unfoldable pub triedOf : ℕ → Tried → ℕ
+triedOf features Root = squares features features
+triedOf features (Number m) = m
+
+-- a tree's own part of a tape
+unfoldable pub part {ℓ} : {A : Type ℓ} → List ℕ → List A → ℕ → List A
+part cuts tape t = stretch (getD cuts t 0) (getD cuts (suc t) 0 - getD cuts t 0) tape
+
+unfoldable pub frameAt : ForestCall → ℕ → Frame
+frameAt C t =
+    record {
+      rows = C .shape .rows;
+      params = paramsOf (C .settings) (triedOf (C .shape .features) (C .tried)) (C .shape .features);
+      weights = C .given .weights;
+      counts = stretch (t * C .shape .rows) (C .shape .rows) (C .given .counts);
+      words = part (C .wordCuts) (C .words) t;
+      thresholds = part (C .thresholdCuts) (C .thresholds) t;
+    }
+
+unfoldable pub frames : ForestCall → List Frame
+frames C = map (frameAt C) (from 0 (C .trees))
+
+-- ---- trees are grown one after another; the first bad draw ends it
+
+pub data Forest : Type 0 where
+  broke : Draw → Forest
+  stands : List Tree → Forest
+
+unfoldable pub joined : Tree → Forest → Forest
+joined t (broke d) = broke d
+joined t (stands ts) = stands (t ∷ ts)
+
+unfoldable pub planted : ℕ → Out Tree → Forest → Forest
+planted k (bad s) rest = broke (record { tree = k; search = s })
+planted k (ok t) rest = joined t rest
+
+unfoldable pub plant : ℕ → List Frame → Data → Forest
+plant k [] D = stands []
+plant k (F ∷ Fs) D = planted k (fit F D) (plant (suc k) Fs D)
+
+unfoldable pub grownForest : ForestCall → Forest
+grownForest C = plant 0 (frames C) (C .given .measured)
+
+-- ---- the call
+
+-- where each tree starts, and where the last ends
+unfoldable pub startsFrom : ℕ → List Tree → List ℕ
+startsFrom a [] = a ∷ []
+startsFrom a (t ∷ ts) = a ∷ startsFrom (a + length (t .nodes)) ts
+
+unfoldable pub forestRows : List Tree → List Row
+forestRows [] = []
+forestRows (t ∷ ts) = rows (t .nodes) ++ forestRows ts
+
+module _ {W : Type 0} (K : Waits W) where
+  -- 1 to 6, in this order
+  unfoldable pub forestTests : ForestCall → ForestRooms W → List Test
+  forestTests C R =
+      test 1 (rowsIn (C .shape .rows) && (featuresIn (C .shape .features) && treesIn (C .trees)))
+      ∷ test 2 (lengths (C .shape) (C .trees) (C .given)
+      && (goodCuts (C .trees) (length (C .words)) (C .wordCuts) && goodCuts (C .trees) (length (C .thresholds)) (C .thresholdCuts)))
+      ∷ test 3 (numbersGood (C .given))
+      ∷ test 4 (countsGood (C .given) && countsOne (C .given))
+      ∷ test 5 (listingsGood (C .shape) (C .given .measured .values) (C .given .measured .listings))
+      ∷ test 6 (leb (total asks (frames C)) (shortest (R .nodes)) && (workEnough K (C .shape) (R .work)
+      && (leb (suc (C .trees)) (length (R .starts)) && reportsExact (C .trees) (R .reports))))
+      ∷ []
+
+  -- a bad draw leaves all rooms zero; an answer leaves nodes, starts and reports, and the work room zero
+  unfoldable pub forestDone : Forest → ForestRooms W → Outcome ForestAnswer (ForestRooms W)
+  forestDone (broke d) R =
+      record {
+        answer = ForestAnswer.BadDraw d;
+        rooms = record {
+          nodes = zeroColumns (R .nodes);
+          starts = filled 0 (R .starts);
+          reports = zeroReports (R .reports);
+          work = zeroWork K (R .work);
+        };
+      }
+  forestDone (stands ts) R =
+      record {
+        answer = ForestAnswer.Grown;
+        rooms = record {
+          nodes = writeRows (forestRows ts) (R .nodes);
+          starts = front (startsFrom 0 ts) (R .starts);
+          reports = writeReports (map (λ (t : Tree). t .report) ts) (R .reports);
+          work = zeroWork K (R .work);
+        };
+      }
+
+  -- a refusal by 1 to 6 leaves the rooms as they were
+  unfoldable pub forestEnds : ℕ → Forest → ForestRooms W → Outcome ForestAnswer (ForestRooms W)
+  forestEnds zero f R = forestDone f R
+  forestEnds (suc n) f R = record { answer = ForestAnswer.Refused (suc n); rooms = R }
+
+  unfoldable pub fitForest : ForestCall → ForestRooms W → Outcome ForestAnswer (ForestRooms W)
+  fitForest C R = forestEnds (firstFailed (forestTests C R)) (grownForest C) R

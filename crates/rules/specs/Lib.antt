@@ -1,0 +1,15 @@
+pub mod Words
+pub mod Totals
+pub mod Threshold
+pub mod Lent
+pub mod Checks
+pub mod Listing
+pub mod Draws
+pub mod Search
+pub mod Growth
+pub mod Fit
+pub mod Table
+pub mod Reading
+pub mod Forest
+pub mod OutOfBag
+pub mod Answers

@@ -1,0 +1,135 @@
+// The plain types that the definitions (specs/) and the code share. What they mean is said in specs/.
+
+// Sums over rows: of target times mass, and of the masses.
+pub struct Totals {
+    pub sum: f64,
+    pub mass: f64,
+}
+
+pub enum Splitter {
+    Best,
+    Random,
+}
+
+// The greatest depth.
+pub enum Depth {
+    Unlimited,
+    AtMost(u16),
+}
+
+// What a fit is told of its trees: greatest depth, least leaf, least split, splitter.
+pub struct Settings {
+    pub depth: Depth,
+    pub leaf: u32,
+    pub split: u32,
+    pub splitter: Splitter,
+}
+
+// How many features a search of a forest tries: the floor of the root of their number, or so many.
+pub enum Tried {
+    Root,
+    Number(u32),
+}
+
+// The settings as growth reads them: the depth is a number.
+pub struct Params {
+    pub limit: u32,
+    pub leaf: u32,
+    pub split: u32,
+    pub tried: u32,
+    pub features: u32,
+    pub splitter: Splitter,
+}
+
+pub struct Shape {
+    pub rows: usize,
+    pub features: usize,
+}
+
+// A row goes to the true side if its value of the feature is at most the threshold.
+pub struct Cut {
+    pub feature: u32,
+    pub threshold: f64,
+}
+
+// The candidate that a search holds: none yet, or a cut and its proxy.
+pub enum Held {
+    Nothing,
+    Holds(Cut, f64),
+}
+
+// What is carried along a column: the rows before by totals and count, the value of the run of equals, the candidate.
+pub struct Walk {
+    pub before: Totals,
+    pub count: u32,
+    pub last: f64,
+    pub best: Held,
+}
+
+// A split: its cut, its score, and the number of its true child. The false child's is the next.
+pub struct Fork {
+    pub cut: Cut,
+    pub score: f64,
+    pub children: u32,
+}
+
+pub enum Kind {
+    Leaf,
+    Split(Fork),
+}
+
+// A node read out.
+pub struct Node {
+    pub value: f64,
+    pub kind: Kind,
+}
+
+// How a tree's importances are scaled: by their sum, or by a root mass.
+pub enum Scale {
+    Normalised,
+    ByMass(f64),
+}
+
+// What a fit reports of a tree: node count, depth, root mass, searches, choice words and thresholds used.
+pub struct Report {
+    pub nodes: u32,
+    pub depth: u32,
+    pub mass: f64,
+    pub searches: u32,
+    pub words: u32,
+    pub thresholds: u32,
+}
+
+// Where a bad draw was met: the tree, and the search within it, from 0.
+pub struct Draw {
+    pub tree: u32,
+    pub search: u32,
+}
+
+pub enum TreeAnswer {
+    Refused(u32),
+    BadDraw(Draw),
+    Grown(Report),
+}
+
+pub enum ForestAnswer {
+    Refused(u32),
+    BadDraw(Draw),
+    Grown,
+}
+
+// The answer of a reader that writes its results, and of a check.
+pub enum Reply {
+    Refused(u32),
+    Done,
+}
+
+pub enum ErrorReply {
+    Refused(u32),
+    Error(f64),
+}
+
+pub enum NodeReply {
+    Refused(u32),
+    Read(Node),
+}
