@@ -96,15 +96,26 @@ words = replicate 7 0
 abbrev tree : Depth → ℕ → ℕ → Given → TreeCall
 tree depth leaf split G =
     record {
-      shape = record { rows = 4; features = 1 }; settings = record { depth = depth; leaf = leaf; split = split; splitter = Best }; tried = 1;
-      given = G; words = words; thresholds = []
+      shape = record { rows = 4; features = 1 };
+      settings = record { depth = depth; leaf = leaf; split = split; splitter = Best };
+      tried = 1;
+      given = G;
+      words = words;
+      thresholds = [];
     }
 
 abbrev forest : Given → ForestCall
 forest G =
     record {
-      shape = record { rows = 4; features = 1 }; trees = 1; settings = record { depth = Unlimited; leaf = 1; split = 2; splitter = Best }; tried = Root;
-      given = G; words = words; thresholds = []; wordCuts = 0 ∷ 7 ∷ []; thresholdCuts = 0 ∷ 0 ∷ []
+      shape = record { rows = 4; features = 1 };
+      trees = 1;
+      settings = record { depth = Unlimited; leaf = 1; split = 2; splitter = Best };
+      tried = Root;
+      given = G;
+      words = words;
+      thresholds = [];
+      wordCuts = 0 ∷ 7 ∷ [];
+      thresholdCuts = 0 ∷ 0 ∷ [];
     }
 
 -- rooms with nines in them
@@ -123,9 +134,10 @@ lent n = record { nodes = room n; work = work 9 true }
 abbrev lentAll : ℕ → ForestRooms (List ℕ)
 lentAll n =
     record {
-      nodes = room n; starts = nines 2;
+      nodes = room n;
+      starts = nines 2;
       reports = record { nodes = nines 1; depth = nines 1; mass = floats (nines 1); searches = nines 1; words = nines 1; thresholds = nines 1 };
-      work = work 9 true
+      work = work 9 true;
     }
 
 -- ---- what they leave
@@ -134,21 +146,25 @@ lentAll n =
 abbrev nodes : List ℕ → List Float → List ℕ → List ℕ → List ℕ → ℕ → Columns
 nodes vs ts ss trues falses k =
     record {
-      value = floats (vs ++ nines k); feature = replicate (length vs) 0 ++ nines k; threshold = ts ++ floats (nines k); score = floats (ss ++ nines k);
-      trueChild = trues ++ nines k; falseChild = falses ++ nines k
+      value = floats (vs ++ nines k);
+      feature = replicate (length vs) 0 ++ nines k;
+      threshold = ts ++ floats (nines k);
+      score = floats (ss ++ nines k);
+      trueChild = trues ++ nines k;
+      falseChild = falses ++ nines k;
     }
 
 -- P1's seven nodes
 abbrev seven : ℕ → Columns
 seven k =
     nodes (5 ∷ 0 ∷ 10 ∷ 10 ∷ 10 ∷ 0 ∷ 0 ∷ []) (half 5 ∷ half 3 ∷ half 7 ∷ nought ∷ nought ∷ nought ∷ nought ∷ [])
-      (100 ∷ 0 ∷ 0 ∷ 0 ∷ 0 ∷ 0 ∷ 0 ∷ []) (1 ∷ 5 ∷ 3 ∷ 0 ∷ 0 ∷ 0 ∷ 0 ∷ []) (2 ∷ 6 ∷ 4 ∷ 0 ∷ 0 ∷ 0 ∷ 0 ∷ []) k
+    (100 ∷ 0 ∷ 0 ∷ 0 ∷ 0 ∷ 0 ∷ 0 ∷ []) (1 ∷ 5 ∷ 3 ∷ 0 ∷ 0 ∷ 0 ∷ 0 ∷ []) (2 ∷ 6 ∷ 4 ∷ 0 ∷ 0 ∷ 0 ∷ 0 ∷ []) k
 
 -- P8's five
 abbrev five : ℕ → Columns
 five k =
     nodes (5 ∷ 0 ∷ 10 ∷ 10 ∷ 10 ∷ []) (float 2 ∷ nought ∷ half 7 ∷ nought ∷ nought ∷ [])
-      (100 ∷ 0 ∷ 0 ∷ 0 ∷ 0 ∷ []) (1 ∷ 0 ∷ 3 ∷ 0 ∷ 0 ∷ []) (2 ∷ 0 ∷ 4 ∷ 0 ∷ 0 ∷ []) k
+    (100 ∷ 0 ∷ 0 ∷ 0 ∷ 0 ∷ []) (1 ∷ 0 ∷ 3 ∷ 0 ∷ 0 ∷ []) (2 ∷ 0 ∷ 4 ∷ 0 ∷ 0 ∷ []) k
 
 abbrev three : ℕ → Columns
 three k = nodes (5 ∷ 0 ∷ 10 ∷ []) (half 5 ∷ nought ∷ nought ∷ []) (100 ∷ 0 ∷ 0 ∷ []) (1 ∷ 0 ∷ 0 ∷ []) (2 ∷ 0 ∷ 0 ∷ []) k
@@ -161,7 +177,7 @@ abbrev says : ℕ → ℕ → ℕ → ℕ → Columns → Seen
 says n depth mass searches c =
     fitted (record {
       answer = TreeAnswer.Grown (record { nodes = n; depth = depth; mass = float mass; searches = searches; words = searches; thresholds = 0 });
-      rooms = record { nodes = c; work = work 0 false }
+      rooms = record { nodes = c; work = work 0 false };
     })
 
 -- refused, and all as it was

@@ -101,7 +101,7 @@ grew-room [] D (t ∷ ts) g h = absurd g
 grew-room (F ∷ Fs) D [] g h = absurd g
 grew-room (F ∷ Fs) D (t ∷ ts) g h =
     sum (length (rows (t .nodes) ++ forestRows ts)) (length (rows (t .nodes))) (length (t .nodes)) (length (forestRows ts)) (asks F) (total asks Fs)
-      (length-append (rows (t .nodes)) (forestRows ts)) (length-rows (t .nodes)) (then-of (λ t. length (t .nodes) ≤ asks F) (fit F D) t (g .0) (h .0)) (grew-room Fs D ts (g .1) (h .1))
+    (length-append (rows (t .nodes)) (forestRows ts)) (length-rows (t .nodes)) (then-of (λ t. length (t .nodes) ≤ asks F) (fit F D) t (g .0) (h .0)) (grew-room Fs D ts (g .1) (h .1))
   where
     sum : (t a a′ b x y : ℕ) → t ≡ a + b → a ≡ a′ → a′ ≤ x → b ≤ y → t ≤ x + y
     sum t a a′ b x y h₁ h₂ h₃ h₄ = omega arith
@@ -117,8 +117,10 @@ module _ {W : Type 0} (K : Waits W) where
     pub trees : List Tree
     pub grew : Grew (frames C) (C .given .measured) trees
     pub after : fitForest K C R .rooms ≡ record {
-      nodes = writeRows (forestRows trees) (R .nodes); starts = front (startsFrom 0 trees) (R .starts);
-      reports = writeReports (map (λ (t : Tree). t .report) trees) (R .reports); work = zeroWork K (R .work)
+      nodes = writeRows (forestRows trees) (R .nodes);
+      starts = front (startsFrom 0 trees) (R .starts);
+      reports = writeReports (map (λ (t : Tree). t .report) trees) (R .reports);
+      work = zeroWork K (R .work);
     }
 
   pub forest-answered : (C : ForestCall) (R : ForestRooms W) → fitForest K C R .answer ≡ ForestAnswer.Grown → ForestAnswered C R
@@ -146,8 +148,8 @@ module _ {W : Type 0} (K : Waits W) where
     trees-each Q held h =
         let p = planted-right .passed in
         grew-each Q (frames C) (C .given .measured) (a .trees) (a .grew)
-          (every-map _ (frameAt C) (from 0 (C .trees))
-            (every-all _ (λ t. h t (listed-right (C .shape) (C .trees) (C .given) p (frameAt C t) (forest-framed C p t) held)) (from 0 (C .trees))))
+        (every-map _ (frameAt C) (from 0 (C .trees))
+        (every-all _ (λ t. h t (listed-right (C .shape) (C .trees) (C .given) p (frameAt C t) (forest-framed C p t) held)) (from 0 (C .trees))))
 
     -- the node room asked is enough for all the trees together
     pub forest-room : Binary64 (C .given .measured .values) → length (forestRows (a .trees)) ≤ shortest (R .nodes)
@@ -155,7 +157,7 @@ module _ {W : Type 0} (K : Waits W) where
     forest-room held =
         let p = planted-right .passed in
         le-trans
-          (grew-room (frames C) (C .given .measured) (a .trees) (a .grew)
-            (every-map _ (frameAt C) (from 0 (C .trees))
-              (every-all _ (λ t. fit-nodes (frameAt C t) (C .given .measured) (listed-right (C .shape) (C .trees) (C .given) p (frameAt C t) (forest-framed C p t) held) (p .someFeatures)) (from 0 (C .trees)))))
-          (planted-right .room)
+        (grew-room (frames C) (C .given .measured) (a .trees) (a .grew)
+        (every-map _ (frameAt C) (from 0 (C .trees))
+        (every-all _ (λ t. fit-nodes (frameAt C t) (C .given .measured) (listed-right (C .shape) (C .trees) (C .given) p (frameAt C t) (forest-framed C p t) held) (p .someFeatures)) (from 0 (C .trees)))))
+        (planted-right .room)

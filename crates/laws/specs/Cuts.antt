@@ -113,24 +113,31 @@ module _ (P : Params) (task : Task) (j : ℕ) (known : j < P .features) (counted
         someTrue = subst (λ r. 0 < total (λ x. 1) r) (sym ts) some;
         someFalse = subst (λ r. 0 < total (λ x. 1) r) (sym fs) one-more;
         leafTrue = subst (λ r. P .leaf ≤ tally r) (sym ts) l₁;
-        leafFalse = subst (λ r. P .leaf ≤ tally r) (sym fs) rest-leaf
+        leafFalse = subst (λ r. P .leaf ≤ tally r) (sym fs) rest-leaf;
       }
     where
       c : Cut
       c = record { feature = j; threshold = threshold p (at j e) }
+
       mid : T (le p (threshold p (at j e))) × T (lt (threshold p (at j e)) (at j e))
       mid = between p (at j e) vp ve step new
+
       before : Every (λ x. goesTrue c x ≡ true) pre
       before = every-imp _ _ (λ x h. is-true _ (le-trans64 (at j x) p (threshold p (at j e)) h (mid .0))) pre below
+
       after : Every (λ x. goesTrue c x ≡ false) (e ∷ es)
       after = (past _ (at j e) (at j e) (mid .1) (le-refl (at j e) ve), every-imp _ _ (λ x h. past _ (at j e) (at j x) (mid .1) h) es (rise .0))
+
       ts : trueSide c (getD (task .columns) j []) ≡ pre
       ts = ap (trueSide c) (sym hc) ∙ keep-append _ pre (e ∷ es) ∙ (λ i. keep-all _ pre before i ++ keep-none _ (e ∷ es) after i) ∙ append-nil pre
+
       fs : falseSide c (getD (task .columns) j []) ≡ e ∷ es
       fs = ap (falseSide c) (sym hc) ∙ keep-append _ pre (e ∷ es)
-        ∙ (λ i. keep-none _ pre (every-imp _ _ (λ x h. ap not h) pre before) i ++ keep-all _ (e ∷ es) (every-imp _ _ (λ x h. ap not h) (e ∷ es) after) i)
+          ∙ (λ i. keep-none _ pre (every-imp _ _ (λ x h. ap not h) pre before) i ++ keep-all _ (e ∷ es) (every-imp _ _ (λ x h. ap not h) (e ∷ es) after) i)
+
       one-more : 0 < 1 + total (λ x. 1) es
       one-more = omega arith
+
       rest-leaf : P .leaf ≤ tally (e ∷ es)
       rest-leaf = omega (arith, l₂, counted, ap tally hc, total-append (λ x. x .count) pre (e ∷ es))
 
@@ -150,25 +157,28 @@ module _ (P : Params) (task : Task) (j : ℕ) (known : j < P .features) (counted
             before = takeIn (w .before) (e .target) (e .mass);
             count = w .count + e .count;
             last = cond b (w .last) (at j e);
-            best = runOn b P task j (at j e) w
+            best = runOn b P task j (at j e) w;
           }
+
       more : w .count + e .count ≡ tally (pre ++ (e ∷ []))
       more = omega (arith, hk, total-append (λ x. x .count) pre (e ∷ []), add-zero (e .count))
+
       longer : 0 < total (λ x. 1) (pre ++ (e ∷ []))
       longer = omega (arith, some, total-append (λ x. 1) pre (e ∷ []))
+
       go : (b : Bool) → eq (at j e) (w .last) ≡ b
           → ((w′ : Walk) → w′ .count ≡ tally (pre ++ (e ∷ [])) → Value (w′ .last) → Every (λ x. T (le (at j x) (w′ .last))) (pre ++ (e ∷ []))
-            → Every (λ x. T (le (w′ .last) (at j x))) es → HeldFine P task (w′ .best) → HeldFine P task (walk P task j w′ es .best))
+          → Every (λ x. T (le (w′ .last) (at j x))) es → HeldFine P task (w′ .best) → HeldFine P task (walk P task j w′ es .best))
           → HeldFine P task (walk P task j (next b) es .best)
       go true q ih =
           ih (next true) more vl (every-append _ pre (e ∷ []) below (le-eq (at j e) (w .last) q, tt)) (above .1) g
       go false q ih =
           ih (next false) more (vs .0)
-            (every-append _ pre (e ∷ []) (every-imp _ _ (λ x h. le-trans64 (at j x) (w .last) (at j e) h (above .0)) pre below) (le-refl (at j e) (vs .0), tt))
-            (rise .0)
-            (judge-fine P task (w .best) (w .before) (w .count) _ g
-              (λ l₁ l₂. cut-here pre e es (w .last) hc some vl (vs .0) below (above .0) rise q
-                (subst (λ n. P .leaf ≤ n) hk l₁) (subst (λ n. P .leaf ≤ task .count - n) hk l₂)))
+          (every-append _ pre (e ∷ []) (every-imp _ _ (λ x h. le-trans64 (at j x) (w .last) (at j e) h (above .0)) pre below) (le-refl (at j e) (vs .0), tt))
+          (rise .0)
+          (judge-fine P task (w .best) (w .before) (w .count) _ g
+          (λ l₁ l₂. cut-here pre e es (w .last) hc some vl (vs .0) below (above .0) rise q
+          (subst (λ n. P .leaf ≤ n) hk l₁) (subst (λ n. P .leaf ≤ task .count - n) hk l₂)))
 
   -- along the whole column
   pub best-fine : (h : Held) → Every (λ x. Value (at j x)) (getD (task .columns) j []) → Rising j (getD (task .columns) j [])
@@ -182,10 +192,12 @@ module _ (P : Params) (task : Task) (j : ℕ) (known : j < P .features) (counted
             before = takeIn empty (e .target) (e .mass);
             count = 0 + e .count;
             last = cond b (at j e) (at j e);
-            best = runOn b P task j (at j e) (record { before = empty; count = 0; last = at j e; best = h })
+            best = runOn b P task j (at j e) (record { before = empty; count = 0; last = at j e; best = h });
           }
+
       one : (e : Element) → 0 + e .count ≡ e .count + 0
       one e = omega arith
+
       go : (col : Column) → col ≡ getD (task .columns) j [] → Every (λ x. Value (at j x)) col → Rising j col → HeldFine P task (bestIn P task j h col)
       go [] hc vs rise = g
       go (e ∷ es) hc vs rise =
@@ -220,11 +232,11 @@ module _ (P : Params) (task : Task) (j : ℕ) (known : j < P .features) (counted
   drawn-fine h e es t hc v low high g =
       judge-fine P task h (totals empty (trueSide c (e ∷ es))) (tally (trueSide c (e ∷ es))) c g
       (λ l₁ l₂. subst (λ col. 0 < total (λ x. 1) (trueSide c col) → 0 < total (λ x. 1) (falseSide c col) → P .leaf ≤ tally (trueSide c col) → P .leaf ≤ tally (falseSide c col) → Fine P task c) (sym hc)
-        (λ x y z u. record { known = known; someTrue = x; someFalse = y; leafTrue = z; leafFalse = u })
-        (put-some (le (at j e) t) e (keep (λ x. le (at j x) t) es) (is-true _ low))
-        (keep-last (λ x. not (le (at j x) t)) e es (ap not (past t (at j (final e es)) (at j (final e es)) high (le-refl _ v))))
-        l₁
-        (omega (arith, l₂, counted, ap tally hc, total-sides (λ x. x .count) (λ x. le (at j x) t) (e ∷ es))))
+      (λ x y z u. record { known = known; someTrue = x; someFalse = y; leafTrue = z; leafFalse = u })
+      (put-some (le (at j e) t) e (keep (λ x. le (at j x) t) es) (is-true _ low))
+      (keep-last (λ x. not (le (at j x) t)) e es (ap not (past t (at j (final e es)) (at j (final e es)) high (le-refl _ v))))
+      l₁
+      (omega (arith, l₂, counted, ap tally hc, total-sides (λ x. x .count) (λ x. le (at j x) t) (e ∷ es))))
     where
       c : Cut
       c = record { feature = j; threshold = t }
@@ -248,6 +260,7 @@ module _ (P : Params) {S : Type 0} (src : Source S) (fair : Fair P src) where
       drawing e es hc v true =
           then-then (src .threshold (r .left) (at j e) (at j (final e es))) _ _ _ (fair .inside (r .left) (at j e) (at j (final e es)))
           (λ m h. drawn-fine P task j (s .known) (s .counted) (r .best) e es (m .0) hc v (h .0) (h .1) g)
+
       start : (col : Column) → col ≡ getD (task .columns) j [] → Every (λ x. Value (at j x)) col → Then (randomIn src P task j r col) (λ r′. HeldFine P task (r′ .best))
       start [] hc v = g
       start (e ∷ es) hc v = drawing e es hc (value-last P task j (s .known) (s .counted) e es v) (lt (at j e) (at j (final e es)))
@@ -285,9 +298,11 @@ tape-fair P = record { order = λ d. words d (eachOnce (P .features) (take (P .f
         → Then (takeWords b (P .features) d) (λ o. Every (λ j. j < P .features) (take (min (P .tried) (P .features)) (o .0)))
     words d false h = tt
     words d true h = every-take _ (min (P .tried) (P .features)) _ (once-below (P .features) _ (h tt))
+
     taken : (d : Tapes) (lo hi t : Float) (ts : List Float) (b : Bool) → (T b → T (le lo t && lt t hi)) → Then (takeThreshold b t ts d) (λ m. T (le lo (m .0)) × T (lt (m .0) hi))
     taken d lo hi t ts false h = tt
     taken d lo hi t ts true h = (and-l (le lo t) (lt t hi) (h tt), and-r (le lo t) (lt t hi) (h tt))
+
     thresholds : (d : Tapes) (lo hi : Float) (l : List Float) → Then (nextThreshold l lo hi d) (λ m. T (le lo (m .0)) × T (lt (m .0) hi))
     thresholds d lo hi [] = tt
     thresholds d lo hi (t ∷ ts) = taken d lo hi t ts (le lo t && lt t hi) (λ x. x)
@@ -299,17 +314,17 @@ unfolding child
 side-good P b w h =
     record {
       sound = λ j hj.
-        record {
-          known = hj;
-          counted = h .good .level (w .cut .feature) j (h .fine .known) hj (λ e. e .count) p ∙ ap tally (sym (getD-keep p (w .task .columns) j));
-          some = subst (Every (λ x. 1 ≤ x .count)) (sym (getD-keep p (w .task .columns) j)) (every-keep _ p _ (h .good .sound j hj .some));
-          values = subst (Every (λ x. Value (at j x))) (sym (getD-keep p (w .task .columns) j)) (every-keep _ p _ (h .good .sound j hj .values));
-          rising = subst (Rising j) (sym (getD-keep p (w .task .columns) j)) (ordered-keep _ p _ (h .good .sound j hj .rising))
-        };
+          record {
+            known = hj;
+            counted = h .good .level (w .cut .feature) j (h .fine .known) hj (λ e. e .count) p ∙ ap tally (sym (getD-keep p (w .task .columns) j));
+            some = subst (Every (λ x. 1 ≤ x .count)) (sym (getD-keep p (w .task .columns) j)) (every-keep _ p _ (h .good .sound j hj .some));
+            values = subst (Every (λ x. Value (at j x))) (sym (getD-keep p (w .task .columns) j)) (every-keep _ p _ (h .good .sound j hj .values));
+            rising = subst (Rising j) (sym (getD-keep p (w .task .columns) j)) (ordered-keep _ p _ (h .good .sound j hj .rising));
+          };
       level = λ i j hi hj f q.
-        ap (λ c. total f (keep q c)) (getD-keep p (w .task .columns) i) ∙ ap (total f) (keep-keep q p (getD (w .task .columns) i []))
-        ∙ h .good .level i j hi hj f (λ e. p e && q e)
-        ∙ sym (ap (λ c. total f (keep q c)) (getD-keep p (w .task .columns) j) ∙ ap (total f) (keep-keep q p (getD (w .task .columns) j [])))
+          ap (λ c. total f (keep q c)) (getD-keep p (w .task .columns) i) ∙ ap (total f) (keep-keep q p (getD (w .task .columns) i []))
+          ∙ h .good .level i j hi hj f (λ e. p e && q e)
+          ∙ sym (ap (λ c. total f (keep q c)) (getD-keep p (w .task .columns) j) ∙ ap (total f) (keep-keep q p (getD (w .task .columns) j [])));
     }
   where
     p : Element → Bool

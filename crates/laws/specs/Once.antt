@@ -31,6 +31,7 @@ sum-past h x i (suc n) l = λ r. cond (eqb-no i x (λ q. off i x l q) r) 0 (h i)
   where
     off : (i x : ℕ) → x < i → i ≡ x → ⊥
     off i x l q = omega arith
+
     more : (i x : ℕ) → x < i → x < suc i
     more i x l = omega arith
 
@@ -45,14 +46,19 @@ sum-out h x i (suc n) a b = go (ℕ-discrete i x) (λ c d. sum-out h x (suc i) n
   where
     next : (i x : ℕ) → i ≤ x → i ≢ x → suc i ≤ x
     next i x a d = omega (arith, d)
+
     ends : (i x n : ℕ) → x < i + suc n → x < suc i + n
     ends i x n b = omega arith
+
     past : (i x : ℕ) → i ≡ x → x < suc i
     past i x q = omega arith
+
     turn : (p q r : ℕ) → p + (q + r) ≡ q + (p + r)
     turn p q r = omega arith
+
     rest : ℕ
     rest = total (λ k. cond (eqb k x) 0 (h k)) (from (suc i) n)
+
     go : Dec (i ≡ x) → (suc i ≤ x → x < suc i + n → total h (from (suc i) n) ≡ h x + rest) → h i + total h (from (suc i) n) ≡ h x + (cond (eqb i x) 0 (h i) + rest)
     go (yes q) ih =
         (λ r. h (q r) + sym (zero-add (total h (from (suc i) n))) r)
@@ -82,13 +88,17 @@ drain n g seen (x ∷ l) t =
   where
     new : T (ltb x n && not (member x seen))
     new = and-l (ltb x n && not (member x seen)) (fresh n (x ∷ seen) l) t
+
     below : x < n
     below = ltb→lt x n (and-l (ltb x n) (not (member x seen)) new)
+
     unseen : member x seen ≡ false
     unseen = is-false (member x seen) (and-r (ltb x n) (not (member x seen)) new)
+
     join : (a b : Bool) (m : ℕ) → cond a 0 (cond b 0 m) ≡ cond (a || b) 0 m
     join true b m = refl
     join false b m = refl
+
     regroup : (a b c : ℕ) → a + (b + c) ≡ a + b + c
     regroup a b c = omega arith
 
@@ -99,8 +109,10 @@ none-left g s (i ∷ r) h = go (member i s) (split-zero _ _ h .0) (none-left g s
   where
     split-zero : (a b : ℕ) → a + b ≡ 0 → (a ≡ 0) × (b ≡ 0)
     split-zero a b h = (omega arith, omega arith)
+
     one-not : _≡_ {A = ℕ} 1 0 → ⊥
     one-not h = omega arith
+
     go : (b : Bool) → _≡_ {A = ℕ} (cond b 0 1) 0 → total (miss s g) r ≡ 0 → cond b 0 (g i) + total (miss s g) r ≡ 0
     go true h k = zero-add (total (miss s g) r) ∙ k
     go false h k = absurd (one-not h)
@@ -120,9 +132,10 @@ module _ (n : ℕ) (l : List ℕ) (t : T (eachOnce n l)) where
     where
       go : (seen ks : List ℕ) → T (fresh n seen ks) → Every (λ k. k < n) ks
       go seen [] u = tt
-      go seen (k ∷ ks) u =
-          (ltb→lt k n (and-l (ltb k n) (not (member k seen)) (and-l (ltb k n && not (member k seen)) (fresh n (k ∷ seen) ks) u)),
-           go (k ∷ seen) ks (and-r (ltb k n && not (member k seen)) (fresh n (k ∷ seen) ks) u))
+      go seen (k ∷ ks) u = (
+        ltb→lt k n (and-l (ltb k n) (not (member k seen)) (and-l (ltb k n && not (member k seen)) (fresh n (k ∷ seen) ks) u)),
+        go (k ∷ seen) ks (and-r (ltb k n && not (member k seen)) (fresh n (k ∷ seen) ks) u),
+      )
 
   pub once-total : (g : ℕ → ℕ) → total g l ≡ total g (from 0 n)
   unfolding member
@@ -130,11 +143,12 @@ module _ (n : ℕ) (l : List ℕ) (t : T (eachOnce n l)) where
     where
       zero-rest : (a b c : ℕ) → a ≡ b + c → a ≡ n → b ≡ n → c ≡ 0
       zero-rest a b c x y z = omega arith
+
       rest : total (miss (taken [] l) g) (from 0 n) ≡ 0
       rest =
           none-left g (taken [] l) (from 0 n)
-            (zero-rest (total (λ k. 1) (from 0 n)) (total (λ k. 1) l) _ (drain n (λ k. 1) [] l once)
-              (length-total (from 0 n) ∙ length-from 0 n) (length-total l ∙ once-length))
+          (zero-rest (total (λ k. 1) (from 0 n)) (total (λ k. 1) l) _ (drain n (λ k. 1) [] l once)
+          (length-total (from 0 n) ∙ length-from 0 n) (length-total l ∙ once-length))
 
   pub once-keep : (g : ℕ → ℕ) (p : ℕ → Bool) → total g (keep p l) ≡ total g (keep p (from 0 n))
   once-keep g p = total-keep g p l ∙ once-total (λ k. cond (p k) (g k) 0) ∙ sym (total-keep g p (from 0 n))

@@ -35,6 +35,15 @@ past n false ts h = absurd (no-zero h)
     no-zero : suc n ≡ 0 → ⊥
     no-zero h = omega arith
 
+pub goes-on : (n : ℕ) (b : Bool) (ts : List Test) → T b → firstFailed ts ≡ 0 → firstFailed (test n b ∷ ts) ≡ 0
+unfolding firstFailed
+goes-on n true ts t h = h
+goes-on n false ts t h = absurd t
+
+pub none-fails : firstFailed [] ≡ 0
+unfolding firstFailed
+none-fails = refl
+
 pub and2 : (a b : Bool) → T (a && b) → T a × T b
 and2 a b t = (and-l a b t, and-r a b t)
 
@@ -68,7 +77,7 @@ from-tests : (S : Shape) (trees : ℕ) (G : Given) → T (rowsIn (S .rows)) → 
 unfolding within lengths numbersGood countsGood
 from-tests S trees G r f l n c g =
     let (l₁, l₂, l₃, l₄, l₅) = and5 (eqb (length (G .measured .values)) (S .rows * S .features)) (eqb (length (G .measured .targets)) (S .rows))
-          (unweighted (G .weights) || eqb (length (G .weights)) (S .rows)) (eqb (length (G .counts)) (trees * S .rows)) (eqb (length (G .measured .listings)) (S .features * S .rows)) l in
+    (unweighted (G .weights) || eqb (length (G .weights)) (S .rows)) (eqb (length (G .counts)) (trees * S .rows)) (eqb (length (G .measured .listings)) (S .features * S .rows)) l in
     let (n₁, n₂, n₃) = and3 (every finite (G .measured .values)) (every finite (G .measured .targets)) (every goodWeight (G .weights)) n in
     record {
       someRows = leb→le 1 (S .rows) (and-l (leb 1 (S .rows)) (leb (S .rows) 65535) r);
@@ -82,7 +91,7 @@ from-tests S trees G r f l n c g =
       targetsFinite = each finite (G .measured .targets) n₂;
       weightsGood = each goodWeight (G .weights) n₃;
       countsLow = each (λ k. leb k 65535) (G .counts) c;
-      listings = g
+      listings = g;
     }
 
 module _ {W : Type 0} (K : Waits W) where
@@ -91,9 +100,10 @@ module _ {W : Type 0} (K : Waits W) where
   tree-passed C R h₁ =
       let (t₁, h₂) = past 0 _ _ h₁ in let (t₂, h₃) = past 1 _ _ h₂ in let (t₃, h₄) = past 2 _ _ h₃ in
       let (t₄, h₅) = past 3 _ _ h₄ in let (t₅, h₆) = past 4 _ _ h₅ in let (t₆, h₇) = past 5 _ _ h₆ in
-      let (r, f) = and2 (rowsIn (C .shape .rows)) (featuresIn (C .shape .features)) t₁ in
-      (from-tests (C .shape) 1 (C .given) r f t₂ t₃ t₄ t₅,
-       leb→le (asks (frameOf C)) (shortest (R .nodes)) (and-l (leb (asks (frameOf C)) (shortest (R .nodes))) (workEnough K (C .shape) (R .work)) t₆))
+      let (r, f) = and2 (rowsIn (C .shape .rows)) (featuresIn (C .shape .features)) t₁ in (
+        from-tests (C .shape) 1 (C .given) r f t₂ t₃ t₄ t₅,
+        leb→le (asks (frameOf C)) (shortest (R .nodes)) (and-l (leb (asks (frameOf C)) (shortest (R .nodes))) (workEnough K (C .shape) (R .work)) t₆),
+      )
 
   -- what a forest's checks say besides
   pub record Planted (C : ForestCall) (R : ForestRooms W) : Type 0 where
@@ -112,12 +122,12 @@ module _ {W : Type 0} (K : Waits W) where
       let (a, k, b, e) = and4 (leb (total asks (frames C)) (shortest (R .nodes))) (workEnough K (C .shape) (R .work)) (leb (suc (C .trees)) (length (R .starts))) (reportsExact (C .trees) (R .reports)) t₆ in
       record {
         passed = from-tests (C .shape) (C .trees) (C .given) r f
-          (and-l (lengths (C .shape) (C .trees) (C .given)) (goodCuts (C .trees) (length (C .words)) (C .wordCuts) && goodCuts (C .trees) (length (C .thresholds)) (C .thresholdCuts)) t₂)
-          t₃ (and-l (countsGood (C .given)) (countsOne (C .given)) t₄) t₅;
+            (and-l (lengths (C .shape) (C .trees) (C .given)) (goodCuts (C .trees) (length (C .words)) (C .wordCuts) && goodCuts (C .trees) (length (C .thresholds)) (C .thresholdCuts)) t₂)
+            t₃ (and-l (countsGood (C .given)) (countsOne (C .given)) t₄) t₅;
         ranges = t₁;
         someTrees = leb→le 1 (C .trees) (and-l (leb 1 (C .trees)) (leb (C .trees) 1024) n);
         room = leb→le (total asks (frames C)) (shortest (R .nodes)) a;
-        startsRoom = leb→le (suc (C .trees)) (length (R .starts)) b
+        startsRoom = leb→le (suc (C .trees)) (length (R .starts)) b;
       }
 
 -- ---- a tree's frame: its rows, features and weights are the call's, its counts some of the call's
@@ -136,8 +146,10 @@ pub forest-framed : (C : ForestCall) → Passed (C .shape) (C .trees) (C .given)
 unfolding frameAt paramsOf
 forest-framed C p t =
     record {
-      rowsSame = refl; featuresSame = refl; weightsSame = refl;
-      low = every-take _ (C .shape .rows) _ (every-drop _ (t * C .shape .rows) (C .given .counts) (p .countsLow))
+      rowsSame = refl;
+      featuresSame = refl;
+      weightsSame = refl;
+      low = every-take _ (C .shape .rows) _ (every-drop _ (t * C .shape .rows) (C .given .counts) (p .countsLow));
     }
 
 -- ---- its listings are in order
@@ -157,7 +169,7 @@ module _ (S : Shape) (trees : ℕ) (G : Given) (p : Passed S trees G) (F : Frame
   inside : (i j : ℕ) → i < S .rows → j < S .features → i * S .features + j < length (G .measured .values)
   inside i j h k =
       subst (λ n. i * S .features + j < n) (sym (p .valuesLong))
-        (step (i * S .features) (S .rows * S .features) j (S .features) k (subst (λ n. n ≤ S .rows * S .features) (suc-mul i (S .features)) (mul-le-mul-right (S .features) h)))
+      (step (i * S .features) (S .rows * S .features) j (S .features) k (subst (λ n. n ≤ S .rows * S .features) (suc-mul i (S .features)) (mul-le-mul-right (S .features) h)))
     where
       step : (a b j k : ℕ) → j < k → a + k ≤ b → a + j < b
       step a b j k x y = omega arith
@@ -170,11 +182,12 @@ module _ (S : Shape) (trees : ℕ) (G : Given) (p : Passed S trees G) (F : Frame
   unfolding neverFalls
   rising j h l b t =
       ordered-along (Before F (G .measured) j) (λ a c. not (lt (v c) (v a))) (λ i. i < S .rows)
-        (λ a c u w n. subst (λ z. T (le z (x c))) (sym (cell-same a j h)) (subst (λ z. T (le (v a) z)) (sym (cell-same c j h)) (not-falls (v a) (v c) (cell-finite a j u h) (cell-finite c j w h) n)))
-        (λ a c d. le-trans64 (x a) (x c) (x d)) l b t
+      (λ a c u w n. subst (λ z. T (le z (x c))) (sym (cell-same a j h)) (subst (λ z. T (le (v a) z)) (sym (cell-same c j h)) (not-falls (v a) (v c) (cell-finite a j u h) (cell-finite c j w h) n)))
+      (λ a c d. le-trans64 (x a) (x c) (x d)) l b t
     where
       x : ℕ → Float
       x i = at j (element F (G .measured) i)
+
       v : ℕ → Float
       v i = cell (S .features) (G .measured .values) j i
 
@@ -183,8 +196,8 @@ module _ (S : Shape) (trees : ℕ) (G : Given) (p : Passed S trees G) (F : Frame
   unfolding listingsGood goodListing
   good j h =
       and2 (eachOnce (S .rows) (listingAt (S .rows) (G .measured .listings) j)) (neverFalls (cell (S .features) (G .measured .values) j) (listingAt (S .rows) (G .measured .listings) j))
-        (subst (λ k. T (goodListing S (G .measured .values) (G .measured .listings) k)) (zero-add j)
-          (every-from _ 0 (S .features) (each (goodListing S (G .measured .values) (G .measured .listings)) (from 0 (S .features)) (p .listings)) j h))
+      (subst (λ k. T (goodListing S (G .measured .values) (G .measured .listings) k)) (zero-add j)
+      (every-from _ 0 (S .features) (each (goodListing S (G .measured .values) (G .measured .listings)) (from 0 (S .features)) (p .listings)) j h))
 
   pub listed-right : Binary64 (G .measured .values) → Listed F (G .measured)
   unfolding listing fits
@@ -192,11 +205,11 @@ module _ (S : Shape) (trees : ℕ) (G : Given) (p : Passed S trees G) (F : Frame
       record {
         once = λ j h. subst (λ n. T (eachOnce n (listingAt n (G .measured .listings) j))) (sym (f .rowsSame)) (good j (wide j h) .0);
         rising = λ j h.
-          subst (λ n. Ordered (Before F (G .measured) j) (listingAt n (G .measured .listings) j)) (sym (f .rowsSame))
+            subst (λ n. Ordered (Before F (G .measured) j) (listingAt n (G .measured .listings) j)) (sym (f .rowsSame))
             (rising j (wide j h) (listingAt (S .rows) (G .measured .listings) j) (once-below (S .rows) _ (good j (wide j h) .0)) (good j (wide j h) .1));
         values = λ i j h k.
-          subst Value (sym (cell-same i j (wide j k)))
-            (every-or _ (G .measured .values) nan (i * S .features + j) held tt, cell-finite i j (subst (λ n. i < n) (f .rowsSame) h) (wide j k))
+            subst Value (sym (cell-same i j (wide j k)))
+            (every-or _ (G .measured .values) nan (i * S .features + j) held tt, cell-finite i j (subst (λ n. i < n) (f .rowsSame) h) (wide j k));
       }
     where
       wide : (j : ℕ) → j < F .params .features → j < S .features

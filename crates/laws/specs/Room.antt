@@ -39,10 +39,11 @@ module _ (P : Params) (w : Waiting) (h : Ripe P w) where
       ∙ total-sides f (goesTrue (w .cut)) (getD (w .task .columns) j [])
 
   pub halves : 0 < P .features → (1 ≤ rowsOf (child same w)) × (1 ≤ rowsOf (child not w)) × (rowsOf (child same w) + rowsOf (child not w) ≡ rowsOf (w .task))
-  halves some =
-      (subst (λ n. 1 ≤ n) (sym (side-total same (λ e. 1) 0 some)) (h .fine .someTrue),
-       subst (λ n. 1 ≤ n) (sym (side-total not (λ e. 1) 0 some)) (h .fine .someFalse),
-       both-sides (λ e. 1) 0 some)
+  halves some = (
+    subst (λ n. 1 ≤ n) (sym (side-total same (λ e. 1) 0 some)) (h .fine .someTrue),
+    subst (λ n. 1 ≤ n) (sym (side-total not (λ e. 1) 0 some)) (h .fine .someFalse),
+    both-sides (λ e. 1) 0 some,
+  )
 
 -- ---- the node room that is asked is enough
 
@@ -52,7 +53,6 @@ load ws = total (λ (w : Waiting). rowsOf (w .task) - 1) ws
 
 module _ (P : Params) {S : Type 0} (choose : S → Task → Out (Found × S))
     (fine : (s : S) (task : Task) → Good P task → Then (choose s task) (λ r. Suits P task (r .0))) where
-
   joins-ripe : (n level : ℕ) (task : Task) (f : Found) → Good P task → Suits P task f → Every (Ripe P) (joins n level task f)
   unfolding joins
   joins-ripe n level task uncut g h = tt
@@ -79,12 +79,13 @@ module _ (P : Params) {S : Type 0} (choose : S → Task → Out (Found × S))
   expand-bounded some top w ws s b h =
       then-then (ask P choose (asked P (suc (w .level)) (child same w)) (length (s .nodes)) (suc (w .level)) (child same w) (s .left)) _ _ _ (ask-load _ _ _ _ _ (side-good P same w (h .0 .0)))
       (λ t ht. then-then (ask P choose (asked P (suc (w .level)) (child not w)) (suc (length (s .nodes))) (suc (w .level)) (child not w) (t .1)) _ _ _ (ask-load _ _ _ _ _ (side-good P not w (h .0 .0)))
-      (λ f hf.
-        (every-append _ (f .0 ++ t .0) ws (every-append _ (f .0) (t .0) (hf .0) (ht .0)) (h .0 .1),
-         room (length (s .nodes)) (length (withChildren w (s .nodes))) (load (f .0 ++ t .0 ++ ws)) (load (f .0)) (load (t .0)) (load ws)
-           (rowsOf (child same w)) (rowsOf (child not w)) (rowsOf (w .task)) (children-length w (s .nodes))
-           (total-append _ (f .0 ++ t .0) ws ∙ ap (λ n. n + load ws) (total-append _ (f .0) (t .0)))
-           (hf .1) (ht .1) (halves P w (h .0 .0) some) (h .1))))
+      (λ f hf. (
+        every-append _ (f .0 ++ t .0) ws (every-append _ (f .0) (t .0) (hf .0) (ht .0)) (h .0 .1),
+        room (length (s .nodes)) (length (withChildren w (s .nodes))) (load (f .0 ++ t .0 ++ ws)) (load (f .0)) (load (t .0)) (load ws)
+            (rowsOf (child same w)) (rowsOf (child not w)) (rowsOf (w .task)) (children-length w (s .nodes))
+            (total-append _ (f .0 ++ t .0) ws ∙ ap (λ n. n + load ws) (total-append _ (f .0) (t .0)))
+            (hf .1) (ht .1) (halves P w (h .0 .0) some) (h .1),
+      )))
     where
       room : (n n′ l lf lt lw a b c : ℕ) → n′ ≡ n + 2 → l ≡ lf + lt + lw → lf ≤ b - 1 → lt ≤ a - 1 → (1 ≤ a) × (1 ≤ b) × (a + b ≡ c)
           → n + 2 * ((c - 1) + lw) ≤ top → n′ + 2 * l ≤ top
@@ -94,12 +95,13 @@ module _ (P : Params) {S : Type 0} (choose : S → Task → Out (Found × S))
   unfolding total
   room-enough some root s g =
       then-after (fromRoot P choose root s) _ _
-        (root-keep P choose (Bounded (1 + 2 * (rowsOf root - 1))) (expand-bounded some (1 + 2 * (rowsOf root - 1))) root s
-          (then-after (ask P choose (ltb 0 (root .count) && asked P 1 root) 0 1 root s) _ _ (ask-load _ 0 1 root s g)
-            (λ r q. (q .0, start (load (r .0)) (rowsOf root) (q .1)))))
-        (λ s′ h. last (length (s′ .nodes)) (1 + 2 * (rowsOf root - 1)) (h .1))
+      (root-keep P choose (Bounded (1 + 2 * (rowsOf root - 1))) (expand-bounded some (1 + 2 * (rowsOf root - 1))) root s
+      (then-after (ask P choose (ltb 0 (root .count) && asked P 1 root) 0 1 root s) _ _ (ask-load _ 0 1 root s g)
+      (λ r q. (q .0, start (load (r .0)) (rowsOf root) (q .1)))))
+      (λ s′ h. last (length (s′ .nodes)) (1 + 2 * (rowsOf root - 1)) (h .1))
     where
       start : (l n : ℕ) → l ≤ n - 1 → 1 + 2 * l ≤ 1 + 2 * (n - 1)
       start l n h = omega arith
+
       last : (n m : ℕ) → n + 2 * 0 ≤ m → n ≤ m
       last n m h = omega arith

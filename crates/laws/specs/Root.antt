@@ -76,16 +76,16 @@ module _ (F : Frame) (D : Data) (ok : Listed F D) where
   root-good =
       record {
         sound = λ j h.
-          record {
-            known = h;
-            counted = sym (ap tally (column-at j h) ∙ column-whole j h (λ e. e .count));
-            some = column-every (λ x. 1 ≤ x .count) j h (every-imp _ _ (λ i e. kept-some F i e) (keep (kept F) (listing F D j)) (kept-pass (kept F) (listing F D j)));
-            values = column-every (λ x. Value (at j x)) j h
-              (every-keep _ (kept F) (listing F D j) (every-imp _ _ (λ i b. ok .values i j b h) (listing F D j) (once-below (F .rows) (listing F D j) (ok .once j h))));
-            rising = column-ordered (λ x y. T (le (at j x) (at j y))) j h (ok .rising j h)
-          };
+            record {
+              known = h;
+              counted = sym (ap tally (column-at j h) ∙ column-whole j h (λ e. e .count));
+              some = column-every (λ x. 1 ≤ x .count) j h (every-imp _ _ (λ i e. kept-some F i e) (keep (kept F) (listing F D j)) (kept-pass (kept F) (listing F D j)));
+              values = column-every (λ x. Value (at j x)) j h
+                  (every-keep _ (kept F) (listing F D j) (every-imp _ _ (λ i b. ok .values i j b h) (listing F D j) (once-below (F .rows) (listing F D j) (ok .once j h))));
+              rising = column-ordered (λ x y. T (le (at j x) (at j y))) j h (ok .rising j h);
+            };
         level = λ i j hi hj f p.
-          ap (λ c. total f (keep p c)) (column-at i hi) ∙ column-total i hi f p ∙ sym (ap (λ c. total f (keep p c)) (column-at j hj) ∙ column-total j hj f p)
+            ap (λ c. total f (keep p c)) (column-at i hi) ∙ column-total i hi f p ∙ sym (ap (λ c. total f (keep p c)) (column-at j hj) ∙ column-total j hj f p);
       }
 
   pub root-rows : 0 < F .params .features → rowsOf (root F D) ≡ length (keptRows F)
@@ -96,8 +96,8 @@ module _ (F : Frame) (D : Data) (ok : Listed F D) where
   unfolding fit rooted treeOf asks
   fit-nodes some =
       then-then (fromRoot (F .params) (search (tape (F .params .features)) (F .params)) (root F D) _) _ _ _
-        (room-enough (F .params) (search (tape (F .params .features)) (F .params)) (search-fine (F .params) (tape (F .params .features)) (tape-fair (F .params))) some (root F D) _ root-good)
-        (λ s h. enough (length (s .nodes)) (rowsOf (root F D)) _ h (root-rows some))
+      (room-enough (F .params) (search (tape (F .params .features)) (F .params)) (search-fine (F .params) (tape (F .params .features)) (tape-fair (F .params))) some (root F D) _ root-good)
+      (λ s h. enough (length (s .nodes)) (rowsOf (root F D)) _ h (root-rows some))
     where
       enough : (n k k′ : ℕ) → n ≤ 1 + 2 * (k - 1) → k ≡ k′ → n ≤ max 1 (2 * k′ - 1)
       enough n k k′ h q = omega arith
@@ -107,5 +107,5 @@ module _ (F : Frame) (D : Data) (ok : Listed F D) where
   unfolding fit rooted treeOf
   fit-stands =
       then-then (fromRoot (F .params) (search (tape (F .params .features)) (F .params)) (root F D) _) _ _ _
-        (growth-stands (F .params) (search (tape (F .params .features)) (F .params)) (search-fine (F .params) (tape (F .params .features)) (tape-fair (F .params))) (root F D) _ root-good)
-        (λ s h. h)
+      (growth-stands (F .params) (search (tape (F .params .features)) (F .params)) (search-fine (F .params) (tape (F .params .features)) (tape-fair (F .params))) (root F D) _ root-good)
+      (λ s h. h)

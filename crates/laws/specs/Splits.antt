@@ -33,7 +33,7 @@ module _ (P : Params) (w : Waiting) (h : Ripe P w) where
   unfolding child
   side-some b some =
       le-trans some
-        (total-le (λ e. 1) (λ e. e .count) _ (every-keep _ (λ e. b (goesTrue (w .cut) e)) _ (h .good .sound (w .cut .feature) (h .fine .known) .some)))
+      (total-le (λ e. 1) (λ e. e .count) _ (every-keep _ (λ e. b (goesTrue (w .cut) e)) _ (h .good .sound (w .cut .feature) (h .fine .known) .some)))
 
   pub record Counts : Type 0 where
     pub someTrue : 1 ≤ child same w .count
@@ -50,7 +50,7 @@ module _ (P : Params) (w : Waiting) (h : Ripe P w) where
         someFalse = side-some not (h .fine .someFalse);
         leafTrue = h .fine .leafTrue;
         leafFalse = h .fine .leafFalse;
-        whole = total-sides (λ e. e .count) (goesTrue (w .cut)) (getD (w .task .columns) (w .cut .feature) []) ∙ sym (h .good .sound (w .cut .feature) (h .fine .known) .counted)
+        whole = total-sides (λ e. e .count) (goesTrue (w .cut)) (getD (w .task .columns) (w .cut .feature) []) ∙ sym (h .good .sound (w .cut .feature) (h .fine .known) .counted);
       }
 
 -- ---- nodes
@@ -155,7 +155,7 @@ module _ (P : Params) (w : Waiting) (ns : List Grown) (h : Stands P ns) (p : Pla
         someFalse = subst (λ n. 1 ≤ n) (sym false-count) (c .someFalse);
         leafTrue = subst (λ n. P .leaf ≤ n) (sym true-count) (c .leafTrue);
         leafFalse = subst (λ n. P .leaf ≤ n) (sym false-count) (c .leafFalse);
-        whole = (λ i. true-count i + false-count i) ∙ c .whole ∙ sym (ap (λ (n : Grown). n .count) at-split)
+        whole = (λ i. true-count i + false-count i) ∙ c .whole ∙ sym (ap (λ (n : Grown). n .count) at-split);
       }
     where
       two-more : (n n′ : ℕ) → n′ ≡ n + 2 → suc n < n′
@@ -173,7 +173,7 @@ module _ (P : Params) (w : Waiting) (ns : List Grown) (h : Stands P ns) (p : Pla
         someFalse = subst (λ n. 1 ≤ n) (sym (count-stays _ (d .inside))) (d .someFalse);
         leafTrue = subst (λ n. P .leaf ≤ n) (sym (count-stays _ t)) (d .leafTrue);
         leafFalse = subst (λ n. P .leaf ≤ n) (sym (count-stays _ (d .inside))) (d .leafFalse);
-        whole = (λ i. count-stays _ t i + count-stays _ (d .inside) i) ∙ d .whole ∙ sym (count-stays k l)
+        whole = (λ i. count-stays _ t i + count-stays _ (d .inside) i) ∙ d .whole ∙ sym (count-stays k l);
       }
     where
       longer : (k n n′ : ℕ) → k < n → n′ ≡ n + 2 → k < n′
@@ -186,6 +186,7 @@ module _ (P : Params) (w : Waiting) (ns : List Grown) (h : Stands P ns) (p : Pla
     where
       back : (n k : ℕ) → ¬ (k < n) → k ≡ n + (k - n)
       back n k l = omega arith
+
       new : (i : ℕ) → getD (leafOf (child same w) ∷ leafOf (child not w) ∷ []) i noNode .kind ≡ Leaf
       new zero = refl
       new (suc zero) = refl
@@ -196,15 +197,16 @@ module _ (P : Params) (w : Waiting) (ns : List Grown) (h : Stands P ns) (p : Pla
   stands-on =
       record {
         some = more (length ns) (length after) (h .some) (children-length w ns);
-        splits = λ k s q. go k s q (ℕ-discrete k (w .number)) (decLt k (length ns))
+        splits = λ k s q. go k s q (ℕ-discrete k (w .number)) (decLt k (length ns));
       }
     where
       more : (n n′ : ℕ) → 0 < n → n′ ≡ n + 2 → 0 < n′
       more n n′ l q = omega arith
+
       go : (k : ℕ) (s : Fork) → kindAt after k ≡ Split s → Dec (k ≡ w .number) → Dec (k < length ns) → Divides P after k s
       go k s q (yes e) l =
           subst (λ z. Divides P after z s) (sym e)
-            (subst (Divides P after (w .number)) (ap (forkOf s) (sym (ap (λ (n : Grown). n .kind) at-split) ∙ ap (kindAt after) (sym e) ∙ q)) divides-new)
+          (subst (Divides P after (w .number)) (ap (forkOf s) (sym (ap (λ (n : Grown). n .kind) at-split) ∙ ap (kindAt after) (sym e) ∙ q)) divides-new)
       go k s q (no d) (yes l) = divides-old k l s (h .splits k s (sym (ap (λ (n : Grown). n .kind) (at-other k l d)) ∙ q))
       go k s q (no d) (no l) = absurd (leaf≢split s (sym (leaf-past k l) ∙ q))
 
@@ -217,7 +219,6 @@ module _ (P : Params) (w : Waiting) (ns : List Grown) (h : Stands P ns) (p : Pla
 
 module _ (P : Params) {S : Type 0} (choose : S → Task → Out (Found × S))
     (fine : (s : S) (task : Task) → Good P task → Then (choose s task) (λ r. Suits P task (r .0))) where
-
   joins-placed : (ns : List Grown) (n level : ℕ) (task : Task) (f : Found) → Good P task → Suits P task f → n < length ns → countAt ns n ≡ task .count
       → Every (Placed P ns) (joins n level task f)
   unfolding joins
@@ -230,46 +231,52 @@ module _ (P : Params) {S : Type 0} (choose : S → Task → Out (Found × S))
   joined : (w : Waiting) (s : State S) → Placed P (s .nodes) w → Stands P (s .nodes) → Then (expand P choose w s) (λ r. Every (Placed P (withChildren w (s .nodes))) (r .0))
   joined w s p k =
       expand-joins P choose _ w s
-        (λ t a. one same (length (s .nodes)) t (first n n′ (children-length w (s .nodes))) (true-count P w (s .nodes) k p))
-        (λ t a. one not (suc (length (s .nodes))) t (second n n′ (children-length w (s .nodes))) (false-count P w (s .nodes) k p))
+      (λ t a. one same (length (s .nodes)) t (first n n′ (children-length w (s .nodes))) (true-count P w (s .nodes) k p))
+      (λ t a. one not (suc (length (s .nodes))) t (second n n′ (children-length w (s .nodes))) (false-count P w (s .nodes) k p))
     where
       n : ℕ
       n = length (s .nodes)
+
       n′ : ℕ
       n′ = length (withChildren w (s .nodes))
+
       first : (n n′ : ℕ) → n′ ≡ n + 2 → n < n′
       first n n′ q = omega arith
+
       second : (n n′ : ℕ) → n′ ≡ n + 2 → suc n < n′
       second n n′ q = omega arith
+
       one : (b : Bool → Bool) (i : ℕ) (t : S) → i < n′ → countAt (withChildren w (s .nodes)) i ≡ child b w .count
           → Then (choose t (child b w)) (λ r. Every (Placed P (withChildren w (s .nodes))) (joins i (suc (w .level)) (child b w) (r .0)))
       one b i t l c =
           then-after (choose t (child b w)) _ _ (fine t (child b w) (side-good P b w (p .ripe)))
-            (λ r f. joins-placed (withChildren w (s .nodes)) i (suc (w .level)) (child b w) (r .0) (side-good P b w (p .ripe)) f l c)
+          (λ r f. joins-placed (withChildren w (s .nodes)) i (suc (w .level)) (child b w) (r .0) (side-good P b w (p .ripe)) f l c)
 
   expand-kept : (w : Waiting) (ws : List Waiting) (s : State S) → w .level < P .limit → Kept (w ∷ ws) s → Then (expand P choose w s) (λ r. Kept (r .0 ++ ws) (r .1))
   expand-kept w ws s b h =
       then-after (expand P choose w s) _ _
-        (then-both (expand P choose w s) _ _ (joined w s (h .0 .0) (h .1)) (expand-nodes P choose w s))
-        (λ r q.
-          (subst (λ ns. Every (Placed P ns) (r .0 ++ ws)) (sym (q .1))
+      (then-both (expand P choose w s) _ _ (joined w s (h .0 .0) (h .1)) (expand-nodes P choose w s))
+      (λ r q. (
+        subst (λ ns. Every (Placed P ns) (r .0 ++ ws)) (sym (q .1))
             (every-append _ (r .0) ws (q .0) (every-imp _ _ (λ v k. placed-on P w (s .nodes) (h .1) (h .0 .0) v k) ws (h .0 .1))),
-           subst (Stands P) (sym (q .1)) (stands-on P w (s .nodes) (h .1) (h .0 .0))))
+        subst (Stands P) (sym (q .1)) (stands-on P w (s .nodes) (h .1) (h .0 .0)),
+      ))
 
   -- every split of a growth that ends divides its node
   pub growth-stands : (root : Task) (s : S) → Good P root → Then (fromRoot P choose root s) (λ s′. Stands P (s′ .nodes))
   unfolding leafOf
   growth-stands root s g =
       then-after (fromRoot P choose root s) _ _
-        (root-keep P choose Kept expand-kept root s
-          (then-both (ask P choose (ltb 0 (root .count) && asked P 1 root) 0 1 root s) _ _
-            (ask-joins P choose _ _ 0 1 root s
-              (λ t. then-after (choose s root) _ _ (fine s root g) (λ r f. joins-placed (leafOf root ∷ []) 0 1 root (r .0) g f (lit< tt) refl)))
-            (always (ask P choose (ltb 0 (root .count) && asked P 1 root) 0 1 root s) _ (λ r. start))))
-        (λ s′ h. h .1)
+      (root-keep P choose Kept expand-kept root s
+      (then-both (ask P choose (ltb 0 (root .count) && asked P 1 root) 0 1 root s) _ _
+      (ask-joins P choose _ _ 0 1 root s
+      (λ t. then-after (choose s root) _ _ (fine s root g) (λ r f. joins-placed (leafOf root ∷ []) 0 1 root (r .0) g f (lit< tt) refl)))
+      (always (ask P choose (ltb 0 (root .count) && asked P 1 root) 0 1 root s) _ (λ r. start))))
+      (λ s′ h. h .1)
     where
       only : (k : ℕ) → kindAt (leafOf root ∷ []) k ≡ Leaf
       only zero = refl
       only (suc k) = refl
+
       start : Stands P (leafOf root ∷ [])
       start = record { some = lit< tt; splits = λ k f q. absurd (leaf≢split f (sym (only k) ∙ q)) }

@@ -53,9 +53,9 @@ module _ (P : Params) {S : Type 0} (choose : S → Task → Out (Found × S)) wh
   unfolding expand
   expand-joins Q w s h g =
       then-then (ask P choose (asked P (suc (w .level)) (child same w)) (length (s .nodes)) (suc (w .level)) (child same w) (s .left)) _ _ _
-        (ask-joins Q _ _ _ _ _ (h (s .left)))
+      (ask-joins Q _ _ _ _ _ (h (s .left)))
       (λ t ht. then-then (ask P choose (asked P (suc (w .level)) (child not w)) (suc (length (s .nodes))) (suc (w .level)) (child not w) (t .1)) _ _ _
-        (ask-joins Q _ _ _ _ _ (g (t .1)))
+      (ask-joins Q _ _ _ _ _ (g (t .1)))
       (λ f hf. every-append _ (f .0) (t .0) hf ht))
 
   pub expand-nodes : (w : Waiting) (s : State S) → Then (expand P choose w s) (λ r. r .1 .nodes ≡ withChildren w (s .nodes))
@@ -100,13 +100,15 @@ module _ (P : Params) {S : Type 0} (choose : S → Task → Out (Found × S)) wh
       ap (λ n. bind (grow P choose n w s) rest) (left h)
       ∙ bind-assoc (expand P choose w s) (λ r. runs (λ w′ s′. grow P choose k w′ s′) (r .0) (r .1)) rest
       ∙ bind-same (expand P choose w s) _ _ _ (expand-level w s)
-        (λ r e. ap (λ m. bind m rest) (runs-same _ growing (r .0) (r .1) (every-imp _ _ (λ v l t. ap (λ n. grow P choose (P .limit - n) v t) (sym (l .0))) (r .0) e))
-                ∙ sym (runs-append growing (r .0) ws (r .1)))
+      (λ r e. ap (λ m. bind m rest) (runs-same _ growing (r .0) (r .1) (every-imp _ _ (λ v l t. ap (λ n. grow P choose (P .limit - n) v t) (sym (l .0))) (r .0) e))
+      ∙ sym (runs-append growing (r .0) ws (r .1)))
     where
       k : ℕ
       k = P .limit - suc (w .level)
+
       rest : State S → Out (State S)
       rest s′ = runs growing ws s′
+
       left : w .level < P .limit → P .limit - w .level ≡ suc k
       left h = omega arith
 
@@ -123,8 +125,8 @@ module _ (P : Params) {S : Type 0} (choose : S → Task → Out (Found × S)) wh
     runs-keep k l q g [] ws s e h = h
     runs-keep k l q g (x ∷ xs) ws s e h =
         then-then (grow P choose k x s) _ (λ s′. I (xs ++ ws) s′) (λ s′. I ws s′)
-          (g x (xs ++ ws) s (ap (λ n. P .limit - n) (e .0 .0) ∙ q) (e .0 .1) h)
-          (λ s′ h′. runs-keep k l q g xs ws s′ (e .1) h′)
+        (g x (xs ++ ws) s (ap (λ n. P .limit - n) (e .0 .0) ∙ q) (e .0 .1) h)
+        (λ s′ h′. runs-keep k l q g xs ws s′ (e .1) h′)
 
     no-room : (l : ℕ) → P .limit - l ≡ 0 → l < P .limit → ⊥
     no-room l e h = omega arith
@@ -144,7 +146,7 @@ module _ (P : Params) {S : Type 0} (choose : S → Task → Out (Found × S)) wh
     all-keep [] s e h = h
     all-keep (w ∷ ws) s e h =
         then-then (grow P choose (P .limit - w .level) w s) _ (λ s′. I ws s′) (λ s′. I [] s′)
-          (grow-keep (P .limit - w .level) w ws s refl (e .0) h) (λ s′ h′. all-keep ws s′ (e .1) h′)
+        (grow-keep (P .limit - w .level) w ws s refl (e .0) h) (λ s′ h′. all-keep ws s′ (e .1) h′)
 
     -- from the root on: what holds once the root has been asked holds in the end
     pub root-keep : (root : Task) (s : S)
@@ -153,5 +155,5 @@ module _ (P : Params) {S : Type 0} (choose : S → Task → Out (Found × S)) wh
     unfolding fromRoot
     root-keep root s h =
         then-then (ask P choose (ltb 0 (root .count) && asked P 1 root) 0 1 root s) _ _ _
-          (then-both (ask P choose (ltb 0 (root .count) && asked P 1 root) 0 1 root s) _ _ h (root-level root s))
-          (λ r q. all-keep (r .0) (record { nodes = leafOf root ∷ []; depth = 0; left = r .1 }) (every-imp _ _ (λ v l. l .1) (r .0) (q .1)) (q .0))
+        (then-both (ask P choose (ltb 0 (root .count) && asked P 1 root) 0 1 root s) _ _ h (root-level root s))
+        (λ r q. all-keep (r .0) (record { nodes = leafOf root ∷ []; depth = 0; left = r .1 }) (every-imp _ _ (λ v l. l .1) (r .0) (q .1)) (q .0))

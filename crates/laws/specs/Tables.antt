@@ -42,13 +42,15 @@ unfolding goodFrom
 good-from features n k [] h = tt
 good-from features n k (r ∷ rs) h =
     and-i (goodRow features n k r) (goodFrom features n (suc k) rs)
-      (subst (λ m. T (goodRow features n m r)) (add-zero k) (h 0 (first (length rs))))
-      (good-from features n (suc k) rs (λ i b. subst (λ m. T (goodRow features n m (getD rs i noRow))) (shift k i) (h (suc i) (next i (length rs) b))))
+    (subst (λ m. T (goodRow features n m r)) (add-zero k) (h 0 (first (length rs))))
+    (good-from features n (suc k) rs (λ i b. subst (λ m. T (goodRow features n m (getD rs i noRow))) (shift k i) (h (suc i) (next i (length rs) b))))
   where
     first : (n : ℕ) → 0 < suc n
     first n = omega arith
+
     shift : (k i : ℕ) → k + suc i ≡ suc k + i
     shift k i = omega arith
+
     next : (i n : ℕ) → i < n → suc i < suc n
     next i n h = omega arith
 
@@ -64,13 +66,13 @@ unfolding goodTree goodRow
 node-good features rs t k h l =
     let r : Row = getD rs k noRow in
     let (a, b, c, d) = and4 (ltb k (r .trueChild)) (eqb (r .falseChild) (suc (r .trueChild))) (ltb (r .falseChild) (length rs)) (ltb (r .feature) features)
-          (or-other (leafRow r) _ l (subst (λ m. T (goodRow features (length rs) m r)) (zero-add k)
-            (good-at features (length rs) 0 rs (and-r (ltb 0 (length rs)) (goodFrom features (length rs) 0 rs) t) k h))) in
+    (or-other (leafRow r) _ l (subst (λ m. T (goodRow features (length rs) m r)) (zero-add k)
+    (good-at features (length rs) 0 rs (and-r (ltb 0 (length rs)) (goodFrom features (length rs) 0 rs) t) k h))) in
     record {
       above = ltb→lt k (r .trueChild) a;
       next = eqb→eq (r .falseChild) (suc (r .trueChild)) b;
       inside = ltb→lt (r .falseChild) (length rs) c;
-      known = ltb→lt (r .feature) features d
+      known = ltb→lt (r .feature) features d;
     }
 
 -- ---- the walk
@@ -102,6 +104,7 @@ module _ (features : ℕ) (rs : List Row) (good : T (goodTree features rs)) (xs 
     where
       g : Onward features (length rs) k (rowOn k)
       g = node-good features rs good k h q
+
       go : (b : Bool) → (k < cond b (rowOn k .trueChild) (rowOn k .falseChild)) × (cond b (rowOn k .trueChild) (rowOn k .falseChild) < length rs)
       go true = (g .above, omega (arith, g .next, g .inside))
       go false = (omega (arith, g .next, g .above), g .inside)
@@ -120,6 +123,7 @@ module _ (features : ℕ) (rs : List Row) (good : T (goodTree features rs)) (xs 
     where
       next : (n k m : ℕ) → k < m → n ≤ k + suc f → n ≤ m + f
       next n k m x z = omega arith
+
       go : (z : Bool) → leafRow (rowOn k) ≡ z → ((m : ℕ) → m < length rs → length rs ≤ m + f → Ends (walked f rs xs m)) → Ends (walked f rs xs (onto (rowOn k) xs k))
       go true q ih = subst Ends (sym (ap (walked f rs xs) (onto-leaf k q) ∙ leaf-stays f k q)) (record { inside = h; leaf = q })
       go false q ih =
@@ -154,24 +158,24 @@ unfolding goodRow leafRow rowOf
 good-row P ns k v Leaf h = tt
 good-row P ns k v (Split s) h =
     or-right (eqb (s .children) 0 && eqb (suc (s .children)) 0)
-      (ltb k (s .children) && (eqb (suc (s .children)) (suc (s .children)) && (ltb (suc (s .children)) (length ns) && ltb (s .cut .feature) (P .features))))
-      (and-i (ltb k (s .children)) _ (lt→ltb k (s .children) (h s refl .above))
-        (and-i (eqb (suc (s .children)) (suc (s .children))) _ (eqb-refl (suc (s .children)))
-          (and-i (ltb (suc (s .children)) (length ns)) (ltb (s .cut .feature) (P .features)) (lt→ltb (suc (s .children)) (length ns) (h s refl .inside)) (lt→ltb (s .cut .feature) (P .features) (h s refl .known)))))
+    (ltb k (s .children) && (eqb (suc (s .children)) (suc (s .children)) && (ltb (suc (s .children)) (length ns) && ltb (s .cut .feature) (P .features))))
+    (and-i (ltb k (s .children)) _ (lt→ltb k (s .children) (h s refl .above))
+    (and-i (eqb (suc (s .children)) (suc (s .children))) _ (eqb-refl (suc (s .children)))
+    (and-i (ltb (suc (s .children)) (length ns)) (ltb (s .cut .feature) (P .features)) (lt→ltb (suc (s .children)) (length ns) (h s refl .inside)) (lt→ltb (s .cut .feature) (P .features) (h s refl .known)))))
 
 pub stands-good : (P : Params) (ns : List Grown) → Stands P ns → T (goodTree (P .features) (rows ns))
 unfolding goodTree
 stands-good P ns h =
     and-i (ltb 0 (length (rows ns))) (goodFrom (P .features) (length (rows ns)) 0 (rows ns))
-      (lt→ltb 0 (length (rows ns)) (subst (λ n. 0 < n) (sym (length-rows ns)) (h .some)))
-      (good-from (P .features) (length (rows ns)) 0 (rows ns) (λ i b. each i (subst (λ n. i < n) (length-rows ns) b)))
+    (lt→ltb 0 (length (rows ns)) (subst (λ n. 0 < n) (sym (length-rows ns)) (h .some)))
+    (good-from (P .features) (length (rows ns)) 0 (rows ns) (λ i b. each i (subst (λ n. i < n) (length-rows ns) b)))
   where
     each : (i : ℕ) → i < length ns → T (goodRow (P .features) (length (rows ns)) (0 + i) (getD (rows ns) i noRow))
     each i b =
         subst (λ m. T (goodRow (P .features) (length (rows ns)) m (getD (rows ns) i noRow))) (sym (zero-add i))
-          (subst (λ n. T (goodRow (P .features) n i (getD (rows ns) i noRow))) (sym (length-rows ns))
-            (subst (λ r. T (goodRow (P .features) (length ns) i r)) (sym (row-of ns i b))
-              (good-row P ns i (valueOf (getD ns i noNode .totals)) (kindAt ns i) (λ s q. h .splits i s q))))
+        (subst (λ n. T (goodRow (P .features) n i (getD (rows ns) i noRow))) (sym (length-rows ns))
+        (subst (λ r. T (goodRow (P .features) (length ns) i r)) (sym (row-of ns i b))
+        (good-row P ns i (valueOf (getD ns i noNode .totals)) (kindAt ns i) (λ s q. h .splits i s q))))
 
 pub fit-good : (F : Frame) (D : Data) → Listed F D → Then (fit F D) (λ t. T (goodTree (F .params .features) (rows (t .nodes))))
 fit-good F D l = then-after (fit F D) _ _ (fit-stands F D l) (λ t h. stands-good (F .params) (t .nodes) h)

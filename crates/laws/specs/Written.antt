@@ -24,14 +24,14 @@ map-at f (r ∷ rs) x (suc k) d h = map-at f rs x k d (le-of-suc-le-suc h)
 pub row-written : (rs : List Row) (c : Columns) (k : ℕ) → k < length rs → rowAt (writeRows rs c) k ≡ getD rs k noRow
 row-written rs c k h =
     λ i.
-      record {
-        value = one (λ r. r .value) (c .value) nan i;
-        feature = one (λ r. r .feature) (c .feature) 0 i;
-        threshold = one (λ r. r .threshold) (c .threshold) nan i;
-        score = one (λ r. r .score) (c .score) nan i;
-        trueChild = one (λ r. r .trueChild) (c .trueChild) 0 i;
-        falseChild = one (λ r. r .falseChild) (c .falseChild) 0 i
-      }
+    record {
+      value = one (λ r. r .value) (c .value) nan i;
+      feature = one (λ r. r .feature) (c .feature) 0 i;
+      threshold = one (λ r. r .threshold) (c .threshold) nan i;
+      score = one (λ r. r .score) (c .score) nan i;
+      trueChild = one (λ r. r .trueChild) (c .trueChild) 0 i;
+      falseChild = one (λ r. r .falseChild) (c .falseChild) 0 i;
+    }
   where
     one : {A : Type 0} (f : Row → A) (old : List A) (d : A) → getD (front (map f rs) old) k d ≡ f (getD rs k noRow)
     one f old d = map-at f rs (drop (length (map f rs)) old) k d h
@@ -42,14 +42,17 @@ unfolding rowsAt from
 rows-written all c [] pre post e = refl
 rows-written all c (x ∷ mid) pre post e =
     λ i. (row-written all c (length pre) inside ∙ ap (λ l. getD l (length pre) noRow) e ∙ getD-append-seam pre x (mid ++ post) noRow) i
-      ∷ rest (rows-written all c mid (pre ++ (x ∷ [])) post (e ∙ sym (append-assoc pre (x ∷ []) (mid ++ post)))) i
+    ∷ rest (rows-written all c mid (pre ++ (x ∷ [])) post (e ∙ sym (append-assoc pre (x ∷ []) (mid ++ post)))) i
   where
     short : (n p m : ℕ) → n ≡ p + suc m → p < n
     short n p m h = omega arith
+
     inside : length pre < length all
     inside = short (length all) (length pre) (length (mid ++ post)) (ap length e ∙ length-append pre (x ∷ (mid ++ post)))
+
     one : (n : ℕ) → n + 1 ≡ suc n
     one n = omega arith
+
     rest : map (rowAt (writeRows all c)) (from (length (pre ++ (x ∷ []))) (length mid)) ≡ mid → map (rowAt (writeRows all c)) (from (suc (length pre)) (length mid)) ≡ mid
     rest h = ap (λ n. map (rowAt (writeRows all c)) (from n (length mid))) (sym (length-append pre (x ∷ []) ∙ one (length pre))) ∙ h
 
@@ -72,18 +75,24 @@ trees-from all c starts x (t ∷ ts) k pre e s =
   where
     long : length (pre ++ rows (t .nodes)) ≡ length pre + length (t .nodes)
     long = length-append pre (rows (t .nodes)) ∙ ap (λ n. length pre + n) (length-rows (t .nodes))
+
     plus-one : (k : ℕ) → k + 1 ≡ suc k
     plus-one k = omega arith
+
     next : drop (suc k) starts ≡ startsFrom (length (pre ++ rows (t .nodes))) ts ++ x
     next = ap (λ n. drop n starts) (sym (plus-one k)) ∙ sym (drop-drop 1 k starts) ∙ ap (drop 1) s ∙ ap (λ n. startsFrom n ts ++ x) (sym long)
+
     here : getD starts k 0 ≡ length pre
     here = ap (λ n. getD starts n 0) (sym (add-zero k)) ∙ sym (getD-drop k starts 0 0) ∙ ap (λ l. getD l 0 0) s
+
     there : getD starts (suc k) 0 ≡ length pre + length (t .nodes)
     there =
         ap (λ n. getD starts n 0) (sym (add-zero (suc k))) ∙ sym (getD-drop (suc k) starts 0 0) ∙ ap (λ l. getD l 0 0) next
         ∙ first-start (length (pre ++ rows (t .nodes))) ts x 0 ∙ long
+
     between : (a b : ℕ) → a + b - a ≡ b
     between a b = omega arith
+
     head : rowsAt (writeRows all c) (getD starts k 0) (getD starts (suc k) 0 - getD starts k 0) ≡ rows (t .nodes)
     head =
         (λ i. rowsAt (writeRows all c) (here i) (there i - here i))
@@ -113,7 +122,7 @@ starts-length a (t ∷ ts) = ap suc (starts-length (a + length (t .nodes)) ts)
 pub shortest-stays : (rs : List Row) (c : Columns) → length rs ≤ shortest c → shortest (writeRows rs c) ≡ shortest c
 shortest-stays rs c h =
     λ i. min (one (λ r. r .value) (c .value) (omega arith) i) (min (one (λ r. r .feature) (c .feature) (omega arith) i) (min (one (λ r. r .threshold) (c .threshold) (omega arith) i)
-      (min (one (λ r. r .score) (c .score) (omega arith) i) (min (one (λ r. r .trueChild) (c .trueChild) (omega arith) i) (one (λ r. r .falseChild) (c .falseChild) (omega arith) i)))))
+    (min (one (λ r. r .score) (c .score) (omega arith) i) (min (one (λ r. r .trueChild) (c .trueChild) (omega arith) i) (one (λ r. r .falseChild) (c .falseChild) (omega arith) i)))))
   where
     one : {A : Type 0} (f : Row → A) (old : List A) → length rs ≤ length old → length (front (map f rs) old) ≡ length old
     one f old k = front-length (map f rs) old (subst (λ n. n ≤ length old) (sym (length-map rs f)) k)

@@ -1,0 +1,152 @@
+-- The walk of a good table ends: at a leaf, inside the tree, within as many steps as it has nodes. And what a fit that answers leaves is a good table,
+-- of the trees that it grew, so that every reader can go on from it. Assumes nothing.
+use Prim.Native.Nat.{ℕ, zero, suc, _+_, _<_, _≤_, min}
+use native.Mathlib.Nat.{zero-add, add-zero}
+use native.Mathlib.Omega.{arith}
+use mathlib.Core.Path.{_≡_, refl, sym, ap, _∙_, subst}
+use mathlib.Core.Bool.{Bool, true, _&&_}
+use mathlib.Core.List.{List, [], _∷_, _++_, map, append-nil}
+use lib.ListN.{length, getD, take, length-append}
+use lib.Seq.{take-at}
+use lib.Dec.{T, leb, ltb, eqb, lt→ltb, le→leb, ltb→lt, eqb-refl}
+use lib.Ieee.{Float}
+use lib.Ieee.Fits.{and-l, and-i}
+use Rattle.rules.specs.declared.Report.{Report}
+use Rattle.rules.specs.declared.TreeAnswer.{TreeAnswer}
+use Rattle.rules.specs.declared.ForestAnswer.{ForestAnswer}
+use Rattle.rules.specs.Words.{from, every, along, alongFrom, front}
+use Rattle.rules.specs.Lent.{Columns, Row, Waits, TreeRooms, ForestRooms, shortest, rowsAt, writeRows}
+use Rattle.rules.specs.Draws.{ok}
+use Rattle.rules.specs.Fit.{Tree, treeOf, rooted, fit, rows, paramsOf, TreeCall, frameOf, fitTree}
+use Rattle.rules.specs.Table.{leafRow, goodFrom, goodTree, startsGood, treeAt, treesAt, goodForest}
+use Rattle.rules.specs.Reading.{noRow, walked}
+use Rattle.rules.specs.Forest.{ForestCall, frameAt, startsFrom, forestRows, fitForest}
+use Rattle.laws.specs.Lists.{Every, every-imp}
+use Rattle.laws.specs.Outs.{Then, then-of, then-any}
+use Rattle.laws.specs.Passed.{Binary64}
+use Rattle.laws.specs.Tables.{length-rows, Ends, fit-good}
+use Rattle.laws.specs.Tables as Tables
+use Rattle.laws.specs.Written.{rows-written, tables, first-start, trees-written, front-length, starts-length, shortest-stays}
+use Rattle.laws.specs.Answered.{TreeAnswered, tree-answered, tree-listed, ForestAnswered, forest-answered, trees-length, trees-each, forest-room}
+
+-- ---- the statements
+
+abbrev pub WalkEnds : Type 0
+WalkEnds =
+    (features : ℕ) (rs : List Row) → T (goodTree features rs) → (xs : List Float)
+    → (walked (length rs) rs xs 0 < length rs) × (leafRow (getD rs (walked (length rs) rs xs 0) noRow) ≡ true)
+
+-- a tree's table is its first entries, as many as it reports nodes
+abbrev pub TreeGood : Type 1
+TreeGood =
+    (W : Type 0) (K : Waits W) (C : TreeCall) (R : TreeRooms W) (r : Report) → Binary64 (C .given .measured .values) → fitTree K C R .answer ≡ TreeAnswer.Grown r
+    → T (goodTree (C .shape .features) (rowsAt (fitTree K C R .rooms .nodes) 0 (r .nodes)))
+
+abbrev pub ForestGood : Type 1
+ForestGood =
+    (W : Type 0) (K : Waits W) (C : ForestCall) (R : ForestRooms W) → Binary64 (C .given .measured .values) → fitForest K C R .answer ≡ ForestAnswer.Grown
+    → T (goodForest (C .shape .features) (C .trees) (fitForest K C R .rooms .nodes) (fitForest K C R .rooms .starts))
+
+-- ---- walks
+
+pub walk-ends : WalkEnds
+walk-ends features rs good xs = let e = Tables.walk-ends features rs good xs in (e .inside, e .leaf)
+
+-- ---- one tree
+
+-- the node count reported is the number of nodes
+pub reported-nodes : (C : TreeCall) (t : Tree) → fit (frameOf C) (C .given .measured) ≡ ok t → t .report .nodes ≡ length (t .nodes)
+unfolding fit rooted treeOf
+reported-nodes C t e = then-of (λ (u : Tree). u .report .nodes ≡ length (u .nodes)) (fit (frameOf C) (C .given .measured)) t e (then-any _ _ _ (λ s. refl))
+
+pub tree-good : TreeGood
+unfolding frameOf paramsOf
+tree-good W K C R r held h =
+    subst (λ rs. T (goodTree (C .shape .features) rs)) (sym table)
+    (then-of (λ t. T (goodTree (C .shape .features) (rows (t .nodes)))) (fit (frameOf C) (C .given .measured)) (a .tree) (a .grew)
+    (fit-good (frameOf C) (C .given .measured) (tree-listed K C R held (a .passed) .0)))
+  where
+    a : TreeAnswered K C R r
+    a = tree-answered K C R r h
+
+    table : rowsAt (fitTree K C R .rooms .nodes) 0 (r .nodes) ≡ rows (a .tree .nodes)
+    table =
+        (λ i. rowsAt (a .after i .nodes) 0 (sym (a .reported) i .nodes))
+        ∙ ap (λ m. rowsAt (writeRows (rows (a .tree .nodes)) (R .nodes)) 0 m) (reported-nodes C (a .tree) (a .grew) ∙ sym (length-rows (a .tree .nodes)))
+        ∙ rows-written (rows (a .tree .nodes)) (R .nodes) (rows (a .tree .nodes)) [] [] (sym (append-nil (rows (a .tree .nodes))))
+
+-- ---- a forest
+
+abbrev Some : List Tree → Type 0
+Some ts = Every (λ (t : Tree). 0 < length (t .nodes)) ts
+
+rises-on : (a b : ℕ) (ts : List Tree) → a < b → Some ts → T (alongFrom ltb a (startsFrom b ts))
+unfolding alongFrom startsFrom
+rises-on a b [] h e = and-i (ltb a b) true (lt→ltb a b h) tt
+rises-on a b (t ∷ ts) h e = and-i (ltb a b) _ (lt→ltb a b h) (rises-on b (b + length (t .nodes)) ts (more b (length (t .nodes)) (e .0)) (e .1))
+  where
+    more : (b n : ℕ) → 0 < n → b < b + n
+    more b n h = omega arith
+
+starts-rise : (a : ℕ) (ts : List Tree) → Some ts → T (along ltb (startsFrom a ts))
+unfolding along alongFrom startsFrom
+starts-rise a [] e = tt
+starts-rise a (t ∷ ts) e = rises-on a (a + length (t .nodes)) ts (more a (length (t .nodes)) (e .0)) (e .1)
+  where
+    more : (b n : ℕ) → 0 < n → b < b + n
+    more b n h = omega arith
+
+last-start : (a : ℕ) (ts : List Tree) (x : List ℕ) (d : ℕ) → getD (startsFrom a ts ++ x) (length ts) d ≡ a + length (forestRows ts)
+unfolding startsFrom forestRows
+last-start a [] x d = sym (add-zero a)
+last-start a (t ∷ ts) x d =
+    last-start (a + length (t .nodes)) ts x d
+    ∙ sum a (length (t .nodes)) (length (rows (t .nodes))) (length (forestRows ts)) (length (rows (t .nodes) ++ forestRows ts)) (length-rows (t .nodes)) (length-append (rows (t .nodes)) (forestRows ts))
+  where
+    sum : (a n m k t : ℕ) → m ≡ n → t ≡ m + k → a + n + k ≡ a + t
+    sum a n m k t h₁ h₂ = omega arith
+
+every-table : (features : ℕ) (ts : List Tree) → Every (λ (t : Tree). T (goodTree features (rows (t .nodes)))) ts → T (every (goodTree features) (tables ts))
+unfolding every
+every-table features [] e = tt
+every-table features (t ∷ ts) e = and-i (goodTree features (rows (t .nodes))) (every (goodTree features) (tables ts)) (e .0) (every-table features ts (e .1))
+
+-- a good tree has a node
+good-some : (features : ℕ) (t : Tree) → T (goodTree features (rows (t .nodes))) → 0 < length (t .nodes)
+unfolding goodTree
+good-some features t g =
+    subst (λ n. 0 < n) (length-rows (t .nodes)) (ltb→lt 0 (length (rows (t .nodes))) (and-l (ltb 0 (length (rows (t .nodes)))) (goodFrom features (length (rows (t .nodes))) 0 (rows (t .nodes))) g))
+
+eq-test : (a b : ℕ) → a ≡ b → T (eqb a b)
+eq-test a b q = subst (λ x. T (eqb a x)) q (eqb-refl a)
+
+written-good : (features trees : ℕ) (c : Columns) (starts : List ℕ) (ts : List Tree) → length ts ≡ trees → Every (λ (t : Tree). T (goodTree features (rows (t .nodes)))) ts
+    → length (forestRows ts) ≤ shortest c → T (goodForest features trees (writeRows (forestRows ts) c) (front (startsFrom 0 ts) starts))
+unfolding goodForest startsGood
+written-good features trees c starts ts n e room =
+    and-i (startsGood trees s (shortest c′)) (every (goodTree features) (treesAt c′ s trees))
+    (and-i (eqb (getD s 0 1) 0) (along ltb (take (suc trees) s) && leb (getD s trees (suc (shortest c′))) (shortest c′))
+    (eq-test (getD s 0 1) 0 (first-start 0 ts _ 1))
+    (and-i (along ltb (take (suc trees) s)) (leb (getD s trees (suc (shortest c′))) (shortest c′))
+    (subst (λ l. T (along ltb l)) (sym (take-at (startsFrom 0 ts) _ (suc trees) (starts-length 0 ts ∙ ap suc n))) (starts-rise 0 ts (every-imp _ _ (good-some features) ts e)))
+    (le→leb (getD s trees (suc (shortest c′))) (shortest c′)
+    (subst (λ m. m ≤ shortest c′) (sym (ap (λ k. getD s k (suc (shortest c′))) (sym n) ∙ last-start 0 ts _ (suc (shortest c′)) ∙ zero-add (length (forestRows ts))))
+    (subst (λ m. length (forestRows ts) ≤ m) (sym (shortest-stays (forestRows ts) c room)) room)))))
+    (subst (λ l. T (every (goodTree features) l)) (sym (trees-written c starts ts trees n)) (every-table features ts e))
+  where
+    s : List ℕ
+    s = front (startsFrom 0 ts) starts
+
+    c′ : Columns
+    c′ = writeRows (forestRows ts) c
+
+pub forest-good : ForestGood
+unfolding frameAt paramsOf
+forest-good W K C R held h =
+    subst (λ (r : ForestRooms W). T (goodForest (C .shape .features) (C .trees) (r .nodes) (r .starts))) (sym (a .after))
+    (written-good (C .shape .features) (C .trees) (R .nodes) (R .starts) (a .trees) (trees-length K C R a)
+    (trees-each K C R a (λ (t : Tree). T (goodTree (C .shape .features) (rows (t .nodes)))) held (λ t l. fit-good (frameAt C t) (C .given .measured) l))
+    (forest-room K C R a held))
+  where
+    a : ForestAnswered K C R
+    a = forest-answered K C R h
