@@ -1,7 +1,6 @@
 -- Every split of a fit that answers leaves both sides filled, and with the least leaf: in the tree that was grown, each of a split's two children has a count of at
 -- least 1 and at least the least leaf, and together they have the split's. A node that waits is always split, so the counts that the Rust's undoing of a split tests are
 -- these: it can never run. Assumes nothing.
-use Prim.Native.Nat.{ℕ}
 use mathlib.Core.Path.{_≡_}
 use Rattle.rules.specs.declared.Report.{Report}
 use Rattle.rules.specs.declared.TreeAnswer.{TreeAnswer}
@@ -12,7 +11,7 @@ use Rattle.rules.specs.Fit.{Tree, fit, paramsOf, TreeCall, frameOf, grownTree, 
 use Rattle.rules.specs.Forest.{ForestCall, triedOf, frameAt, fitForest}
 use Rattle.laws.specs.Lists.{Every}
 use Rattle.laws.specs.Outs.{then-of}
-use Rattle.laws.specs.Splits.{Divides, Stands}
+use Rattle.laws.specs.Splits.{Stands}
 use Rattle.laws.specs.Root.{fit-stands}
 use Rattle.laws.specs.Passed.{Binary64}
 use Rattle.laws.specs.Answered.{tree-answered, tree-listed, forest-answered, trees-each}

@@ -8,7 +8,7 @@ use mathlib.Core.Path.{_≡_, refl, sym, ap, _∙_, subst}
 use mathlib.Core.Bool.{Bool, true, false, not, _&&_, _||_, cond, true≢false}
 use mathlib.Core.List.{List, [], _∷_, map}
 use lib.ListN.{getD}
-use lib.Dec.{T, leb, ltb, leb→le, lt→ltb, nltb→le, lit≤}
+use lib.Dec.{T, ltb, leb→le, lt→ltb, nltb→le, lit≤}
 use lib.Ieee.{Float, nan, inf, fin, binary64, fits, lt, add, mul, ofBits, up, down}
 use lib.Ieee.Scale.{finite}
 use lib.Ieee.Fits.{add-fits, mul-fits, ofInt-fits, up-pos, and-l, and-r}
@@ -20,9 +20,9 @@ use Rattle.rules.specs.declared.TreeAnswer.{TreeAnswer}
 use Rattle.rules.specs.Words.{nought, float, from, keep}
 use Rattle.rules.specs.Totals.{empty, takeIn}
 use Rattle.rules.specs.Lent.{Data, Given, Frame, Waits, TreeRooms, unweighted}
-use Rattle.rules.specs.Checks.{firstFailed, goodWeight, countOf, kept, keptRows}
+use Rattle.rules.specs.Checks.{firstFailed, goodWeight, countOf, kept}
 use Rattle.rules.specs.Draws.{Out, bad, ok}
-use Rattle.rules.specs.Search.{Element, Column, totals, Task}
+use Rattle.rules.specs.Search.{totals}
 use Rattle.rules.specs.Fit.{massOf, targetOf, valuesOf, listing, element, column, root, Tree, rooted, fit, TreeCall, frameOf, grownTree, treeTests, treeDone, treeEnds, fitTree}
 use Rattle.laws.specs.Lists.{is-false, Every, every-imp, every-at, every-or, kept-pass, map-same, every-all, from-below}
 use Rattle.laws.specs.Passed.{past, goes-on, none-fails, Passed, Framed, tree-passed, tree-framed}

@@ -1,4 +1,3 @@
-pub mod Rehearsal
 pub mod LeftOut
 pub mod Walks
 pub mod OutOfBag

@@ -1,14 +1,15 @@
--- What the paper states of a fit's numbers. The choice words used are features times searches, and searches never exceed nodes. The node room that is asked
+-- What the paper states of a fit's numbers. The root mass is the sum of all rows' masses by number, and the root's totals run likewise. The choice words used are features times searches, and searches never exceed nodes. The node room that is asked
 -- is enough: a tree has at most max(1, 2 x kept rows - 1) nodes, and a forest's trees fit together. Assumes nothing.
 use Prim.Native.Nat.{ℕ, zero, suc, _+_, _-_, _*_, _<_, _≤_, min}
-use native.Mathlib.Nat.{le-trans, mul-suc, mul-zero}
+use native.Mathlib.Nat.{mul-suc, mul-zero, add-zero, zero-add}
 use native.Mathlib.Omega.{arith}
 use mathlib.Core.Path.{_≡_, refl, sym, ap, _∙_, subst}
 use mathlib.Core.Bool.{Bool, true, false, not, _&&_}
-use mathlib.Core.List.{List, [], _∷_, _++_, map}
+use mathlib.Core.List.{List, [], _∷_, map}
 use lib.ListN.{length, getD, take, drop, length-take, length-drop}
 use lib.Dec.{T, ltb}
 use lib.Ieee.{Float, le, lt}
+use Rattle.rules.specs.declared.Totals.{Totals}
 use Rattle.rules.specs.declared.Params.{Params}
 use Rattle.rules.specs.declared.Splitter.{Splitter}
 use Rattle.rules.specs.declared.Splitter.the-variants.{Best, Random}
@@ -16,17 +17,18 @@ use Rattle.rules.specs.declared.Held.the-variants.{Nothing}
 use Rattle.rules.specs.declared.Report.{Report}
 use Rattle.rules.specs.declared.TreeAnswer.{TreeAnswer}
 use Rattle.rules.specs.declared.ForestAnswer.{ForestAnswer}
-use Rattle.rules.specs.Words.{eachOnce, from, total}
+use Rattle.rules.specs.Words.{eachOnce, from}
+use Rattle.rules.specs.Totals.{empty, takeIn}
 use Rattle.rules.specs.Lent.{Data, Frame, Waits, TreeRooms, ForestRooms, shortest}
 use Rattle.rules.specs.Checks.{asks}
-use Rattle.rules.specs.Draws.{Out, ok, Tapes, takeWords, takeThreshold, nextThreshold, tape}
-use Rattle.rules.specs.Search.{Element, Column, at, Task, same, final, Tries, drawIn, randomIn, tryOne, tryAll, Found, search}
+use Rattle.rules.specs.Draws.{Out, Tapes, takeWords, takeThreshold, nextThreshold, tape}
+use Rattle.rules.specs.Search.{Column, at, totals, Task, same, final, Tries, drawIn, randomIn, tryOne, tryAll, Found, search}
 use Rattle.rules.specs.Growth.{Waiting, State, child, withChildren, asked, ask, expand, fromRoot}
-use Rattle.rules.specs.Fit.{root, Tree, treeOf, rooted, fit, paramsOf, TreeCall, frameOf, fitTree}
+use Rattle.rules.specs.Fit.{massOf, targetOf, element, root, Tree, treeOf, rooted, fit, paramsOf, TreeCall, frameOf, fitTree}
 use Rattle.rules.specs.Forest.{ForestCall, frameAt, frames, forestRows, fitForest}
 use Rattle.laws.specs.Lists.{Every}
 use Rattle.laws.specs.Once.{once-length}
-use Rattle.laws.specs.Outs.{Then, then-then, then-after, then-of}
+use Rattle.laws.specs.Outs.{Then, then-then, then-any, then-after, then-of}
 use Rattle.laws.specs.Stack.{children-length, root-keep}
 use Rattle.laws.specs.Root.{fit-nodes}
 use Rattle.laws.specs.Passed.{tree-passed, Binary64}
@@ -34,6 +36,19 @@ use Rattle.laws.specs.Answered.{TreeAnswered, tree-answered, tree-listed, Fores
 use Rattle.demands.specs.Walks.{reported-nodes}
 
 -- ---- the statements
+
+-- the totals of rows 0 to n - 1, the last taken in last
+pub totalsTo : Frame → Data → ℕ → Totals
+totalsTo F D zero = empty
+totalsTo F D (suc n) = takeIn (totalsTo F D n) (targetOf D n) (massOf F n)
+
+abbrev pub RootByNumber : Type 0
+RootByNumber = (F : Frame) (D : Data) → root F D .totals ≡ totalsTo F D (F .rows)
+
+abbrev pub RootMass : Type 1
+RootMass =
+    (W : Type 0) (K : Waits W) (C : TreeCall) (R : TreeRooms W) (r : Report) → fitTree K C R .answer ≡ TreeAnswer.Grown r
+    → r .mass ≡ totalsTo (frameOf C) (C .given .measured) (C .shape .rows) .mass
 
 -- of a tree that reports r, over so many features
 pub record Counted (features : ℕ) (r : Report) : Type 0 where
@@ -57,6 +72,29 @@ abbrev pub ForestRoom : Type 1
 ForestRoom =
     (W : Type 0) (K : Waits W) (C : ForestCall) (R : ForestRooms W) (h : fitForest K C R .answer ≡ ForestAnswer.Grown) → Binary64 (C .given .measured .values)
     → length (forestRows (forest-answered K C R h .trees)) ≤ shortest (R .nodes)
+
+-- ---- the root
+
+-- the rows after the first n, taken in one by one
+totals-from : (F : Frame) (D : Data) (n k : ℕ) → totals (totalsTo F D n) (map (element F D) (from n k)) ≡ totalsTo F D (n + k)
+unfolding totals from element totalsTo
+totals-from F D n zero = ap (totalsTo F D) (sym (add-zero n))
+totals-from F D n (suc k) = totals-from F D (suc n) k ∙ ap (totalsTo F D) (shift n k)
+  where
+    shift : (n k : ℕ) → suc n + k ≡ n + suc k
+    shift n k = omega arith
+
+pub root-by-number : RootByNumber
+unfolding root totalsTo
+root-by-number F D = totals-from F D 0 (F .rows) ∙ ap (totalsTo F D) (zero-add (F .rows))
+
+pub root-mass : RootMass
+unfolding fit rooted treeOf frameOf
+root-mass W K C R r h =
+    let a : TreeAnswered K C R r = tree-answered K C R r h in
+    ap (λ (x : Report). x .mass) (sym (a .reported))
+    ∙ then-of (λ (t : Tree). t .report .mass ≡ root (frameOf C) (C .given .measured) .totals .mass) (fit (frameOf C) (C .given .measured)) (a .tree) (a .grew) (then-any _ _ _ (λ s. refl))
+    ∙ ap (λ (t : Totals). t .mass) (root-by-number (frameOf C) (C .given .measured))
 
 -- ---- a search takes `features` choice words, and counts itself
 

@@ -8,17 +8,17 @@ use mathlib.Core.Bool.{Bool, true, false, _&&_, _||_, true≢false}
 use mathlib.Core.List.{List, [], _∷_, map}
 use lib.ListN.{length, getD, drop}
 use lib.Seq.{getD-take, getD-drop}
-use lib.Dec.{T, leb, ltb, eqb, eqb→eq, eqb-refl, lt→ltb, le→leb}
+use lib.Dec.{T, ltb, eqb, eqb→eq, eqb-refl, lt→ltb, le→leb}
 use lib.Ieee.{Float, nan, lt}
 use lib.Ieee.Fits.{and-i}
 use Rattle.rules.specs.declared.ForestAnswer.{ForestAnswer}
 use Rattle.rules.specs.declared.Reply.{Reply}
 use Rattle.rules.specs.Words.{nought, from, putIf}
-use Rattle.rules.specs.Lent.{Row, Waits, ForestRooms, Outcome, valuesAt, unweighted}
-use Rattle.rules.specs.Checks.{firstFailed, rowsIn, featuresIn, treesIn, countOf, kept}
+use Rattle.rules.specs.Lent.{Waits, ForestRooms, Outcome, valuesAt, unweighted}
+use Rattle.rules.specs.Checks.{firstFailed, countOf, kept}
 use Rattle.rules.specs.Draws.{Out, bad, ok}
 use Rattle.rules.specs.Fit.{targetOf, valuesOf, listing, Tree, fit, rows}
-use Rattle.rules.specs.Table.{treesAt, goodForest}
+use Rattle.rules.specs.Table.{treesAt}
 use Rattle.rules.specs.Reading.{meanOf, reads}
 use Rattle.rules.specs.Forest.{ForestCall, frameAt, frames, startsFrom, fitForest}
 use Rattle.rules.specs.OutOfBag.{outTrees, outOfBagMean, outTests, outOfBagMeans}
@@ -26,7 +26,7 @@ use Rattle.laws.specs.Lists.{getD-from}
 use Rattle.laws.specs.Passed.{goes-on, none-fails, Passed, Planted, forest-framed, Binary64}
 use Rattle.laws.specs.Written.{tables, trees-written, front-length, starts-length}
 use Rattle.laws.specs.Answered.{Grew, ForestAnswered, forest-answered, planted-right, trees-length}
-use Rattle.demands.specs.LeftOut.{Alike, accepted, fit-same}
+use Rattle.demands.specs.LeftOut.{accepted, fit-same}
 use Rattle.demands.specs.Walks.{forest-good}
 
 -- ---- the statement

@@ -1,23 +1,44 @@
--- Demand 1, what a refusal leaves. A fit that is refused by 1 to 6 leaves every lent room as it was, and tells the first test that failed. One that meets a bad draw leaves
--- all output and work room zero. A reader that is refused leaves its result room as it was. Assumes nothing.
+-- Demand 1: in which order each call makes its checks, and what a refusal leaves. A fit that is refused by 1 to 6 leaves every lent room as it was, and tells the first
+-- test that failed. One that meets a bad draw leaves all output and work room zero. A reader that is refused leaves its result room as it was. Assumes nothing.
 use Prim.Native.Nat.{ℕ, zero, suc}
 use native.Mathlib.Omega.{arith}
 use mathlib.Core.Path.{_≡_, refl}
-use mathlib.Core.List.{List}
+use mathlib.Core.List.{List, [], _∷_, map}
 use lib.Ieee.{Float}
+use Rattle.rules.specs.declared.Shape.{Shape}
 use Rattle.rules.specs.declared.Draw.{Draw}
 use Rattle.rules.specs.declared.TreeAnswer.{TreeAnswer}
 use Rattle.rules.specs.declared.ForestAnswer.{ForestAnswer}
 use Rattle.rules.specs.declared.Reply.{Reply}
 use Rattle.rules.specs.Words.{filled}
-use Rattle.rules.specs.Lent.{Waits, TreeRooms, ForestRooms, zeroColumns, zeroReports, zeroWork}
-use Rattle.rules.specs.Checks.{firstFailed}
+use Rattle.rules.specs.Lent.{Columns, Waits, TreeRooms, ForestRooms, zeroColumns, zeroReports, zeroWork}
+use Rattle.rules.specs.Checks.{Test, firstFailed}
+use Rattle.rules.specs.Listing.{listingTests}
 use Rattle.rules.specs.Draws.{Out, bad, ok}
 use Rattle.rules.specs.Fit.{Tree, TreeCall, grownTree, treeTests, treeDone, treeEnds, fitTree}
-use Rattle.rules.specs.Reading.{reads}
+use Rattle.rules.specs.Table.{treeTableTests, forestTableTests, nodeTests}
+use Rattle.rules.specs.Reading.{reads, predictTests, meanTests, treeWeighTests, forestWeighTests}
 use Rattle.rules.specs.Forest.{ForestCall, Forest, broke, stands, grownForest, forestTests, forestDone, forestEnds, fitForest}
+use Rattle.rules.specs.OutOfBag.{outTests, errorTests}
 
 -- ---- the statements
+
+abbrev pub numbers : List Test → List ℕ
+numbers ts = map (λ (t : Test). t .number) ts
+
+pub record OrderOfChecks {W : Type 0} (K : Waits W) : Type 0 where
+  pub tree : (C : TreeCall) (R : TreeRooms W) → numbers (treeTests K C R) ≡ 1 ∷ 2 ∷ 3 ∷ 4 ∷ 5 ∷ 6 ∷ []
+  pub forest : (C : ForestCall) (R : ForestRooms W) → numbers (forestTests K C R) ≡ 1 ∷ 2 ∷ 3 ∷ 4 ∷ 5 ∷ 6 ∷ []
+  pub listings : (S : Shape) (xs : List Float) (ls : List ℕ) → numbers (listingTests S xs ls) ≡ 1 ∷ 2 ∷ 5 ∷ []
+  pub predictions : (S : Shape) (xs : List Float) (c : Columns) (out : List Float) → numbers (predictTests S xs c out) ≡ 1 ∷ 2 ∷ 6 ∷ 8 ∷ []
+  pub means : (S : Shape) (trees : ℕ) (xs : List Float) (c : Columns) (starts : List ℕ) (out : List Float) → numbers (meanTests S trees xs c starts out) ≡ 1 ∷ 2 ∷ 6 ∷ 8 ∷ []
+  pub outOfBag : (S : Shape) (trees : ℕ) (xs : List Float) (ks : List ℕ) (c : Columns) (starts : List ℕ) (out : List Float) → numbers (outTests S trees xs ks c starts out) ≡ 1 ∷ 9 ∷ 10 ∷ 2 ∷ 6 ∷ 8 ∷ []
+  pub error : (rows : ℕ) (ys ms : List Float) → numbers (errorTests rows ys ms) ≡ 1 ∷ 2 ∷ []
+  pub treeWeighs : (features : ℕ) (c : Columns) (out : List Float) → numbers (treeWeighTests features c out) ≡ 1 ∷ 6 ∷ 8 ∷ []
+  pub forestWeighs : (features trees : ℕ) (c : Columns) (starts : List ℕ) (out : List Float) → numbers (forestWeighTests features trees c starts out) ≡ 1 ∷ 6 ∷ 8 ∷ []
+  pub treeTable : (features : ℕ) (c : Columns) → numbers (treeTableTests features c) ≡ 1 ∷ 8 ∷ []
+  pub forestTable : (features trees : ℕ) (c : Columns) (starts : List ℕ) → numbers (forestTableTests features trees c starts) ≡ 1 ∷ 6 ∷ 8 ∷ []
+  pub node : (features : ℕ) (c : Columns) (k : ℕ) → numbers (nodeTests features c k) ≡ 1 ∷ 8 ∷ []
 
 abbrev pub TreeRefused : Type 1
 TreeRefused =
@@ -42,6 +63,26 @@ ForestBad =
 -- every reader that writes goes through `reads`
 abbrev pub ReaderRefused : Type 0
 ReaderRefused = (k : ℕ) (new old : List Float) (n : ℕ) → reads k new old .answer ≡ Reply.Refused n → (reads k new old .rooms ≡ old) × (k ≡ n)
+
+-- ---- the order
+
+pub order-of-checks : {W : Type 0} (K : Waits W) → OrderOfChecks K
+unfolding treeTests forestTests listingTests predictTests meanTests outTests errorTests treeWeighTests forestWeighTests treeTableTests forestTableTests nodeTests
+order-of-checks K =
+    record {
+      tree = λ C R. refl;
+      forest = λ C R. refl;
+      listings = λ S xs ls. refl;
+      predictions = λ S xs c out. refl;
+      means = λ S trees xs c starts out. refl;
+      outOfBag = λ S trees xs ks c starts out. refl;
+      error = λ rows ys ms. refl;
+      treeWeighs = λ features c out. refl;
+      forestWeighs = λ features trees c starts out. refl;
+      treeTable = λ features c. refl;
+      forestTable = λ features trees c starts. refl;
+      node = λ features c k. refl;
+    }
 
 -- ---- one tree
 

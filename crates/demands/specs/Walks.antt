@@ -1,11 +1,11 @@
 -- The walk of a good table ends: at a leaf, inside the tree, within as many steps as it has nodes. And what a fit that answers leaves is a good table,
 -- of the trees that it grew, so that every reader can go on from it. Assumes nothing.
-use Prim.Native.Nat.{ℕ, zero, suc, _+_, _<_, _≤_, min}
+use Prim.Native.Nat.{ℕ, suc, _+_, _<_, _≤_}
 use native.Mathlib.Nat.{zero-add, add-zero}
 use native.Mathlib.Omega.{arith}
 use mathlib.Core.Path.{_≡_, refl, sym, ap, _∙_, subst}
-use mathlib.Core.Bool.{Bool, true, _&&_}
-use mathlib.Core.List.{List, [], _∷_, _++_, map, append-nil}
+use mathlib.Core.Bool.{true, _&&_}
+use mathlib.Core.List.{List, [], _∷_, _++_, append-nil}
 use lib.ListN.{length, getD, take, length-append}
 use lib.Seq.{take-at}
 use lib.Dec.{T, leb, ltb, eqb, lt→ltb, le→leb, ltb→lt, eqb-refl}
@@ -14,19 +14,19 @@ use lib.Ieee.Fits.{and-l, and-i}
 use Rattle.rules.specs.declared.Report.{Report}
 use Rattle.rules.specs.declared.TreeAnswer.{TreeAnswer}
 use Rattle.rules.specs.declared.ForestAnswer.{ForestAnswer}
-use Rattle.rules.specs.Words.{from, every, along, alongFrom, front}
+use Rattle.rules.specs.Words.{every, along, alongFrom, front}
 use Rattle.rules.specs.Lent.{Columns, Row, Waits, TreeRooms, ForestRooms, shortest, rowsAt, writeRows}
 use Rattle.rules.specs.Draws.{ok}
 use Rattle.rules.specs.Fit.{Tree, treeOf, rooted, fit, rows, paramsOf, TreeCall, frameOf, fitTree}
-use Rattle.rules.specs.Table.{leafRow, goodFrom, goodTree, startsGood, treeAt, treesAt, goodForest}
+use Rattle.rules.specs.Table.{leafRow, goodFrom, goodTree, startsGood, treesAt, goodForest}
 use Rattle.rules.specs.Reading.{noRow, walked}
 use Rattle.rules.specs.Forest.{ForestCall, frameAt, startsFrom, forestRows, fitForest}
 use Rattle.laws.specs.Lists.{Every, every-imp}
-use Rattle.laws.specs.Outs.{Then, then-of, then-any}
+use Rattle.laws.specs.Outs.{then-of, then-any}
 use Rattle.laws.specs.Passed.{Binary64}
-use Rattle.laws.specs.Tables.{length-rows, Ends, fit-good}
+use Rattle.laws.specs.Tables.{length-rows, fit-good}
 use Rattle.laws.specs.Tables as Tables
-use Rattle.laws.specs.Written.{rows-written, tables, first-start, trees-written, front-length, starts-length, shortest-stays}
+use Rattle.laws.specs.Written.{rows-written, tables, first-start, trees-written, starts-length, shortest-stays}
 use Rattle.laws.specs.Answered.{TreeAnswered, tree-answered, tree-listed, ForestAnswered, forest-answered, trees-length, trees-each, forest-room}
 
 -- ---- the statements

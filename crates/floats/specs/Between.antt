@@ -1,18 +1,17 @@
 -- The middle of p < x, as p + (x - p) / 2 has it: no float between is crossed, so p <= mid wherever mid is no NaN, and it is none. Assumes nothing.
-use mathlib.Core.Path.{_≡_, refl, sym, ap, _∙_, subst}
-use mathlib.Core.Logic.{_⊎_, inl, inr}
+use mathlib.Core.Path.{_≡_, refl, sym, subst}
 use Prim.Native.Nat.{ℕ, zero, suc, _+_, _-_, _*_, _≤_, _<_}
-use native.Mathlib.Nat.{mul-pos, mul-comm, mul-assoc, mul-le-mul-right}
+use native.Mathlib.Nat.{mul-pos, mul-le-mul-right}
 use native.Mathlib.Omega.{arith}
-use mathlib.Core.Bool.{Bool, true, false, not, _&&_, _||_, Bool·beq, cond}
+use mathlib.Core.Bool.{Bool, true, false, not, _&&_, cond}
 use lib.IntN.{ℤ, pos}
-use lib.Dec.{T, ltb, eqb, ltb→lt, lt→ltb, nltb→le}
-use lib.Ieee.{Float, nan, inf, fin, Format, up, down, round, neg, sum, add, sub, div, lt, le, eq, fits, isNan}
+use lib.Dec.{T, ltb, ltb→lt}
+use lib.Ieee.{Float, nan, inf, fin, Format, up, down, round, neg, add, sub, div, lt, le, fits, isNan}
 use lib.Ieee.Fits.{down-pos}
 use lib.Ieee.Order.{round-mono}
 use lib.Ieee.Scale.{finite}
 use Rattle.floats.specs.Round.{round-self, round-neg, clear, round-clear}
-use Rattle.floats.specs.Order.{plus, minus, left, right, side→le, le→side, lt→side, le-refl64}
+use Rattle.floats.specs.Order.{left, right, side→le, le→side, le-refl64}
 
 -- ---- negated, the order turns round
 turn-neg : (x c y d : ℕ) → left false y d false x c ≤ right false y d false x c → left true x c true y d ≤ right true x c true y d

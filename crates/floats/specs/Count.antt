@@ -1,13 +1,13 @@
 -- A count as a float: finite, and above zero where the count is. The mass of a row that is kept is above zero, and that of another row is a zero. Assumes nothing.
-use mathlib.Core.Path.{_≡_, refl, sym, ap, _∙_, subst}
-use Prim.Native.Nat.{ℕ, zero, suc, _+_, _-_, _*_, _^_, _≤_, _<_}
-use native.Mathlib.Nat.{le-trans, mul-pos, zero-lt-suc, lt-irrefl, mul-assoc, mul-comm, mul-right-comm, mul-le-mul-right, one-mul}
+use mathlib.Core.Path.{_≡_, sym, subst}
+use Prim.Native.Nat.{ℕ, zero, suc, _*_, _^_, _≤_, _<_}
+use native.Mathlib.Nat.{mul-pos, zero-lt-suc, mul-le-mul-right}
 use native.Mathlib.Omega.{arith}
-use mathlib.Core.Bool.{Bool, true, false, not, true≢false}
-use lib.IntN.{ℤ, pos}
-use lib.Dec.{T, ltb, ltb→lt, lt→ltb, lit≤}
-use lib.Ieee.{Float, nan, inf, fin, Format, binary64, prec, up, down, round, mul, ofInt, fits, le, lt, isNan}
-use lib.Ieee.Fits.{up-pos, down-pos}
+use mathlib.Core.Bool.{Bool, true, false}
+use lib.IntN.{pos}
+use lib.Dec.{T, ltb→lt, lt→ltb}
+use lib.Ieee.{Float, nan, inf, fin, binary64, up, down, round, mul, ofInt, fits, le, lt}
+use lib.Ieee.Fits.{up-pos}
 use lib.Ieee.Exact.{HasValue}
 use lib.Ieee.Order.{round-mono}
 use lib.Ieee.Scale.{finite}

@@ -1,19 +1,18 @@
 -- Zeros of either sign in sums and products: a value that is not -0 stays as it is when a zero is added, and a sum that starts at a value other than -0 never comes to -0.
 -- Assumes nothing.
 use mathlib.Core.Path.{_≡_, refl, sym, ap, _∙_, subst}
-use mathlib.Core.Logic.{_⊎_, inl, inr}
 use Prim.Native.Nat.{ℕ, zero, suc, _+_, _-_, _*_, _%_, _^_, _≤_, _<_}
-use native.Mathlib.Nat.{mul-pos, mul-one, one-mul, zero-mul, mul-zero, mul-comm, mul-assoc, mul-left-comm, mul-right-comm, mul-sub, mul-le-mul-right, mul-lt-mul-of-pos-right, zero-lt-suc, lt-irrefl, lt-of-mul-lt-mul-right}
+use native.Mathlib.Nat.{mul-pos, mul-one, one-mul, zero-mul, mul-zero, mul-comm, mul-assoc, mul-right-comm, mul-sub, mul-le-mul-right, mul-lt-mul-of-pos-right, zero-lt-suc, lt-irrefl, lt-of-mul-lt-mul-right}
 use native.Mathlib.Omega.{arith}
-use mathlib.Core.Bool.{Bool, true, false, not, _&&_, _||_, Bool·beq, cond}
-use lib.IntN.{ℤ, pos, negsuc}
-use lib.Dec.{T, ltb, leb, eqb, ltb→lt, lt→ltb, nltb→le, leb→le}
+use mathlib.Core.Bool.{Bool, true, false, not, _&&_, Bool·beq, cond}
+use lib.IntN.{ℤ, pos}
+use lib.Dec.{T, ltb, leb, eqb, ltb→lt, lt→ltb, leb→le}
 use lib.Pow.{pow-pos, pow-lt}
-use lib.Ieee.{Float, nan, inf, fin, Format, binary64, prec, emax, low, up, down, unlike, round, neg, sum, add, mul, ofInt, fits, le, eq, sub}
+use lib.Ieee.{Float, nan, inf, fin, Format, binary64, prec, emax, low, up, down, unlike, round, neg, sum, add, mul, ofInt, fits, eq, sub}
 use lib.Ieee.Fits.{up-pos, down-pos, and-l, and-r, two, two-le-pos}
 use lib.Ieee.Exact.{HasValue, round-exact}
 use lib.Ieee.Order.{round-mono}
-use lib.Ieee.Positive.{positive, above, positive-of-value, above-of-le}
+use lib.Ieee.Positive.{above, positive-of-value, above-of-le}
 use lib.Ieee.Scale.{round-same, finite}
 use Rattle.floats.specs.Round.{round-self, round-neg, shift, clear, round-clear}
 

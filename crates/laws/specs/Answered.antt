@@ -17,7 +17,7 @@ use Rattle.rules.specs.Forest.{ForestCall, frameAt, frames, Forest, broke, stan
 use Rattle.laws.specs.Lists.{Every, every-all, every-map, length-from}
 use Rattle.laws.specs.Outs.{Then, then-of}
 use Rattle.laws.specs.Root.{Listed, fit-nodes}
-use Rattle.laws.specs.Passed.{Passed, Planted, tree-passed, forest-passed, tree-framed, forest-framed, Binary64, listed-right}
+use Rattle.laws.specs.Passed.{Planted, tree-passed, forest-passed, tree-framed, forest-framed, Binary64, listed-right}
 use Rattle.laws.specs.Tables.{length-rows}
 
 -- ---- one tree

@@ -1,14 +1,13 @@
 -- What a search that finds a cut has seen to: the cut leaves rows on both sides, and the least leaf on both; and the two sides are good nodes again.
 -- Assumes nothing.
-use Prim.Native.Nat.{ℕ, zero, suc, _+_, _-_, _<_, _≤_, min}
+use Prim.Native.Nat.{ℕ, _+_, _-_, _<_, _≤_, min}
 use native.Mathlib.Nat.{add-zero}
 use native.Mathlib.Omega.{arith}
 use mathlib.Core.Path.{_≡_, refl, sym, ap, _∙_, subst}
 use mathlib.Core.Bool.{Bool, true, false, not, _&&_, cond, false≢true}
 use mathlib.Core.List.{List, [], _∷_, _++_, append-assoc, append-nil}
-use lib.ListN.{length, getD, take}
-use lib.Seq.{take-take}
-use lib.Dec.{T, ltb, leb, eqb, nltb→le, lit<}
+use lib.ListN.{getD, take}
+use lib.Dec.{T, ltb, nltb→le, lit<}
 use lib.Ieee.{Float, lt, le, eq}
 use lib.Ieee.Fits.{and-l, and-r}
 use Rattle.floats.specs.Order.{le-trans64}
@@ -23,8 +22,8 @@ use Rattle.rules.specs.declared.Walk.{Walk}
 use Rattle.rules.specs.Words.{putIf, keep, total, eachOnce}
 use Rattle.rules.specs.Totals.{empty, takeIn, less, proxy}
 use Rattle.rules.specs.Threshold.{threshold}
-use Rattle.rules.specs.Draws.{Out, Source, Tapes, takeWords, takeThreshold, nextThreshold, tape}
-use Rattle.rules.specs.Search.{Element, Column, at, totals, tally, Task, goesTrue, same, trueSide, falseSide, better, judge, runOn, step, walk, bestIn, final, drawn, Tries, drawIn, randomIn, tryOne, tryAll, Found, uncut, cut, found, search}
+use Rattle.rules.specs.Draws.{Source, Tapes, takeWords, takeThreshold, nextThreshold, tape}
+use Rattle.rules.specs.Search.{Element, Column, at, totals, tally, Task, goesTrue, trueSide, falseSide, better, judge, runOn, step, walk, bestIn, final, drawn, Tries, drawIn, randomIn, tryOne, tryAll, Found, uncut, cut, found, search}
 use Rattle.rules.specs.Growth.{Waiting, child}
 use Rattle.laws.specs.Lists.{is-true, Every, every-imp, every-append, every-take, every-keep, keep-all, keep-none, keep-append, keep-keep, getD-keep, total-append, total-sides, Ordered, ordered-keep}
 use Rattle.laws.specs.Once.{once-below}

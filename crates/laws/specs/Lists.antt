@@ -1,11 +1,11 @@
 -- Laws of lists, in the words of the rules. Assumes nothing.
-use Prim.Native.Nat.{ℕ, zero, suc, _+_, _-_, _<_, _≤_}
+use Prim.Native.Nat.{ℕ, zero, suc, _+_, _<_, _≤_}
 use native.Mathlib.Nat.{add-zero, zero-add, add-assoc, not-suc-le-zero, le-of-suc-le-suc}
 use native.Mathlib.Omega.{arith}
 use mathlib.Core.Path.{_≡_, refl, sym, ap, _∙_, subst}
 use mathlib.Core.Bool.{Bool, true, false, not, _&&_, _||_, cond}
 use mathlib.Core.List.{List, [], _∷_, _++_, map}
-use lib.ListN.{length, getD, take, drop, set, List·getD-map}
+use lib.ListN.{length, getD, take, drop, List·getD-map}
 use lib.Dec.{T}
 use lib.Ieee.Fits.{and-l, and-r}
 use Rattle.rules.specs.Words.{from, putIf, keep, every, along, alongFrom, total}

@@ -1,5 +1,4 @@
 -- Laws of answers that a bad draw may cut short. `Then m Q`: Q holds of the answer, if there is one. Assumes nothing.
-use Prim.Native.Nat.{ℕ}
 use mathlib.Core.Path.{_≡_, refl, subst}
 use Rattle.rules.specs.Draws.{Out, bad, ok, bind}
 

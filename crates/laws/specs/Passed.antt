@@ -1,19 +1,19 @@
 -- What a fit knows once its checks have passed: lengths, ranges, and that its listings are in order. Assumes nothing.
-use Prim.Native.Nat.{ℕ, zero, suc, _+_, _*_, _<_, _≤_}
+use Prim.Native.Nat.{ℕ, suc, _+_, _*_, _<_, _≤_}
 use native.Mathlib.Nat.{suc-mul, mul-le-mul-right, zero-add}
 use native.Mathlib.Omega.{arith}
 use mathlib.Core.Path.{_≡_, refl, sym, ap, _∙_, subst}
 use mathlib.Core.Bool.{Bool, true, false, not, _&&_, _||_}
 use mathlib.Core.List.{List, [], _∷_}
-use lib.ListN.{length, getD, take, drop}
+use lib.ListN.{length, getD, drop}
 use lib.Seq.{getD-take, getD-drop}
-use lib.Dec.{T, leb, ltb, eqb, leb→le, eqb→eq}
+use lib.Dec.{T, leb, eqb, leb→le, eqb→eq}
 use lib.Ieee.{Float, nan, binary64, fits, lt, le}
 use lib.Ieee.Scale.{finite}
 use lib.Ieee.Fits.{and-l, and-r}
 use Rattle.floats.specs.Order.{le-trans64}
 use Rattle.rules.specs.declared.Shape.{Shape}
-use Rattle.rules.specs.Words.{from, every, along, total, eachOnce}
+use Rattle.rules.specs.Words.{from, every, total, eachOnce}
 use Rattle.rules.specs.Lent.{Given, Frame, Waits, TreeRooms, ForestRooms, valuesAt, listingAt, unweighted, shortest}
 use Rattle.rules.specs.Checks.{Test, test, firstFailed, within, rowsIn, featuresIn, treesIn, lengths, goodCuts, goodWeight, numbersGood, countsGood, countsOne, asks, workEnough, reportsExact}
 use Rattle.rules.specs.Listing.{cell, neverFalls, goodListing, listingsGood}

@@ -1,22 +1,22 @@
 -- The root of a fit that passes refusals 3 and 5 is good: each listing has each row once and never falls, so all columns hold the kept rows, in order.
 -- Then what holds of every growth from a good root holds of the fit. Assumes nothing.
-use Prim.Native.Nat.{ℕ, zero, suc, _+_, _-_, _*_, _<_, _≤_, max}
+use Prim.Native.Nat.{ℕ, _+_, _-_, _*_, _<_, _≤_, max}
 use native.Mathlib.Nat.{zero-add}
 use native.Mathlib.Omega.{arith}
-use mathlib.Core.Path.{_≡_, refl, sym, ap, _∙_, subst}
-use mathlib.Core.Bool.{Bool, true, false, _&&_, _||_, cond}
-use mathlib.Core.List.{List, [], _∷_, map}
+use mathlib.Core.Path.{_≡_, sym, ap, _∙_, subst}
+use mathlib.Core.Bool.{Bool, true, _&&_, _||_}
+use mathlib.Core.List.{[]}
 use lib.ListN.{length, getD}
 use lib.Dec.{T, ltb, ltb→lt}
-use lib.Ieee.{Float, nan, lt, le}
+use lib.Ieee.{nan, lt, le}
 use lib.Ieee.Fits.{and-l}
 use Rattle.rules.specs.Words.{nought, from, keep, total, eachOnce}
 use Rattle.rules.specs.Lent.{Data, Frame, unweighted}
 use Rattle.rules.specs.Checks.{countOf, kept, keptRows, asks}
-use Rattle.rules.specs.Draws.{Out, bind, tape}
-use Rattle.rules.specs.Search.{Element, Column, at, tally, Task, search}
+use Rattle.rules.specs.Draws.{tape}
+use Rattle.rules.specs.Search.{Element, at, tally, search}
 use Rattle.rules.specs.Growth.{fromRoot}
-use Rattle.rules.specs.Fit.{listing, element, column, root, Tree, treeOf, rooted, fit}
+use Rattle.rules.specs.Fit.{listing, element, column, root, treeOf, rooted, fit}
 use Rattle.laws.specs.Lists.{Every, every-imp, every-keep, every-map, kept-pass, keep-map, keep-keep, total-map, length-total, getD-from, Ordered, ordered-keep, ordered-map}
 use Rattle.laws.specs.Once.{once-below, once-keep}
 use Rattle.laws.specs.Outs.{Then, then-then}

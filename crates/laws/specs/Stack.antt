@@ -1,6 +1,6 @@
 -- Growth, over any way to choose cuts. `pop`: the waiting list is a stack, its last to join split first, as the paper has it and as a loop goes.
 -- `all-keep`: what each split keeps, the whole growth keeps. Assumes nothing.
-use Prim.Native.Nat.{ℕ, zero, suc, _+_, _-_, _<_, _≤_}
+use Prim.Native.Nat.{ℕ, zero, suc, _+_, _-_, _<_}
 use native.Mathlib.Omega.{arith}
 use mathlib.Core.Path.{_≡_, refl, sym, ap, _∙_}
 use mathlib.Core.Bool.{Bool, true, false, not, _&&_}
@@ -9,7 +9,7 @@ use lib.ListN.{length, set, length-set, length-append}
 use lib.Dec.{T, ltb, leb, ltb→lt}
 use lib.Ieee.Fits.{and-l, and-r}
 use Rattle.rules.specs.declared.Params.{Params}
-use Rattle.rules.specs.Draws.{Out, bad, ok, bind}
+use Rattle.rules.specs.Draws.{Out, bind}
 use Rattle.rules.specs.Search.{Task, Found, uncut, cut, same}
 use Rattle.rules.specs.Growth.{Grown, Waiting, State, child, leafOf, splitOf, withChildren, joins, runs, asked, ask, expand, grow, growAll, fromRoot}
 use Rattle.laws.specs.Lists.{Every, every-append, every-imp}

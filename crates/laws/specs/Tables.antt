@@ -16,7 +16,7 @@ use Rattle.rules.specs.declared.Kind.the-variants.{Leaf, Split}
 use Rattle.rules.specs.Totals.{valueOf}
 use Rattle.rules.specs.Lent.{Data, Frame, Row}
 use Rattle.rules.specs.Growth.{Grown}
-use Rattle.rules.specs.Fit.{rowOf, rows, Tree, fit}
+use Rattle.rules.specs.Fit.{rowOf, rows, fit}
 use Rattle.rules.specs.Table.{leafRow, goodRow, goodFrom, goodTree}
 use Rattle.rules.specs.Reading.{noRow, onto, walked}
 use Rattle.laws.specs.Lists.{or-other}

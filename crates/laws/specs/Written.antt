@@ -6,7 +6,7 @@ use mathlib.Core.Path.{_≡_, refl, sym, ap, _∙_, subst}
 use mathlib.Core.List.{List, [], _∷_, _++_, map, append-assoc}
 use lib.ListN.{length, getD, drop, length-append, length-drop, length-map}
 use lib.Seq.{getD-drop, getD-append-seam, drop-drop}
-use lib.Ieee.{Float, nan}
+use lib.Ieee.{nan}
 use Rattle.rules.specs.Words.{from, front}
 use Rattle.rules.specs.Lent.{Columns, Row, shortest, rowAt, rowsAt, writeRows}
 use Rattle.rules.specs.Fit.{rows, Tree}

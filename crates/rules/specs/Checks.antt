@@ -1,14 +1,14 @@
 -- The tests behind refusals 1, 2, 3, 4 and 6, and how the first that fails decides. 5 stands in Listing, 7 in Draws, 8 in Table. Definitions only. Assumes nothing.
-use Prim.Native.Nat.{ℕ, suc, _+_, _-_, _*_, max}
-use mathlib.Core.Bool.{Bool, true, false, not, _&&_, _||_, cond}
+use Prim.Native.Nat.{ℕ, suc, _-_, _*_, max}
+use mathlib.Core.Bool.{Bool, not, _&&_, _||_, cond}
 use mathlib.Core.List.{List, [], _∷_}
 use lib.ListN.{length, getD}
 use lib.Dec.{leb, ltb, eqb}
 use lib.Ieee.{Float, nan, lt}
 use lib.Ieee.Scale.{finite}
 use Rattle.rules.specs.declared.Shape.{Shape}
-use Rattle.rules.specs.Words.{nought, from, keep, every, along, total}
-use Rattle.rules.specs.Lent.{Data, Given, Frame, Reports, Waits, Work, unweighted}
+use Rattle.rules.specs.Words.{nought, from, keep, every, along}
+use Rattle.rules.specs.Lent.{Given, Frame, Reports, Waits, Work, unweighted}
 
 -- a test, with the number that its failing gives
 pub record Test : Type 0 where

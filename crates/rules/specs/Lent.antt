@@ -1,5 +1,5 @@
 -- What is lent: tables to read, and rooms to write. Definitions only. Assumes nothing.
-use Prim.Native.Nat.{ℕ, suc, _*_, min}
+use Prim.Native.Nat.{ℕ, _*_, min}
 use mathlib.Core.Bool.{Bool, true, false}
 use mathlib.Core.List.{List, [], _∷_, map}
 use lib.ListN.{length, getD}

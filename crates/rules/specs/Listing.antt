@@ -9,7 +9,7 @@ use Rattle.rules.specs.declared.Shape.{Shape}
 use Rattle.rules.specs.declared.Reply.{Reply}
 use Rattle.rules.specs.Words.{from, every, along, eachOnce}
 use Rattle.rules.specs.Lent.{listingAt}
-use Rattle.rules.specs.Checks.{test, firstFailed, rowsIn, featuresIn}
+use Rattle.rules.specs.Checks.{Test, test, firstFailed, rowsIn, featuresIn}
 
 -- the value of feature j in row i
 abbrev pub cell : ℕ → List Float → ℕ → ℕ → Float
@@ -31,10 +31,13 @@ unfoldable pub replies : ℕ → Reply
 replies zero = Reply.Done
 replies (suc n) = Reply.Refused (suc n)
 
-unfoldable pub checkListings : Shape → List Float → List ℕ → Reply
-checkListings S xs ls =
-    replies (firstFailed (
+unfoldable pub listingTests : Shape → List Float → List ℕ → List Test
+listingTests S xs ls =
     test 1 (rowsIn (S .rows) && featuresIn (S .features))
     ∷ test 2 (eqb (length xs) (S .rows * S .features) && eqb (length ls) (S .features * S .rows))
     ∷ test 5 (listingsGood S xs ls)
-    ∷ []))
+    ∷ []
+
+unfoldable pub checkListings : Shape → List Float → List ℕ → Reply
+checkListings S xs ls =
+    replies (firstFailed (listingTests S xs ls))

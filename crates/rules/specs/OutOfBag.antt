@@ -1,6 +1,6 @@
 -- Out-of-bag means, and their error. Definitions only. Assumes nothing.
 use Prim.Native.Nat.{ℕ, zero, suc, _+_, _*_}
-use mathlib.Core.Bool.{Bool, _&&_, cond}
+use mathlib.Core.Bool.{_&&_, cond}
 use mathlib.Core.List.{List, [], _∷_, map}
 use lib.ListN.{length, getD}
 use lib.Dec.{leb, ltb, eqb}
@@ -54,7 +54,9 @@ unfoldable pub errs : ℕ → Float → ErrorReply
 errs zero e = ErrorReply.Error e
 errs (suc n) e = ErrorReply.Refused (suc n)
 
+unfoldable pub errorTests : ℕ → List Float → List Float → List Test
+errorTests rows ys ms = test 1 (rowsIn rows) ∷ test 2 (eqb (length ys) rows && eqb (length ms) rows) ∷ []
+
 unfoldable pub outOfBagError : ℕ → List Float → List Float → ErrorReply
 outOfBagError rows ys ms =
-    errs (firstFailed (test 1 (rowsIn rows) ∷ test 2 (eqb (length ys) rows && eqb (length ms) rows) ∷ []))
-    (div binary64 (addSquares nought ys ms) (float rows))
+    errs (firstFailed (errorTests rows ys ms)) (div binary64 (addSquares nought ys ms) (float rows))

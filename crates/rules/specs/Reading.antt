@@ -11,7 +11,7 @@ use Rattle.rules.specs.declared.Scale.the-variants.{Normalised, ByMass}
 use Rattle.rules.specs.declared.Reply.{Reply}
 use Rattle.rules.specs.Words.{nought, float, from}
 use Rattle.rules.specs.Lent.{Columns, Row, Outcome, valuesAt}
-use Rattle.rules.specs.Checks.{test, firstFailed, rowsIn, featuresIn, treesIn}
+use Rattle.rules.specs.Checks.{Test, test, firstFailed, rowsIn, featuresIn, treesIn}
 use Rattle.rules.specs.Table.{leafRow, goodTree, treeIn, treesAt, goodForest}
 
 -- ---- a row's walk through a tree
@@ -39,14 +39,17 @@ reads (suc n) new old = record { answer = Reply.Refused (suc n); rooms = old }
 
 -- ---- predictions of one tree
 
-unfoldable pub predictTree : Shape → List Float → Columns → List Float → Outcome Reply (List Float)
-predictTree S xs c out =
-    reads (firstFailed (
+unfoldable pub predictTests : Shape → List Float → Columns → List Float → List Test
+predictTests S xs c out =
     test 1 (rowsIn (S .rows) && featuresIn (S .features))
     ∷ test 2 (eqb (length xs) (S .rows * S .features))
     ∷ test 6 (eqb (length out) (S .rows))
     ∷ test 8 (goodTree (S .features) (treeIn c))
-    ∷ []))
+    ∷ []
+
+unfoldable pub predictTree : Shape → List Float → Columns → List Float → Outcome Reply (List Float)
+predictTree S xs c out =
+    reads (firstFailed (predictTests S xs c out))
     (map (λ i. leafValue (treeIn c) (valuesAt (S .features) xs i)) (from 0 (S .rows))) out
 
 -- ---- means of a forest
@@ -60,14 +63,17 @@ addTrees s (t ∷ ts) xs = addTrees (add binary64 s (leafValue t xs)) ts xs
 unfoldable pub meanOf : List (List Row) → List Float → Float
 meanOf ts xs = div binary64 (addTrees nought ts xs) (float (length ts))
 
-unfoldable pub forestMeans : Shape → ℕ → List Float → Columns → List ℕ → List Float → Outcome Reply (List Float)
-forestMeans S trees xs c starts out =
-    reads (firstFailed (
+unfoldable pub meanTests : Shape → ℕ → List Float → Columns → List ℕ → List Float → List Test
+meanTests S trees xs c starts out =
     test 1 (rowsIn (S .rows) && (featuresIn (S .features) && treesIn trees))
     ∷ test 2 (eqb (length xs) (S .rows * S .features))
     ∷ test 6 (eqb (length out) (S .rows) && leb (suc trees) (length starts))
     ∷ test 8 (goodForest (S .features) trees c starts)
-    ∷ []))
+    ∷ []
+
+unfoldable pub forestMeans : Shape → ℕ → List Float → Columns → List ℕ → List Float → Outcome Reply (List Float)
+forestMeans S trees xs c starts out =
+    reads (firstFailed (meanTests S trees xs c starts out))
     (map (λ i. meanOf (treesAt c starts trees) (valuesAt (S .features) xs i)) (from 0 (S .rows))) out
 
 -- ---- importances
@@ -99,13 +105,16 @@ unfoldable pub scaled : Scale → List Float → List Float
 scaled Normalised v = normalised v
 scaled (ByMass m) v = dividedIf m v
 
-unfoldable pub treeImportances : ℕ → Scale → Columns → List Float → Outcome Reply (List Float)
-treeImportances features by c out =
-    reads (firstFailed (
+unfoldable pub treeWeighTests : ℕ → Columns → List Float → List Test
+treeWeighTests features c out =
     test 1 (featuresIn features)
     ∷ test 6 (eqb (length out) features)
     ∷ test 8 (goodTree features (treeIn c))
-    ∷ []))
+    ∷ []
+
+unfoldable pub treeImportances : ℕ → Scale → Columns → List Float → Outcome Reply (List Float)
+treeImportances features by c out =
+    reads (firstFailed (treeWeighTests features c out))
     (scaled by (scoresOf features (treeIn c))) out
 
 unfoldable pub addEach : List Float → List Float → List Float
@@ -118,11 +127,14 @@ unfoldable pub addImportances : ℕ → List Float → List (List Row) → List 
 addImportances features v [] = v
 addImportances features v (t ∷ ts) = addImportances features (addEach v (normalised (scoresOf features t))) ts
 
-unfoldable pub forestImportances : ℕ → ℕ → Columns → List ℕ → List Float → Outcome Reply (List Float)
-forestImportances features trees c starts out =
-    reads (firstFailed (
+unfoldable pub forestWeighTests : ℕ → ℕ → Columns → List ℕ → List Float → List Test
+forestWeighTests features trees c starts out =
     test 1 (featuresIn features && treesIn trees)
     ∷ test 6 (eqb (length out) features && leb (suc trees) (length starts))
     ∷ test 8 (goodForest features trees c starts)
-    ∷ []))
+    ∷ []
+
+unfoldable pub forestImportances : ℕ → ℕ → Columns → List ℕ → List Float → Outcome Reply (List Float)
+forestImportances features trees c starts out =
+    reads (firstFailed (forestWeighTests features trees c starts out))
     (normalised (map (λ x. div binary64 x (float trees)) (addImportances features (replicate features nought) (treesAt c starts trees)))) out

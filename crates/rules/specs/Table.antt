@@ -4,15 +4,13 @@ use mathlib.Core.Bool.{Bool, true, _&&_, _||_, cond}
 use mathlib.Core.List.{List, [], _∷_, map}
 use lib.ListN.{length, getD, take}
 use lib.Dec.{leb, ltb, eqb}
-use lib.Ieee.{Float}
-use Rattle.rules.specs.declared.Kind.{Kind}
 use Rattle.rules.specs.declared.Kind.the-variants.{Leaf, Split}
 use Rattle.rules.specs.declared.Node.{Node}
 use Rattle.rules.specs.declared.Reply.{Reply}
 use Rattle.rules.specs.declared.NodeReply.{NodeReply}
 use Rattle.rules.specs.Words.{from, every, along}
 use Rattle.rules.specs.Lent.{Columns, Row, shortest, rowAt, rowsAt}
-use Rattle.rules.specs.Checks.{test, firstFailed, featuresIn, treesIn}
+use Rattle.rules.specs.Checks.{Test, test, firstFailed, featuresIn, treesIn}
 use Rattle.rules.specs.Listing.{replies}
 
 -- ---- one tree
@@ -38,8 +36,11 @@ goodTree features rs = ltb 0 (length rs) && goodFrom features (length rs) 0 rs
 unfoldable pub treeIn : Columns → List Row
 treeIn c = rowsAt c 0 (shortest c)
 
+unfoldable pub treeTableTests : ℕ → Columns → List Test
+treeTableTests features c = test 1 (featuresIn features) ∷ test 8 (goodTree features (treeIn c)) ∷ []
+
 unfoldable pub checkTree : ℕ → Columns → Reply
-checkTree features c = replies (firstFailed (test 1 (featuresIn features) ∷ test 8 (goodTree features (treeIn c)) ∷ []))
+checkTree features c = replies (firstFailed (treeTableTests features c))
 
 -- ---- a forest: its trees lie one after another
 
@@ -58,13 +59,16 @@ treesAt c starts trees = map (treeAt c starts) (from 0 trees)
 unfoldable pub goodForest : ℕ → ℕ → Columns → List ℕ → Bool
 goodForest features trees c starts = startsGood trees starts (shortest c) && every (goodTree features) (treesAt c starts trees)
 
-unfoldable pub checkForest : ℕ → ℕ → Columns → List ℕ → Reply
-checkForest features trees c starts =
-    replies (firstFailed (
+unfoldable pub forestTableTests : ℕ → ℕ → Columns → List ℕ → List Test
+forestTableTests features trees c starts =
     test 1 (featuresIn features && treesIn trees)
     ∷ test 6 (leb (suc trees) (length starts))
     ∷ test 8 (goodForest features trees c starts)
-    ∷ []))
+    ∷ []
+
+unfoldable pub checkForest : ℕ → ℕ → Columns → List ℕ → Reply
+checkForest features trees c starts =
+    replies (firstFailed (forestTableTests features trees c starts))
 
 -- ---- a node read out
 
@@ -81,7 +85,8 @@ nodeRead zero n = NodeReply.Read n
 nodeRead (suc k) n = NodeReply.Refused (suc k)
 
 -- 8 too if the tree has no such node
+unfoldable pub nodeTests : ℕ → Columns → ℕ → List Test
+nodeTests features c k = test 1 (featuresIn features) ∷ test 8 (ltb k (shortest c) && goodRow features (shortest c) k (rowAt c k)) ∷ []
+
 unfoldable pub readNode : ℕ → Columns → ℕ → NodeReply
-readNode features c k =
-    nodeRead (firstFailed (test 1 (featuresIn features) ∷ test 8 (ltb k (shortest c) && goodRow features (shortest c) k (rowAt c k)) ∷ []))
-    (nodeOf (rowAt c k))
+readNode features c k = nodeRead (firstFailed (nodeTests features c k)) (nodeOf (rowAt c k))

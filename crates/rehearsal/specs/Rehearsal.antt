@@ -1,11 +1,11 @@
 -- The rehearsal table: P1 to P10, with P1's importances and node rooms, over the whole calls, rooms included. One list and one theorem, by computation.
 -- Beside it the two corners of the threshold. Assumes nothing.
-use Prim.Native.Nat.{ℕ, zero, suc, _+_, _-_, _*_}
+use Prim.Native.Nat.{ℕ}
 use mathlib.Core.Path.{_≡_, refl}
 use mathlib.Core.Bool.{Bool, true, false}
 use mathlib.Core.List.{List, [], _∷_, _++_, map}
 use lib.ListN.{length, replicate}
-use lib.IntN.{ℤ, pos, negsuc}
+use lib.IntN.{negsuc}
 use lib.Ieee.{Float, nan, binary64, add, sub, mul, div, lt, le, eq, isNan, ofInt, ofBits}
 use Rattle.rules.specs.declared.Splitter.the-variants.{Best}
 use Rattle.rules.specs.declared.Depth.{Depth}
@@ -26,7 +26,7 @@ use Rattle.rules.specs.Search.{at, totals, goesTrue, better, judge, runOn, step
 use Rattle.rules.specs.Growth.{child, leafOf, splitting, splitOf, withChildren, asked, joins, runs, ask, expand, grow, growAll, fromRoot}
 use Rattle.rules.specs.Fit.{massOf, targetOf, valuesOf, listing, element, column, root, treeOf, rooted, fit, rowOf, rows, limitOf, paramsOf, TreeCall, frameOf, grownTree, treeTests, treeDone, treeEnds, fitTree}
 use Rattle.rules.specs.Table.{leafRow, goodRow, goodFrom, goodTree, treeIn, startsGood, treeAt, treesAt, goodForest}
-use Rattle.rules.specs.Reading.{onto, walked, leafValue, reads, addTrees, meanOf, scored, addScores, sumFrom, dividedIf, normalised, scoresOf, scaled, treeImportances}
+use Rattle.rules.specs.Reading.{onto, walked, leafValue, reads, addTrees, meanOf, scored, addScores, sumFrom, dividedIf, normalised, scoresOf, scaled, treeWeighTests, treeImportances}
 use Rattle.rules.specs.Forest.{ForestCall, squares, triedOf, part, frameAt, frames, joined, planted, plant, grownForest, startsFrom, forestRows, forestTests, forestDone, forestEnds, fitForest}
 use Rattle.rules.specs.OutOfBag.{outTrees, outOfBagMean, outTests, outOfBagMeans}
 
@@ -48,7 +48,7 @@ abbrev pub flat : Waits (List ℕ)
 flat = record { places = λ l. length l; zeroed = λ l. map (λ _. 0) l }
 
 unfoldable pub run : Call → Seen
-unfolding from putIf keep every alongFrom along total member fresh eachOnce takeIn less valueOf massless gap proxy score midpoint threshold valuesAt listingAt unweighted rowsAt firstFailed within lengths goodCuts goodWeight numbersGood countsGood countsOne countOf kept keptRows asks workEnough reportsExact neverFalls goodListing listingsGood bind takeWords takeThreshold nextThreshold tape at totals goesTrue better judge runOn step walk bestIn final drawn drawIn randomIn tryOne tryAll search child leafOf splitting splitOf withChildren asked joins runs ask expand grow growAll fromRoot massOf targetOf valuesOf listing element column root treeOf rooted fit rowOf rows limitOf paramsOf frameOf grownTree treeTests treeDone treeEnds fitTree leafRow goodRow goodFrom goodTree treeIn startsGood treeAt treesAt goodForest onto walked leafValue reads addTrees meanOf scored addScores sumFrom dividedIf normalised scoresOf scaled treeImportances squares triedOf part frameAt frames joined planted plant grownForest startsFrom forestRows forestTests forestDone forestEnds fitForest outTrees outOfBagMean outTests outOfBagMeans add sub mul div lt le eq isNan ofInt ofBits
+unfolding from putIf keep every alongFrom along total member fresh eachOnce takeIn less valueOf massless gap proxy score midpoint threshold valuesAt listingAt unweighted rowsAt firstFailed within lengths goodCuts goodWeight numbersGood countsGood countsOne countOf kept keptRows asks workEnough reportsExact neverFalls goodListing listingsGood bind takeWords takeThreshold nextThreshold tape at totals goesTrue better judge runOn step walk bestIn final drawn drawIn randomIn tryOne tryAll search child leafOf splitting splitOf withChildren asked joins runs ask expand grow growAll fromRoot massOf targetOf valuesOf listing element column root treeOf rooted fit rowOf rows limitOf paramsOf frameOf grownTree treeTests treeDone treeEnds fitTree leafRow goodRow goodFrom goodTree treeIn startsGood treeAt treesAt goodForest onto walked leafValue reads addTrees meanOf scored addScores sumFrom dividedIf normalised scoresOf scaled treeWeighTests treeImportances squares triedOf part frameAt frames joined planted plant grownForest startsFrom forestRows forestTests forestDone forestEnds fitForest outTrees outOfBagMean outTests outOfBagMeans add sub mul div lt le eq isNan ofInt ofBits
 run (fits C R) = fitted (fitTree flat C R)
 run (weighs by C R out) = read (treeImportances (C .shape .features) by (fitTree flat C R .rooms .nodes) out)
 run (bags C R out) =
