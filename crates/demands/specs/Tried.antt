@@ -1,5 +1,5 @@
--- The number of features that a forest tries where none is given is the floor of the root of their number: its square is at most that, and the next square above it.
--- By `root-unique` of floats it is the one such number. Assumes nothing.
+-- The number of features that a forest tries where none is given is the floor of the root of their number: its square is at most that, the next square is above it,
+-- and no other number is so. Assumes nothing.
 use Prim.Native.Nat.{ℕ, zero, suc, _+_, _*_, _<_, _≤_}
 use native.Mathlib.Nat.{zero-add, mul-le-mul}
 use native.Mathlib.Omega.{arith}
@@ -8,11 +8,15 @@ use mathlib.Core.Logic.{_⊎_, inl, inr}
 use mathlib.Core.Bool.{Bool, true, false, not, cond}
 use mathlib.Core.List.{[], _∷_, map}
 use lib.Dec.{T, leb, leb→le, nleb→lt}
+use Rattle.floats.specs.Root.{root-unique}
 use Rattle.rules.specs.declared.Tried.the-variants.{Root}
 use Rattle.rules.specs.Forest.{squares, triedOf}
 
+abbrev IsRoot : ℕ → ℕ → Type 0
+IsRoot n s = (s * s ≤ n) × (n < (s + 1) * (s + 1))
+
 abbrev pub FloorOfRoot : Type 0
-FloorOfRoot = (n : ℕ) → (triedOf n Root * triedOf n Root ≤ n) × (n < (triedOf n Root + 1) * (triedOf n Root + 1))
+FloorOfRoot = (n : ℕ) → IsRoot n (triedOf n Root) × ((s : ℕ) → IsRoot n s → s ≡ triedOf n Root)
 
 -- of the first k numbers: all their squares are at most n, or the next one's is above it
 abbrev Upto : ℕ → ℕ → ℕ → Type 0
@@ -53,14 +57,14 @@ upto n (suc k) = go (leb (suc k * suc k) n) (λ t. leb→le (suc k * suc k) n t)
         more : (s k : ℕ) → s ≤ k → s ≤ suc k
         more s k h = omega arith
 
-pub tried-root : FloorOfRoot
+is-root : (n : ℕ) → IsRoot n (triedOf n Root)
 unfolding triedOf
-tried-root n = go (upto n n)
+is-root n = go (upto n n)
   where
     s : ℕ
     s = squares n n
 
-    go : Upto n n s → (s * s ≤ n) × (n < (s + 1) * (s + 1))
+    go : Upto n n s → IsRoot n s
     go (a, b, inl q) = (a, big n s q (mul-le-mul (one-up s) (at-least s)))
       where
         one-up : (s : ℕ) → s + 1 ≤ s + 1
@@ -72,6 +76,9 @@ tried-root n = go (upto n n)
         big : (n s : ℕ) → s ≡ n → (s + 1) * 1 ≤ (s + 1) * (s + 1) → n < (s + 1) * (s + 1)
         big n s q h = omega arith
     go (a, b, inr l) = (a, l)
+
+pub tried-root : FloorOfRoot
+tried-root n = (is-root n, λ s h. root-unique n s (triedOf n Root) (h .0) (h .1) (is-root n .0) (is-root n .1))
 
 -- the paper's examples
 pub tried-examples : map (λ n. triedOf n Root) (1 ∷ 3 ∷ 4 ∷ 8 ∷ 9 ∷ 1024 ∷ []) ≡ 1 ∷ 1 ∷ 2 ∷ 2 ∷ 3 ∷ 32 ∷ []
