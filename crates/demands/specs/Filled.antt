@@ -18,22 +18,22 @@ use Rattle.laws.specs.Answered.{tree-answered, tree-listed, forest-answered, tr
 
 abbrev pub TreeFilled : Type 1
 TreeFilled =
-    (W : Type 0) (K : Waits W) (C : TreeCall) (R : TreeRooms W) (r : Report) → Binary64 (C .given .measured .values) → fitTree K C R .answer ≡ TreeAnswer.Grown r
+    (W : Type 0) (K : Waits W) (C : TreeCall) (R : TreeRooms W) (r : Report) → Binary64 (C .given .inputs .values) → fitTree K C R .answer ≡ TreeAnswer.Grown r
     → (t : Tree) → grownTree C ≡ ok t → Stands (frameOf C .params) (t .nodes)
 
 abbrev pub ForestFilled : Type 1
 ForestFilled =
-    (W : Type 0) (K : Waits W) (C : ForestCall) (R : ForestRooms W) (h : fitForest K C R .answer ≡ ForestAnswer.Grown) → Binary64 (C .given .measured .values)
+    (W : Type 0) (K : Waits W) (C : ForestCall) (R : ForestRooms W) (h : fitForest K C R .answer ≡ ForestAnswer.Grown) → Binary64 (C .given .inputs .values)
     → Every (λ (t : Tree). Stands (paramsOf (C .settings) (triedOf (C .shape .features) (C .tried)) (C .shape .features)) (t .nodes)) (forest-answered K C R h .trees)
 
 pub tree-filled : TreeFilled
 unfolding grownTree
 tree-filled W K C R r held h t e =
-    then-of (λ (u : Tree). Stands (frameOf C .params) (u .nodes)) (fit (frameOf C) (C .given .measured)) t e
-    (fit-stands (frameOf C) (C .given .measured) (tree-listed K C R held (tree-answered K C R r h .passed) .0))
+    then-of (λ (u : Tree). Stands (frameOf C .params) (u .nodes)) (fit (frameOf C) (C .given .inputs)) t e
+    (fit-stands (frameOf C) (C .given .inputs) (tree-listed K C R held (tree-answered K C R r h .passed) .0))
 
 pub forest-filled : ForestFilled
 unfolding frameAt
 forest-filled W K C R h held =
     trees-each K C R (forest-answered K C R h) (λ (t : Tree). Stands (paramsOf (C .settings) (triedOf (C .shape .features) (C .tried)) (C .shape .features)) (t .nodes)) held
-    (λ t l. fit-stands (frameAt C t) (C .given .measured) l)
+    (λ t l. fit-stands (frameAt C t) (C .given .inputs) l)

@@ -19,8 +19,8 @@ use Rattle.rules.specs.declared.Totals.{Totals}
 use Rattle.rules.specs.declared.TreeAnswer.{TreeAnswer}
 use Rattle.rules.specs.Words.{nought, float, from, keep}
 use Rattle.rules.specs.Totals.{empty, takeIn}
-use Rattle.rules.specs.Lent.{Data, Given, Frame, Waits, TreeRooms, unweighted}
-use Rattle.rules.specs.Checks.{firstFailed, goodWeight, countOf, kept}
+use Rattle.rules.specs.Lent.{Data, Given, Frame, Waits, TreeRooms, unweighted, countOf, kept}
+use Rattle.rules.specs.Checks.{firstFailed, goodWeight}
 use Rattle.rules.specs.Draws.{Out, bad, ok}
 use Rattle.rules.specs.Search.{totals}
 use Rattle.rules.specs.Fit.{massOf, targetOf, valuesOf, listing, element, column, root, Tree, rooted, fit, TreeCall, frameOf, grownTree, treeTests, treeDone, treeEnds, fitTree}
@@ -42,7 +42,7 @@ over C E =
       shape = C .shape;
       settings = C .settings;
       tried = C .tried;
-      given = record { measured = E; weights = C .given .weights; counts = C .given .counts };
+      given = record { inputs = E; weights = C .given .weights; counts = C .given .counts };
       words = C .words;
       thresholds = C .thresholds;
     }
@@ -61,7 +61,7 @@ pub record SameFit {W : Type 0} (K : Waits W) (C C′ : TreeCall) (R R′ : Tree
 
 abbrev pub Demand3 : Type 1
 Demand3 =
-    (W : Type 0) (K : Waits W) (C : TreeCall) (E : Data) (R R′ : TreeRooms W) → Alike (frameOf C) (C .given .measured) E
+    (W : Type 0) (K : Waits W) (C : TreeCall) (E : Data) (R R′ : TreeRooms W) → Alike (frameOf C) (C .given .inputs) E
     → Unrefused (fitTree K C R .answer) → Unrefused (fitTree K (over C E) R′ .answer) → SameFit K C (over C E) R R′
 
 -- ---- a left-out row adds a zero
@@ -187,11 +187,11 @@ module _ (F : Frame) (D E : Data) (d : Accepted F D) (e : Accepted F E) (like : 
 -- ---- over the call
 
 -- passed checks accept
-pub accepted : (S : Shape) (trees : ℕ) (G : Given) → Passed S trees G → (F : Frame) → Framed S G F → Accepted F (G .measured)
+pub accepted : (S : Shape) (trees : ℕ) (G : Given) → Passed S trees G → (F : Frame) → Framed S G F → Accepted F (G .inputs)
 unfolding targetOf countOf goodWeight
 accepted S trees G p F f =
     record {
-      targets = λ i h. every-at _ (G .measured .targets) nan i (p .targetsFinite) (subst (λ n. i < n) (sym (p .targetsLong)) (below i h));
+      targets = λ i h. every-at _ (G .inputs .targets) nan i (p .targetsFinite) (subst (λ n. i < n) (sym (p .targetsLong)) (below i h));
       weights = λ u i h. subst (λ ws. T (finite (getD ws i nan)) × (lt (getD ws i nan) nought ≡ false)) (sym (f .weightsSame)) (weigh i (below i h) (ap unweighted (sym (f .weightsSame)) ∙ u));
       counts = λ i h. leb→le (getD (F .counts) i 0) 65535 (every-or _ (F .counts) 0 i (f .low) tt);
     }
@@ -249,7 +249,7 @@ demand3 W K C E R R′ like h h′ =
     same =
         let p = tree-passed K C R q .0 in
         let p′ = tree-passed K (over C E) R′ q′ .0 in
-        fit-same (frameOf C) (C .given .measured) E
+        fit-same (frameOf C) (C .given .inputs) E
         (accepted (C .shape) 1 (C .given) p (frameOf C) (tree-framed C p))
         (accepted (C .shape) 1 (over C E .given) p′ (frameOf C) (tree-framed (over C E) p′))
         like

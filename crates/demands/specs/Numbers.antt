@@ -20,12 +20,12 @@ use Rattle.rules.specs.declared.ForestAnswer.{ForestAnswer}
 use Rattle.rules.specs.Words.{eachOnce, from}
 use Rattle.rules.specs.Totals.{empty, takeIn}
 use Rattle.rules.specs.Lent.{Data, Frame, Waits, TreeRooms, ForestRooms, shortest}
-use Rattle.rules.specs.Checks.{asks}
+use Rattle.rules.specs.Checks.{roomFor}
 use Rattle.rules.specs.Draws.{Out, Tapes, takeWords, takeThreshold, nextThreshold, tape}
 use Rattle.rules.specs.Search.{Column, at, totals, Task, same, final, Tries, drawIn, randomIn, tryOne, tryAll, Found, search}
-use Rattle.rules.specs.Growth.{Waiting, State, child, withChildren, asked, ask, expand, fromRoot}
+use Rattle.rules.specs.Growth.{Waiting, State, child, withChildren, searchable, searchIf, expand, fromRoot}
 use Rattle.rules.specs.Fit.{massOf, targetOf, element, root, Tree, treeOf, rooted, fit, paramsOf, TreeCall, frameOf, fitTree}
-use Rattle.rules.specs.Forest.{ForestCall, frameAt, frames, forestRows, fitForest}
+use Rattle.rules.specs.Forest.{ForestCall, frameAt, frames, forestEntries, fitForest}
 use Rattle.laws.specs.Lists.{Every}
 use Rattle.laws.specs.Once.{once-length}
 use Rattle.laws.specs.Outs.{Then, then-then, then-any, then-after, then-of}
@@ -48,7 +48,7 @@ RootByNumber = (F : Frame) (D : Data) → root F D .totals ≡ totalsTo F D (F .
 abbrev pub RootMass : Type 1
 RootMass =
     (W : Type 0) (K : Waits W) (C : TreeCall) (R : TreeRooms W) (r : Report) → fitTree K C R .answer ≡ TreeAnswer.Grown r
-    → r .mass ≡ totalsTo (frameOf C) (C .given .measured) (C .shape .rows) .mass
+    → r .mass ≡ totalsTo (frameOf C) (C .given .inputs) (C .shape .rows) .mass
 
 -- of a tree that reports r, over so many features
 pub record Counted (features : ℕ) (r : Report) : Type 0 where
@@ -60,8 +60,8 @@ TreeNumbers = (W : Type 0) (K : Waits W) (C : TreeCall) (R : TreeRooms W) (r : R
 
 abbrev pub TreeRoom : Type 1
 TreeRoom =
-    (W : Type 0) (K : Waits W) (C : TreeCall) (R : TreeRooms W) (r : Report) → Binary64 (C .given .measured .values) → fitTree K C R .answer ≡ TreeAnswer.Grown r
-    → (r .nodes ≤ asks (frameOf C)) × (asks (frameOf C) ≤ shortest (R .nodes))
+    (W : Type 0) (K : Waits W) (C : TreeCall) (R : TreeRooms W) (r : Report) → Binary64 (C .given .inputs .values) → fitTree K C R .answer ≡ TreeAnswer.Grown r
+    → (r .nodes ≤ roomFor (frameOf C)) × (roomFor (frameOf C) ≤ shortest (R .nodes))
 
 abbrev pub ForestNumbers : Type 1
 ForestNumbers =
@@ -70,8 +70,8 @@ ForestNumbers =
 
 abbrev pub ForestRoom : Type 1
 ForestRoom =
-    (W : Type 0) (K : Waits W) (C : ForestCall) (R : ForestRooms W) (h : fitForest K C R .answer ≡ ForestAnswer.Grown) → Binary64 (C .given .measured .values)
-    → length (forestRows (forest-answered K C R h .trees)) ≤ shortest (R .nodes)
+    (W : Type 0) (K : Waits W) (C : ForestCall) (R : ForestRooms W) (h : fitForest K C R .answer ≡ ForestAnswer.Grown) → Binary64 (C .given .inputs .values)
+    → length (forestEntries (forest-answered K C R h .trees)) ≤ shortest (R .nodes)
 
 -- ---- the root
 
@@ -93,8 +93,8 @@ unfolding fit rooted treeOf frameOf
 root-mass W K C R r h =
     let a : TreeAnswered K C R r = tree-answered K C R r h in
     ap (λ (x : Report). x .mass) (sym (a .reported))
-    ∙ then-of (λ (t : Tree). t .report .mass ≡ root (frameOf C) (C .given .measured) .totals .mass) (fit (frameOf C) (C .given .measured)) (a .tree) (a .grew) (then-any _ _ _ (λ s. refl))
-    ∙ ap (λ (t : Totals). t .mass) (root-by-number (frameOf C) (C .given .measured))
+    ∙ then-of (λ (t : Tree). t .report .mass ≡ root (frameOf C) (C .given .inputs) .totals .mass) (fit (frameOf C) (C .given .inputs)) (a .tree) (a .grew) (then-any _ _ _ (λ s. refl))
+    ∙ ap (λ (t : Totals). t .mass) (root-by-number (frameOf C) (C .given .inputs))
 
 -- ---- a search takes `features` choice words, and counts itself
 
@@ -182,10 +182,10 @@ module _ (P : Params) where
   abbrev choose : Tapes → Task → Out (Found × Tapes)
   choose d task = search (tape (P .features)) P d task
 
-  ask-spends : (b : Bool) (n level : ℕ) (task : Task) (d : Tapes) → Then (ask P choose b n level task d) (λ r. Spends d (r .1))
-  unfolding ask
-  ask-spends false n level task d = (refl, omega arith)
-  ask-spends true n level task d = then-then (search (tape (P .features)) P d task) _ _ _ (search-spends d task) (λ r h. h)
+  searchIf-spends : (b : Bool) (n level : ℕ) (task : Task) (d : Tapes) → Then (searchIf P choose b n level task d) (λ r. Spends d (r .1))
+  unfolding searchIf
+  searchIf-spends false n level task d = (refl, omega arith)
+  searchIf-spends true n level task d = then-then (search (tape (P .features)) P d task) _ _ _ (search-spends d task) (λ r h. h)
 
   -- the words that were there, and no more searches than nodes
   abbrev Spent : ℕ → State Tapes → Type 0
@@ -194,8 +194,8 @@ module _ (P : Params) where
   expand-spent : (words : ℕ) (w : Waiting) (ws : List Waiting) (s : State Tapes) → w .level < P .limit → Spent words s → Then (expand P choose w s) (λ r. Spent words (r .1))
   unfolding expand
   expand-spent words w ws s b h =
-      then-then (ask P choose (asked P (suc (w .level)) (child same w)) (length (s .nodes)) (suc (w .level)) (child same w) (s .left)) _ _ _ (ask-spends _ _ _ _ _)
-      (λ t ht. then-then (ask P choose (asked P (suc (w .level)) (child not w)) (suc (length (s .nodes))) (suc (w .level)) (child not w) (t .1)) _ _ _ (ask-spends _ _ _ _ _)
+      then-then (searchIf P choose (searchable P (suc (w .level)) (child same w)) (length (s .nodes)) (suc (w .level)) (child same w) (s .left)) _ _ _ (searchIf-spends _ _ _ _ _)
+      (λ t ht. then-then (searchIf P choose (searchable P (suc (w .level)) (child not w)) (suc (length (s .nodes))) (suc (w .level)) (child not w) (t .1)) _ _ _ (searchIf-spends _ _ _ _ _)
       (λ f hf. (
         hf .0 ∙ ht .0 ∙ h .0,
         two (f .1 .searches) (t .1 .searches) (s .left .searches) (length (s .nodes)) (length (withChildren w (s .nodes))) (hf .1) (ht .1) (h .1) (children-length w (s .nodes)),
@@ -207,7 +207,7 @@ module _ (P : Params) where
   growth-spent : (task : Task) (d : Tapes) → d .searches ≡ 0 → Then (fromRoot P choose task d) (λ s. Spent (length (d .words)) s)
   growth-spent task d z =
       root-keep P choose (λ ws s. Spent (length (d .words)) s) (λ w ws s. expand-spent (length (d .words)) w ws s) task d
-      (then-after (ask P choose (ltb 0 (task .count) && asked P 1 task) 0 1 task d) _ _ (ask-spends _ 0 1 task d)
+      (then-after (searchIf P choose (ltb 0 (task .count) && searchable P 1 task) 0 1 task d) _ _ (searchIf-spends _ 0 1 task d)
       (λ r q. (q .0 ∙ none-yet (length (d .words)) (P .features * d .searches) (ap (λ n. P .features * n) z ∙ mul-zero (P .features)), at-most (r .1 .searches) (d .searches) (q .1) z)))
     where
       none-yet : (a b : ℕ) → b ≡ 0 → a + b ≡ a
@@ -231,14 +231,14 @@ pub tree-numbers : TreeNumbers
 unfolding frameOf paramsOf
 tree-numbers W K C R r h =
     let a : TreeAnswered K C R r = tree-answered K C R r h in
-    subst (Counted (C .shape .features)) (a .reported) (then-of (λ t. Counted (C .shape .features) (t .report)) (fit (frameOf C) (C .given .measured)) (a .tree) (a .grew) (fit-counted (frameOf C) (C .given .measured)))
+    subst (Counted (C .shape .features)) (a .reported) (then-of (λ t. Counted (C .shape .features) (t .report)) (fit (frameOf C) (C .given .inputs)) (a .tree) (a .grew) (fit-counted (frameOf C) (C .given .inputs)))
 
 pub tree-room : TreeRoom
 tree-room W K C R r held h =
     let a : TreeAnswered K C R r = tree-answered K C R r h in
     let (l, some) = tree-listed K C R held (a .passed) in (
-      subst (λ n. n ≤ asks (frameOf C)) (sym (reported-nodes C (a .tree) (a .grew)) ∙ ap (λ (x : Report). x .nodes) (a .reported))
-          (then-of (λ t. length (t .nodes) ≤ asks (frameOf C)) (fit (frameOf C) (C .given .measured)) (a .tree) (a .grew) (fit-nodes (frameOf C) (C .given .measured) l some)),
+      subst (λ n. n ≤ roomFor (frameOf C)) (sym (reported-nodes C (a .tree) (a .grew)) ∙ ap (λ (x : Report). x .nodes) (a .reported))
+          (then-of (λ t. length (t .nodes) ≤ roomFor (frameOf C)) (fit (frameOf C) (C .given .inputs)) (a .tree) (a .grew) (fit-nodes (frameOf C) (C .given .inputs) l some)),
       tree-passed K C R (a .passed) .1,
     )
 
@@ -246,11 +246,11 @@ pub forest-numbers : ForestNumbers
 unfolding frames frameAt paramsOf
 forest-numbers W K C R h =
     let a : ForestAnswered K C R = forest-answered K C R h in
-    grew-each (λ t. Counted (C .shape .features) (t .report)) (frames C) (C .given .measured) (a .trees) (a .grew) (counted (from 0 (C .trees)))
+    grew-each (λ t. Counted (C .shape .features) (t .report)) (frames C) (C .given .inputs) (a .trees) (a .grew) (counted (from 0 (C .trees)))
   where
-    counted : (l : List ℕ) → Every (λ F. Then (fit F (C .given .measured)) (λ t. Counted (C .shape .features) (t .report))) (map (frameAt C) l)
+    counted : (l : List ℕ) → Every (λ F. Then (fit F (C .given .inputs)) (λ t. Counted (C .shape .features) (t .report))) (map (frameAt C) l)
     counted [] = tt
-    counted (t ∷ l) = (fit-counted (frameAt C t) (C .given .measured), counted l)
+    counted (t ∷ l) = (fit-counted (frameAt C t) (C .given .inputs), counted l)
 
 pub forest-room-enough : ForestRoom
 forest-room-enough W K C R h held = forest-room K C R (forest-answered K C R h) held

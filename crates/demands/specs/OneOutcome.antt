@@ -14,7 +14,7 @@ use Rattle.rules.specs.declared.NodeReply.{NodeReply}
 use Rattle.rules.specs.Lent.{Columns, Waits, TreeRooms, ForestRooms, Outcome}
 use Rattle.rules.specs.Listing.{checkListings}
 use Rattle.rules.specs.Fit.{TreeCall, fitTree}
-use Rattle.rules.specs.Table.{checkTree, checkForest, readNode}
+use Rattle.rules.specs.Table.{checkTree, ForestTable, checkForest, readNode}
 use Rattle.rules.specs.Reading.{predictTree, forestMeans, treeImportances, forestImportances}
 use Rattle.rules.specs.Forest.{ForestCall, fitForest}
 use Rattle.rules.specs.OutOfBag.{outOfBagMeans, outOfBagError}
@@ -25,14 +25,14 @@ module _ {W : Type 0} (K : Waits W) where
     fits-tree : TreeCall → TreeRooms W → PublicCall
     fits-forest : ForestCall → ForestRooms W → PublicCall
     predicts : Shape → List Float → Columns → List Float → PublicCall
-    means : Shape → ℕ → List Float → Columns → List ℕ → List Float → PublicCall
-    out-of-bag : Shape → ℕ → List Float → List ℕ → Columns → List ℕ → List Float → PublicCall
+    means : Shape → List Float → ForestTable → List Float → PublicCall
+    out-of-bag : Shape → List Float → List ℕ → ForestTable → List Float → PublicCall
     errs-by : ℕ → List Float → List Float → PublicCall
     tree-weighs : ℕ → Scale → Columns → List Float → PublicCall
-    forest-weighs : ℕ → ℕ → Columns → List ℕ → List Float → PublicCall
+    forest-weighs : ℕ → ForestTable → List Float → PublicCall
     checks-listings : Shape → List Float → List ℕ → PublicCall
     checks-tree : ℕ → Columns → PublicCall
-    checks-forest : ℕ → ℕ → Columns → List ℕ → PublicCall
+    checks-forest : ℕ → ForestTable → PublicCall
     reads-node : ℕ → Columns → ℕ → PublicCall
 
   -- what a call leaves, of which kind and which
@@ -40,28 +40,28 @@ module _ {W : Type 0} (K : Waits W) where
   Left (fits-tree C R) = Outcome TreeAnswer (TreeRooms W)
   Left (fits-forest C R) = Outcome ForestAnswer (ForestRooms W)
   Left (predicts S xs c out) = Outcome Reply (List Float)
-  Left (means S trees xs c starts out) = Outcome Reply (List Float)
-  Left (out-of-bag S trees xs counts c starts out) = Outcome Reply (List Float)
+  Left (means S xs T out) = Outcome Reply (List Float)
+  Left (out-of-bag S xs counts T out) = Outcome Reply (List Float)
   Left (errs-by rows ys ms) = ErrorReply
   Left (tree-weighs features by c out) = Outcome Reply (List Float)
-  Left (forest-weighs features trees c starts out) = Outcome Reply (List Float)
+  Left (forest-weighs features T out) = Outcome Reply (List Float)
   Left (checks-listings S xs ls) = Reply
   Left (checks-tree features c) = Reply
-  Left (checks-forest features trees c starts) = Reply
+  Left (checks-forest features T) = Reply
   Left (reads-node features c k) = NodeReply
 
   abbrev pub leaves : (c : PublicCall) → Left c
   leaves (fits-tree C R) = fitTree K C R
   leaves (fits-forest C R) = fitForest K C R
   leaves (predicts S xs c out) = predictTree S xs c out
-  leaves (means S trees xs c starts out) = forestMeans S trees xs c starts out
-  leaves (out-of-bag S trees xs counts c starts out) = outOfBagMeans S trees xs counts c starts out
+  leaves (means S xs T out) = forestMeans S xs T out
+  leaves (out-of-bag S xs counts T out) = outOfBagMeans S xs counts T out
   leaves (errs-by rows ys ms) = outOfBagError rows ys ms
   leaves (tree-weighs features by c out) = treeImportances features by c out
-  leaves (forest-weighs features trees c starts out) = forestImportances features trees c starts out
+  leaves (forest-weighs features T out) = forestImportances features T out
   leaves (checks-listings S xs ls) = checkListings S xs ls
   leaves (checks-tree features c) = checkTree features c
-  leaves (checks-forest features trees c starts) = checkForest features trees c starts
+  leaves (checks-forest features T) = checkForest features T
   leaves (reads-node features c k) = readNode features c k
 
   -- a contract allows what is equal to the definition's value

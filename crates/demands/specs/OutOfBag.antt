@@ -14,20 +14,20 @@ use lib.Ieee.Fits.{and-i}
 use Rattle.rules.specs.declared.ForestAnswer.{ForestAnswer}
 use Rattle.rules.specs.declared.Reply.{Reply}
 use Rattle.rules.specs.Words.{nought, from, putIf}
-use Rattle.rules.specs.Lent.{Waits, ForestRooms, Outcome, valuesAt, unweighted}
-use Rattle.rules.specs.Checks.{firstFailed, countOf, kept}
+use Rattle.rules.specs.Lent.{Waits, ForestRooms, Outcome, valuesAt, unweighted, countOf, kept}
+use Rattle.rules.specs.Checks.{firstFailed}
 use Rattle.rules.specs.Draws.{Out, bad, ok}
-use Rattle.rules.specs.Fit.{targetOf, valuesOf, listing, Tree, fit, rows}
-use Rattle.rules.specs.Table.{treesAt}
+use Rattle.rules.specs.Fit.{targetOf, valuesOf, listing, Tree, fit, entries}
+use Rattle.rules.specs.Table.{treesOf}
 use Rattle.rules.specs.Reading.{meanOf, reads}
 use Rattle.rules.specs.Forest.{ForestCall, frameAt, frames, startsFrom, fitForest}
 use Rattle.rules.specs.OutOfBag.{outTrees, outOfBagMean, outTests, outOfBagMeans}
 use Rattle.laws.specs.Lists.{getD-from}
-use Rattle.laws.specs.Passed.{goes-on, none-fails, Passed, Planted, forest-framed, Binary64}
+use Rattle.laws.specs.Passed.{goes-on, none-fails, Passed, ForestPassed, forest-framed, Binary64}
 use Rattle.laws.specs.Written.{tables, trees-written, front-length, starts-length}
-use Rattle.laws.specs.Answered.{Grew, ForestAnswered, forest-answered, planted-right, trees-length}
+use Rattle.laws.specs.Answered.{Grew, ForestAnswered, forest-answered, forest-right, trees-length}
 use Rattle.demands.specs.LeftOut.{accepted, fit-same}
-use Rattle.demands.specs.Walks.{forest-good}
+use Rattle.demands.specs.Walks.{tableOf, forest-good}
 
 -- ---- the statement
 
@@ -40,7 +40,7 @@ retarget C ys =
       settings = C .settings;
       tried = C .tried;
       given = record {
-        measured = record { values = C .given .measured .values; targets = ys; listings = C .given .measured .listings };
+        inputs = record { values = C .given .inputs .values; targets = ys; listings = C .given .inputs .listings };
         weights = C .given .weights;
         counts = C .given .counts;
       };
@@ -57,7 +57,7 @@ ButOne i ys zs = (k : ℕ) → k ≢ i → getD ys k nan ≡ getD zs k nan
 -- the out-of-bag means of a fit's own table, counts and features
 abbrev pub ownMeans : {W : Type 0} → Waits W → ForestCall → ForestRooms W → List Float → Outcome Reply (List Float)
 ownMeans K C R out =
-    outOfBagMeans (C .shape) (C .trees) (C .given .measured .values) (C .given .counts) (fitForest K C R .rooms .nodes) (fitForest K C R .rooms .starts) out
+    outOfBagMeans (C .shape) (C .given .inputs .values) (C .given .counts) (tableOf C (fitForest K C R .rooms)) out
 
 pub record SameMean (i : ℕ) (m m′ : Outcome Reply (List Float)) : Type 0 where
   pub done : m .answer ≡ Reply.Done
@@ -66,8 +66,8 @@ pub record SameMean (i : ℕ) (m m′ : Outcome Reply (List Float)) : Type 0 whe
 
 abbrev pub OwnTarget : Type 1
 OwnTarget =
-    (W : Type 0) (K : Waits W) (C : ForestCall) (ys : List Float) (i : ℕ) → i < C .shape .rows → ButOne i (C .given .measured .targets) ys
-    → Binary64 (C .given .measured .values) → (R R′ : ForestRooms W) → fitForest K C R .answer ≡ ForestAnswer.Grown → fitForest K (retarget C ys) R′ .answer ≡ ForestAnswer.Grown
+    (W : Type 0) (K : Waits W) (C : ForestCall) (ys : List Float) (i : ℕ) → i < C .shape .rows → ButOne i (C .given .inputs .targets) ys
+    → Binary64 (C .given .inputs .values) → (R R′ : ForestRooms W) → fitForest K C R .answer ≡ ForestAnswer.Grown → fitForest K (retarget C ys) R′ .answer ≡ ForestAnswer.Grown
     → (out out′ : List Float) → length out ≡ C .shape .rows → length out′ ≡ C .shape .rows
     → SameMean i (ownMeans K C R out) (ownMeans K (retarget C ys) R′ out′)
 
@@ -80,7 +80,7 @@ ok-same t u h = ap (from-ok t) h
     from-ok d (bad n) = d
     from-ok d (ok a) = a
 
-module _ (C : ForestCall) (ys : List Float) (i : ℕ) (inside : i < C .shape .rows) (but : ButOne i (C .given .measured .targets) ys)
+module _ (C : ForestCall) (ys : List Float) (i : ℕ) (inside : i < C .shape .rows) (but : ButOne i (C .given .inputs .targets) ys)
     (p : Passed (C .shape) (C .trees) (C .given)) (p′ : Passed (C .shape) (C .trees) (retarget C ys .given)) where
   -- row i's count in tree t
   abbrev count : ℕ → ℕ
@@ -93,16 +93,16 @@ module _ (C : ForestCall) (ys : List Float) (i : ℕ) (inside : i < C .shape .ro
       ap (λ n. ltb 0 n && (unweighted (C .given .weights) || lt nought (getD (C .given .weights) i nan)))
       (getD-take (C .shape .rows) (drop (t * C .shape .rows) (C .given .counts)) i 0 inside ∙ getD-drop (t * C .shape .rows) (C .given .counts) i 0 ∙ z)
 
-  tree-same : (t : ℕ) → count t ≡ 0 → fit (frameAt C t) (C .given .measured) ≡ fit (frameAt C t) (retarget C ys .given .measured)
+  tree-same : (t : ℕ) → count t ≡ 0 → fit (frameAt C t) (C .given .inputs) ≡ fit (frameAt C t) (retarget C ys .given .inputs)
   unfolding targetOf valuesOf listing frameAt
   tree-same t z =
-      fit-same (frameAt C t) (C .given .measured) (retarget C ys .given .measured)
+      fit-same (frameAt C t) (C .given .inputs) (retarget C ys .given .inputs)
       (accepted (C .shape) (C .trees) (C .given) p (frameAt C t) (forest-framed C p t))
       (accepted (C .shape) (C .trees) (retarget C ys .given) p′ (frameAt C t) (forest-framed (retarget C ys) p′ t))
       (record { targets = λ k q. but k (λ e. true≢false (sym q ∙ ap (kept (frameAt C t)) e ∙ out t z)); values = λ k q. refl; listings = λ j. refl })
 
   -- the trees from tree t on that leave the row out
-  out-same : (t n : ℕ) (ts us : List Tree) → Grew (map (frameAt C) (from t n)) (C .given .measured) ts → Grew (map (frameAt C) (from t n)) (retarget C ys .given .measured) us
+  out-same : (t n : ℕ) (ts us : List Tree) → Grew (map (frameAt C) (from t n)) (C .given .inputs) ts → Grew (map (frameAt C) (from t n)) (retarget C ys .given .inputs) us
       → outTrees (C .shape .rows) (C .given .counts) i t (tables ts) ≡ outTrees (C .shape .rows) (C .given .counts) i t (tables us)
   unfolding from outTrees putIf
   out-same t zero [] [] g h = refl
@@ -113,8 +113,8 @@ module _ (C : ForestCall) (ys : List Float) (i : ℕ) (inside : i < C .shape .ro
   out-same t (suc n) (x ∷ ts) (u ∷ us) g h = go (eqb (count t) 0) (λ c. eqb→eq (count t) 0 c) (out-same (suc t) n ts us (g .1) (h .1))
     where
       go : (b : Bool) → (T b → count t ≡ 0) → outTrees (C .shape .rows) (C .given .counts) i (suc t) (tables ts) ≡ outTrees (C .shape .rows) (C .given .counts) i (suc t) (tables us)
-          → putIf b (rows (x .nodes)) (outTrees (C .shape .rows) (C .given .counts) i (suc t) (tables ts)) ≡ putIf b (rows (u .nodes)) (outTrees (C .shape .rows) (C .given .counts) i (suc t) (tables us))
-      go true z e = λ r. rows (ok-same x u (sym (g .0) ∙ tree-same t (z tt) ∙ h .0) r .nodes) ∷ e r
+          → putIf b (entries (x .nodes)) (outTrees (C .shape .rows) (C .given .counts) i (suc t) (tables ts)) ≡ putIf b (entries (u .nodes)) (outTrees (C .shape .rows) (C .given .counts) i (suc t) (tables us))
+      go true z e = λ r. entries (ok-same x u (sym (g .0) ∙ tree-same t (z tt) ∙ h .0) r .nodes) ∷ e r
       go false z e = e
 
 -- ---- the readings
@@ -122,17 +122,17 @@ module _ (C : ForestCall) (ys : List Float) (i : ℕ) (inside : i < C .shape .ro
 eq-test : (a b : ℕ) → a ≡ b → T (eqb a b)
 eq-test a b q = subst (λ x. T (eqb a x)) q (eqb-refl a)
 
-module _ {W : Type 0} (K : Waits W) (C : ForestCall) (R : ForestRooms W) (held : Binary64 (C .given .measured .values)) (h : fitForest K C R .answer ≡ ForestAnswer.Grown) where
+module _ {W : Type 0} (K : Waits W) (C : ForestCall) (R : ForestRooms W) (held : Binary64 (C .given .inputs .values)) (h : fitForest K C R .answer ≡ ForestAnswer.Grown) where
   a : ForestAnswered K C R
   a = forest-answered K C R h
 
-  p : Planted K C R
-  p = planted-right K C R a
+  p : ForestPassed K C R
+  p = forest-right K C R a
 
   -- the trees that are read are the trees that grew
-  trees-read : treesAt (fitForest K C R .rooms .nodes) (fitForest K C R .rooms .starts) (C .trees) ≡ tables (a .trees)
+  trees-read : treesOf (tableOf C (fitForest K C R .rooms)) ≡ tables (a .trees)
   trees-read =
-      (λ x. treesAt (a .after x .nodes) (a .after x .starts) (C .trees)) ∙ trees-written (R .nodes) (R .starts) (a .trees) (C .trees) (trees-length K C R a)
+      (λ x. treesOf (tableOf C (a .after x))) ∙ trees-written (R .nodes) (R .starts) (a .trees) (C .trees) (trees-length K C R a)
 
   starts-long : suc (C .trees) ≤ length (fitForest K C R .rooms .starts)
   starts-long =
@@ -143,31 +143,31 @@ module _ {W : Type 0} (K : Waits W) (C : ForestCall) (R : ForestRooms W) (held :
 
   -- no test of the reading fails
   reads-well : (out : List Float) → length out ≡ C .shape .rows
-      → firstFailed (outTests (C .shape) (C .trees) (C .given .measured .values) (C .given .counts) (fitForest K C R .rooms .nodes) (fitForest K C R .rooms .starts) out) ≡ 0
+      → firstFailed (outTests (C .shape) (C .given .inputs .values) (C .given .counts) (tableOf C (fitForest K C R .rooms)) out) ≡ 0
   unfolding outTests
   reads-well out o =
       goes-on 1 _ _ (p .ranges)
       (goes-on 9 _ _ (lt→ltb 0 (length (C .given .counts)) (subst (λ n. 0 < n) (sym (p .passed .countsLong)) (mul-pos (p .someTrees) (p .passed .someRows))))
       (goes-on 10 _ _ (eq-test (length (C .given .counts)) (C .trees * C .shape .rows) (p .passed .countsLong))
-      (goes-on 2 _ _ (eq-test (length (C .given .measured .values)) (C .shape .rows * C .shape .features) (p .passed .valuesLong))
+      (goes-on 2 _ _ (eq-test (length (C .given .inputs .values)) (C .shape .rows * C .shape .features) (p .passed .valuesLong))
       (goes-on 6 _ _ (and-i (eqb (length out) (C .shape .rows)) _ (eq-test (length out) (C .shape .rows) o) (le→leb (suc (C .trees)) (length (fitForest K C R .rooms .starts)) starts-long))
       (goes-on 8 _ _ (forest-good W K C R held h) none-fails)))))
 
   abbrev mean : ℕ → Float
-  mean i = outOfBagMean (C .shape) (C .trees) (C .given .measured .values) (C .given .counts) (fitForest K C R .rooms .nodes) (fitForest K C R .rooms .starts) i
+  mean i = outOfBagMean (C .shape) (C .given .inputs .values) (C .given .counts) (tableOf C (fitForest K C R .rooms)) i
 
   own-done : (out : List Float) → length out ≡ C .shape .rows → ownMeans K C R out .answer ≡ Reply.Done
   unfolding outOfBagMeans reads
   own-done out o = λ x. reads (reads-well out o x) (map mean (from 0 (C .shape .rows))) out .answer
 
   own-mean : (out : List Float) → length out ≡ C .shape .rows → (i : ℕ) → i < C .shape .rows
-      → getD (ownMeans K C R out .rooms) i nan ≡ meanOf (outTrees (C .shape .rows) (C .given .counts) i 0 (tables (a .trees))) (valuesAt (C .shape .features) (C .given .measured .values) i)
+      → getD (ownMeans K C R out .rooms) i nan ≡ meanOf (outTrees (C .shape .rows) (C .given .counts) i 0 (tables (a .trees))) (valuesAt (C .shape .features) (C .given .inputs .values) i)
   unfolding outOfBagMeans reads outOfBagMean
   own-mean out o i b =
       (λ x. getD (reads (reads-well out o x) (map mean (from 0 (C .shape .rows))) out .rooms) i nan)
       ∙ getD-from mean 0 (C .shape .rows) i nan b
       ∙ ap mean (zero-add i)
-      ∙ ap (λ ts. meanOf (outTrees (C .shape .rows) (C .given .counts) i 0 ts) (valuesAt (C .shape .features) (C .given .measured .values) i)) trees-read
+      ∙ ap (λ ts. meanOf (outTrees (C .shape .rows) (C .given .counts) i 0 ts) (valuesAt (C .shape .features) (C .given .inputs .values) i)) trees-read
 
 pub own-target : OwnTarget
 unfolding frames frameAt
@@ -177,7 +177,7 @@ own-target W K C ys i b but held R R′ h h′ out out′ o o′ =
       done′ = own-done K (retarget C ys) R′ held h′ out′ o′;
       mean =
           own-mean K C R held h out o i b
-          ∙ ap (λ ts. meanOf ts (valuesAt (C .shape .features) (C .given .measured .values) i))
+          ∙ ap (λ ts. meanOf ts (valuesAt (C .shape .features) (C .given .inputs .values) i))
           (out-same C ys i b but (p K C R held h .passed) (p K (retarget C ys) R′ held h′ .passed) 0 (C .trees) (a K C R held h .trees) (a K (retarget C ys) R′ held h′ .trees)
           (a K C R held h .grew) (a K (retarget C ys) R′ held h′ .grew))
           ∙ sym (own-mean K (retarget C ys) R′ held h′ out′ o′ i b);

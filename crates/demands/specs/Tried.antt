@@ -9,14 +9,14 @@ use mathlib.Core.Bool.{Bool, true, false, not, cond}
 use mathlib.Core.List.{[], _∷_, map}
 use lib.Dec.{T, leb, leb→le, nleb→lt}
 use Rattle.floats.specs.Root.{root-unique}
-use Rattle.rules.specs.declared.Tried.the-variants.{Root}
+use Rattle.rules.specs.declared.Tried.the-variants.{Unsaid}
 use Rattle.rules.specs.Forest.{squares, triedOf}
 
 abbrev IsRoot : ℕ → ℕ → Type 0
 IsRoot n s = (s * s ≤ n) × (n < (s + 1) * (s + 1))
 
 abbrev pub FloorOfRoot : Type 0
-FloorOfRoot = (n : ℕ) → IsRoot n (triedOf n Root) × ((s : ℕ) → IsRoot n s → s ≡ triedOf n Root)
+FloorOfRoot = (n : ℕ) → IsRoot n (triedOf n Unsaid) × ((s : ℕ) → IsRoot n s → s ≡ triedOf n Unsaid)
 
 -- of the first k numbers: all their squares are at most n, or the next one's is above it
 abbrev Upto : ℕ → ℕ → ℕ → Type 0
@@ -57,7 +57,7 @@ upto n (suc k) = go (leb (suc k * suc k) n) (λ t. leb→le (suc k * suc k) n t)
         more : (s k : ℕ) → s ≤ k → s ≤ suc k
         more s k h = omega arith
 
-is-root : (n : ℕ) → IsRoot n (triedOf n Root)
+is-root : (n : ℕ) → IsRoot n (triedOf n Unsaid)
 unfolding triedOf
 is-root n = go (upto n n)
   where
@@ -78,9 +78,9 @@ is-root n = go (upto n n)
     go (a, b, inr l) = (a, l)
 
 pub tried-root : FloorOfRoot
-tried-root n = (is-root n, λ s h. root-unique n s (triedOf n Root) (h .0) (h .1) (is-root n .0) (is-root n .1))
+tried-root n = (is-root n, λ s h. root-unique n s (triedOf n Unsaid) (h .0) (h .1) (is-root n .0) (is-root n .1))
 
 -- the paper's examples
-pub tried-examples : map (λ n. triedOf n Root) (1 ∷ 3 ∷ 4 ∷ 8 ∷ 9 ∷ 1024 ∷ []) ≡ 1 ∷ 1 ∷ 2 ∷ 2 ∷ 3 ∷ 32 ∷ []
+pub tried-examples : map (λ n. triedOf n Unsaid) (1 ∷ 3 ∷ 4 ∷ 8 ∷ 9 ∷ 1024 ∷ []) ≡ 1 ∷ 1 ∷ 2 ∷ 2 ∷ 3 ∷ 32 ∷ []
 unfolding triedOf squares
 tried-examples = refl

@@ -15,37 +15,41 @@ use Rattle.rules.specs.declared.Report.{Report}
 use Rattle.rules.specs.declared.TreeAnswer.{TreeAnswer}
 use Rattle.rules.specs.declared.ForestAnswer.{ForestAnswer}
 use Rattle.rules.specs.Words.{every, along, alongFrom, front}
-use Rattle.rules.specs.Lent.{Columns, Row, Waits, TreeRooms, ForestRooms, shortest, rowsAt, writeRows}
+use Rattle.rules.specs.Lent.{Columns, Entry, Waits, TreeRooms, ForestRooms, shortest, entriesAt, writeEntries}
 use Rattle.rules.specs.Draws.{ok}
-use Rattle.rules.specs.Fit.{Tree, treeOf, rooted, fit, rows, paramsOf, TreeCall, frameOf, fitTree}
-use Rattle.rules.specs.Table.{leafRow, goodFrom, goodTree, startsGood, treesAt, goodForest}
-use Rattle.rules.specs.Reading.{noRow, walked}
-use Rattle.rules.specs.Forest.{ForestCall, frameAt, startsFrom, forestRows, fitForest}
+use Rattle.rules.specs.Fit.{Tree, treeOf, rooted, fit, entries, paramsOf, TreeCall, frameOf, fitTree}
+use Rattle.rules.specs.Table.{isLeaf, goodFrom, goodTree, ForestTable, startsGood, treesOf, goodForest}
+use Rattle.rules.specs.Reading.{noEntry, walked}
+use Rattle.rules.specs.Forest.{ForestCall, frameAt, startsFrom, forestEntries, fitForest}
 use Rattle.laws.specs.Lists.{Every, every-imp}
 use Rattle.laws.specs.Outs.{then-of, then-any}
 use Rattle.laws.specs.Passed.{Binary64}
-use Rattle.laws.specs.Tables.{length-rows, fit-good}
+use Rattle.laws.specs.Tables.{length-entries, fit-good}
 use Rattle.laws.specs.Tables as Tables
-use Rattle.laws.specs.Written.{rows-written, tables, first-start, trees-written, starts-length, shortest-stays}
+use Rattle.laws.specs.Written.{entries-written, tables, first-start, tableLeft, trees-written, starts-length, shortest-stays}
 use Rattle.laws.specs.Answered.{TreeAnswered, tree-answered, tree-listed, ForestAnswered, forest-answered, trees-length, trees-each, forest-room}
 
 -- ---- the statements
 
 abbrev pub WalkEnds : Type 0
 WalkEnds =
-    (features : ℕ) (rs : List Row) → T (goodTree features rs) → (xs : List Float)
-    → (walked (length rs) rs xs 0 < length rs) × (leafRow (getD rs (walked (length rs) rs xs 0) noRow) ≡ true)
+    (features : ℕ) (rs : List Entry) → T (goodTree features rs) → (xs : List Float)
+    → (walked (length rs) rs xs 0 < length rs) × (isLeaf (getD rs (walked (length rs) rs xs 0) noEntry) ≡ true)
 
 -- a tree's table is its first entries, as many as it reports nodes
 abbrev pub TreeGood : Type 1
 TreeGood =
-    (W : Type 0) (K : Waits W) (C : TreeCall) (R : TreeRooms W) (r : Report) → Binary64 (C .given .measured .values) → fitTree K C R .answer ≡ TreeAnswer.Grown r
-    → T (goodTree (C .shape .features) (rowsAt (fitTree K C R .rooms .nodes) 0 (r .nodes)))
+    (W : Type 0) (K : Waits W) (C : TreeCall) (R : TreeRooms W) (r : Report) → Binary64 (C .given .inputs .values) → fitTree K C R .answer ≡ TreeAnswer.Grown r
+    → T (goodTree (C .shape .features) (entriesAt (fitTree K C R .rooms .nodes) 0 (r .nodes)))
+
+-- a forest's is its nodes and starts
+abbrev pub tableOf : {W : Type 0} → ForestCall → ForestRooms W → ForestTable
+tableOf C R = record { trees = C .trees; nodes = R .nodes; starts = R .starts }
 
 abbrev pub ForestGood : Type 1
 ForestGood =
-    (W : Type 0) (K : Waits W) (C : ForestCall) (R : ForestRooms W) → Binary64 (C .given .measured .values) → fitForest K C R .answer ≡ ForestAnswer.Grown
-    → T (goodForest (C .shape .features) (C .trees) (fitForest K C R .rooms .nodes) (fitForest K C R .rooms .starts))
+    (W : Type 0) (K : Waits W) (C : ForestCall) (R : ForestRooms W) → Binary64 (C .given .inputs .values) → fitForest K C R .answer ≡ ForestAnswer.Grown
+    → T (goodForest (C .shape .features) (tableOf C (fitForest K C R .rooms)))
 
 -- ---- walks
 
@@ -55,25 +59,25 @@ walk-ends features rs good xs = let e = Tables.walk-ends features rs good xs in 
 -- ---- one tree
 
 -- the node count reported is the number of nodes
-pub reported-nodes : (C : TreeCall) (t : Tree) → fit (frameOf C) (C .given .measured) ≡ ok t → t .report .nodes ≡ length (t .nodes)
+pub reported-nodes : (C : TreeCall) (t : Tree) → fit (frameOf C) (C .given .inputs) ≡ ok t → t .report .nodes ≡ length (t .nodes)
 unfolding fit rooted treeOf
-reported-nodes C t e = then-of (λ (u : Tree). u .report .nodes ≡ length (u .nodes)) (fit (frameOf C) (C .given .measured)) t e (then-any _ _ _ (λ s. refl))
+reported-nodes C t e = then-of (λ (u : Tree). u .report .nodes ≡ length (u .nodes)) (fit (frameOf C) (C .given .inputs)) t e (then-any _ _ _ (λ s. refl))
 
 pub tree-good : TreeGood
 unfolding frameOf paramsOf
 tree-good W K C R r held h =
     subst (λ rs. T (goodTree (C .shape .features) rs)) (sym table)
-    (then-of (λ t. T (goodTree (C .shape .features) (rows (t .nodes)))) (fit (frameOf C) (C .given .measured)) (a .tree) (a .grew)
-    (fit-good (frameOf C) (C .given .measured) (tree-listed K C R held (a .passed) .0)))
+    (then-of (λ t. T (goodTree (C .shape .features) (entries (t .nodes)))) (fit (frameOf C) (C .given .inputs)) (a .tree) (a .grew)
+    (fit-good (frameOf C) (C .given .inputs) (tree-listed K C R held (a .passed) .0)))
   where
     a : TreeAnswered K C R r
     a = tree-answered K C R r h
 
-    table : rowsAt (fitTree K C R .rooms .nodes) 0 (r .nodes) ≡ rows (a .tree .nodes)
+    table : entriesAt (fitTree K C R .rooms .nodes) 0 (r .nodes) ≡ entries (a .tree .nodes)
     table =
-        (λ i. rowsAt (a .after i .nodes) 0 (sym (a .reported) i .nodes))
-        ∙ ap (λ m. rowsAt (writeRows (rows (a .tree .nodes)) (R .nodes)) 0 m) (reported-nodes C (a .tree) (a .grew) ∙ sym (length-rows (a .tree .nodes)))
-        ∙ rows-written (rows (a .tree .nodes)) (R .nodes) (rows (a .tree .nodes)) [] [] (sym (append-nil (rows (a .tree .nodes))))
+        (λ i. entriesAt (a .after i .nodes) 0 (sym (a .reported) i .nodes))
+        ∙ ap (λ m. entriesAt (writeEntries (entries (a .tree .nodes)) (R .nodes)) 0 m) (reported-nodes C (a .tree) (a .grew) ∙ sym (length-entries (a .tree .nodes)))
+        ∙ entries-written (entries (a .tree .nodes)) (R .nodes) (entries (a .tree .nodes)) [] [] (sym (append-nil (entries (a .tree .nodes))))
 
 -- ---- a forest
 
@@ -96,56 +100,56 @@ starts-rise a (t ∷ ts) e = rises-on a (a + length (t .nodes)) ts (more a (leng
     more : (b n : ℕ) → 0 < n → b < b + n
     more b n h = omega arith
 
-last-start : (a : ℕ) (ts : List Tree) (x : List ℕ) (d : ℕ) → getD (startsFrom a ts ++ x) (length ts) d ≡ a + length (forestRows ts)
-unfolding startsFrom forestRows
+last-start : (a : ℕ) (ts : List Tree) (x : List ℕ) (d : ℕ) → getD (startsFrom a ts ++ x) (length ts) d ≡ a + length (forestEntries ts)
+unfolding startsFrom forestEntries
 last-start a [] x d = sym (add-zero a)
 last-start a (t ∷ ts) x d =
     last-start (a + length (t .nodes)) ts x d
-    ∙ sum a (length (t .nodes)) (length (rows (t .nodes))) (length (forestRows ts)) (length (rows (t .nodes) ++ forestRows ts)) (length-rows (t .nodes)) (length-append (rows (t .nodes)) (forestRows ts))
+    ∙ sum a (length (t .nodes)) (length (entries (t .nodes))) (length (forestEntries ts)) (length (entries (t .nodes) ++ forestEntries ts)) (length-entries (t .nodes)) (length-append (entries (t .nodes)) (forestEntries ts))
   where
     sum : (a n m k t : ℕ) → m ≡ n → t ≡ m + k → a + n + k ≡ a + t
     sum a n m k t h₁ h₂ = omega arith
 
-every-table : (features : ℕ) (ts : List Tree) → Every (λ (t : Tree). T (goodTree features (rows (t .nodes)))) ts → T (every (goodTree features) (tables ts))
+every-table : (features : ℕ) (ts : List Tree) → Every (λ (t : Tree). T (goodTree features (entries (t .nodes)))) ts → T (every (goodTree features) (tables ts))
 unfolding every
 every-table features [] e = tt
-every-table features (t ∷ ts) e = and-i (goodTree features (rows (t .nodes))) (every (goodTree features) (tables ts)) (e .0) (every-table features ts (e .1))
+every-table features (t ∷ ts) e = and-i (goodTree features (entries (t .nodes))) (every (goodTree features) (tables ts)) (e .0) (every-table features ts (e .1))
 
 -- a good tree has a node
-good-some : (features : ℕ) (t : Tree) → T (goodTree features (rows (t .nodes))) → 0 < length (t .nodes)
+good-some : (features : ℕ) (t : Tree) → T (goodTree features (entries (t .nodes))) → 0 < length (t .nodes)
 unfolding goodTree
 good-some features t g =
-    subst (λ n. 0 < n) (length-rows (t .nodes)) (ltb→lt 0 (length (rows (t .nodes))) (and-l (ltb 0 (length (rows (t .nodes)))) (goodFrom features (length (rows (t .nodes))) 0 (rows (t .nodes))) g))
+    subst (λ n. 0 < n) (length-entries (t .nodes)) (ltb→lt 0 (length (entries (t .nodes))) (and-l (ltb 0 (length (entries (t .nodes)))) (goodFrom features (length (entries (t .nodes))) 0 (entries (t .nodes))) g))
 
 eq-test : (a b : ℕ) → a ≡ b → T (eqb a b)
 eq-test a b q = subst (λ x. T (eqb a x)) q (eqb-refl a)
 
-written-good : (features trees : ℕ) (c : Columns) (starts : List ℕ) (ts : List Tree) → length ts ≡ trees → Every (λ (t : Tree). T (goodTree features (rows (t .nodes)))) ts
-    → length (forestRows ts) ≤ shortest c → T (goodForest features trees (writeRows (forestRows ts) c) (front (startsFrom 0 ts) starts))
+written-good : (features trees : ℕ) (c : Columns) (starts : List ℕ) (ts : List Tree) → length ts ≡ trees → Every (λ (t : Tree). T (goodTree features (entries (t .nodes)))) ts
+    → length (forestEntries ts) ≤ shortest c → T (goodForest features (tableLeft trees ts c starts))
 unfolding goodForest startsGood
 written-good features trees c starts ts n e room =
-    and-i (startsGood trees s (shortest c′)) (every (goodTree features) (treesAt c′ s trees))
-    (and-i (eqb (getD s 0 1) 0) (along ltb (take (suc trees) s) && leb (getD s trees (suc (shortest c′))) (shortest c′))
+    and-i (startsGood (tableLeft trees ts c starts)) (every (goodTree features) (treesOf (tableLeft trees ts c starts)))
+    (and-i (eqb (getD s 0 1) 0) (along ltb (take (suc trees) s) && leb (getD s trees (suc top)) top)
     (eq-test (getD s 0 1) 0 (first-start 0 ts _ 1))
-    (and-i (along ltb (take (suc trees) s)) (leb (getD s trees (suc (shortest c′))) (shortest c′))
+    (and-i (along ltb (take (suc trees) s)) (leb (getD s trees (suc top)) top)
     (subst (λ l. T (along ltb l)) (sym (take-at (startsFrom 0 ts) _ (suc trees) (starts-length 0 ts ∙ ap suc n))) (starts-rise 0 ts (every-imp _ _ (good-some features) ts e)))
-    (le→leb (getD s trees (suc (shortest c′))) (shortest c′)
-    (subst (λ m. m ≤ shortest c′) (sym (ap (λ k. getD s k (suc (shortest c′))) (sym n) ∙ last-start 0 ts _ (suc (shortest c′)) ∙ zero-add (length (forestRows ts))))
-    (subst (λ m. length (forestRows ts) ≤ m) (sym (shortest-stays (forestRows ts) c room)) room)))))
+    (le→leb (getD s trees (suc top)) top
+    (subst (λ m. m ≤ top) (sym (ap (λ k. getD s k (suc top)) (sym n) ∙ last-start 0 ts _ (suc top) ∙ zero-add (length (forestEntries ts))))
+    (subst (λ m. length (forestEntries ts) ≤ m) (sym (shortest-stays (forestEntries ts) c room)) room)))))
     (subst (λ l. T (every (goodTree features) l)) (sym (trees-written c starts ts trees n)) (every-table features ts e))
   where
     s : List ℕ
     s = front (startsFrom 0 ts) starts
 
-    c′ : Columns
-    c′ = writeRows (forestRows ts) c
+    top : ℕ
+    top = shortest (writeEntries (forestEntries ts) c)
 
 pub forest-good : ForestGood
 unfolding frameAt paramsOf
 forest-good W K C R held h =
-    subst (λ (r : ForestRooms W). T (goodForest (C .shape .features) (C .trees) (r .nodes) (r .starts))) (sym (a .after))
+    subst (λ (r : ForestRooms W). T (goodForest (C .shape .features) (tableOf C r))) (sym (a .after))
     (written-good (C .shape .features) (C .trees) (R .nodes) (R .starts) (a .trees) (trees-length K C R a)
-    (trees-each K C R a (λ (t : Tree). T (goodTree (C .shape .features) (rows (t .nodes)))) held (λ t l. fit-good (frameAt C t) (C .given .measured) l))
+    (trees-each K C R a (λ (t : Tree). T (goodTree (C .shape .features) (entries (t .nodes)))) held (λ t l. fit-good (frameAt C t) (C .given .inputs) l))
     (forest-room K C R a held))
   where
     a : ForestAnswered K C R

@@ -9,16 +9,16 @@ use Rattle.rules.specs.declared.Report.{Report}
 use Rattle.rules.specs.declared.TreeAnswer.{TreeAnswer}
 use Rattle.rules.specs.declared.ForestAnswer.{ForestAnswer}
 use Rattle.rules.specs.Words.{from, front, total}
-use Rattle.rules.specs.Lent.{Data, Frame, Waits, TreeRooms, ForestRooms, shortest, writeRows, writeReports, zeroWork}
-use Rattle.rules.specs.Checks.{firstFailed, asks}
+use Rattle.rules.specs.Lent.{Data, Frame, Waits, TreeRooms, ForestRooms, shortest, writeEntries, writeReports, zeroWork}
+use Rattle.rules.specs.Checks.{firstFailed, roomFor}
 use Rattle.rules.specs.Draws.{Out, bad, ok}
-use Rattle.rules.specs.Fit.{Tree, fit, rows, paramsOf, TreeCall, frameOf, grownTree, treeTests, treeDone, treeEnds, fitTree}
-use Rattle.rules.specs.Forest.{ForestCall, frameAt, frames, Forest, broke, stands, joined, planted, plant, grownForest, startsFrom, forestRows, forestTests, forestDone, forestEnds, fitForest}
+use Rattle.rules.specs.Fit.{Tree, fit, entries, paramsOf, TreeCall, frameOf, grownTree, treeTests, treeDone, treeEnds, fitTree}
+use Rattle.rules.specs.Forest.{ForestCall, frameAt, frames, Forest, stopped, grownAll, withTree, nextTree, growTrees, grownForest, startsFrom, forestEntries, forestTests, forestDone, forestEnds, fitForest}
 use Rattle.laws.specs.Lists.{Every, every-all, every-map, length-from}
 use Rattle.laws.specs.Outs.{Then, then-of}
 use Rattle.laws.specs.Root.{Listed, fit-nodes}
-use Rattle.laws.specs.Passed.{Planted, tree-passed, forest-passed, tree-framed, forest-framed, Binary64, listed-right}
-use Rattle.laws.specs.Tables.{length-rows}
+use Rattle.laws.specs.Passed.{ForestPassed, tree-passed, forest-passed, tree-framed, forest-framed, Binary64, listed-right}
+use Rattle.laws.specs.Tables.{length-entries}
 
 -- ---- one tree
 
@@ -36,22 +36,22 @@ module _ {W : Type 0} (K : Waits W) where
   pub record TreeAnswered (C : TreeCall) (R : TreeRooms W) (r : Report) : Type 0 where
     pub passed : firstFailed (treeTests K C R) ≡ 0
     pub tree : Tree
-    pub grew : fit (frameOf C) (C .given .measured) ≡ ok tree
+    pub grew : fit (frameOf C) (C .given .inputs) ≡ ok tree
     pub reported : tree .report ≡ r
-    pub after : fitTree K C R .rooms ≡ record { nodes = writeRows (rows (tree .nodes)) (R .nodes); work = zeroWork K (R .work) }
+    pub after : fitTree K C R .rooms ≡ record { nodes = writeEntries (entries (tree .nodes)) (R .nodes); work = zeroWork K (R .work) }
 
   pub tree-answered : (C : TreeCall) (R : TreeRooms W) (r : Report) → fitTree K C R .answer ≡ TreeAnswer.Grown r → TreeAnswered C R r
   unfolding fitTree treeEnds treeDone grownTree
-  tree-answered C R r h = go (firstFailed (treeTests K C R)) refl (fit (frameOf C) (C .given .measured)) refl h
+  tree-answered C R r h = go (firstFailed (treeTests K C R)) refl (fit (frameOf C) (C .given .inputs)) refl h
     where
-      go : (k : ℕ) → firstFailed (treeTests K C R) ≡ k → (o : Out Tree) → fit (frameOf C) (C .given .measured) ≡ o → treeEnds K k o R .answer ≡ TreeAnswer.Grown r → TreeAnswered C R r
+      go : (k : ℕ) → firstFailed (treeTests K C R) ≡ k → (o : Out Tree) → fit (frameOf C) (C .given .inputs) ≡ o → treeEnds K k o R .answer ≡ TreeAnswer.Grown r → TreeAnswered C R r
       go zero q (bad s) e h = absurd (subst IsGrown (sym h) tt)
       go zero q (ok t) e h = record { passed = q; tree = t; grew = e; reported = ap (reportOr r) h; after = λ i. treeEnds K (q i) (e i) R .rooms }
       go (suc k) q o e h = absurd (subst IsGrown (sym h) tt)
 
   -- its listings were in order
-  pub tree-listed : (C : TreeCall) (R : TreeRooms W) → Binary64 (C .given .measured .values) → firstFailed (treeTests K C R) ≡ 0
-      → Listed (frameOf C) (C .given .measured) × (0 < frameOf C .params .features)
+  pub tree-listed : (C : TreeCall) (R : TreeRooms W) → Binary64 (C .given .inputs .values) → firstFailed (treeTests K C R) ≡ 0
+      → Listed (frameOf C) (C .given .inputs) × (0 < frameOf C .params .features)
   unfolding frameOf paramsOf
   tree-listed C R held q =
       let p = tree-passed K C R q .0 in
@@ -67,18 +67,18 @@ Grew (F ∷ Fs) D [] = ⊥
 Grew (F ∷ Fs) D (t ∷ ts) = (fit F D ≡ ok t) × Grew Fs D ts
 
 abbrev GrewAll : List Frame → Data → Forest → Type 0
-GrewAll Fs D (broke d) = Unit {0}
-GrewAll Fs D (stands ts) = Grew Fs D ts
+GrewAll Fs D (stopped d) = Unit {0}
+GrewAll Fs D (grownAll ts) = Grew Fs D ts
 
-plant-grew : (k : ℕ) (Fs : List Frame) (D : Data) → GrewAll Fs D (plant k Fs D)
-unfolding plant planted joined
-plant-grew k [] D = tt
-plant-grew k (F ∷ Fs) D = go (fit F D) refl (plant (suc k) Fs D) (plant-grew (suc k) Fs D)
+trees-grew : (k : ℕ) (Fs : List Frame) (D : Data) → GrewAll Fs D (growTrees k Fs D)
+unfolding growTrees nextTree withTree
+trees-grew k [] D = tt
+trees-grew k (F ∷ Fs) D = go (fit F D) refl (growTrees (suc k) Fs D) (trees-grew (suc k) Fs D)
   where
-    go : (o : Out Tree) → fit F D ≡ o → (f : Forest) → GrewAll Fs D f → GrewAll (F ∷ Fs) D (planted k o f)
+    go : (o : Out Tree) → fit F D ≡ o → (f : Forest) → GrewAll Fs D f → GrewAll (F ∷ Fs) D (nextTree k o f)
     go (bad s) e f h = tt
-    go (ok t) e (broke d) h = tt
-    go (ok t) e (stands ts) h = (e, h)
+    go (ok t) e (stopped d) h = tt
+    go (ok t) e (grownAll ts) h = (e, h)
 
 pub grew-length : (Fs : List Frame) (D : Data) (ts : List Tree) → Grew Fs D ts → length ts ≡ length Fs
 grew-length [] D [] g = refl
@@ -94,14 +94,14 @@ grew-each Q (F ∷ Fs) D [] g h = absurd g
 grew-each Q (F ∷ Fs) D (t ∷ ts) g h = (then-of Q (fit F D) t (g .0) (h .0), grew-each Q Fs D ts (g .1) (h .1))
 
 -- all the nodes of a forest
-grew-room : (Fs : List Frame) (D : Data) (ts : List Tree) → Grew Fs D ts → Every (λ F. Then (fit F D) (λ t. length (t .nodes) ≤ asks F)) Fs → length (forestRows ts) ≤ total asks Fs
-unfolding forestRows total
+grew-room : (Fs : List Frame) (D : Data) (ts : List Tree) → Grew Fs D ts → Every (λ F. Then (fit F D) (λ t. length (t .nodes) ≤ roomFor F)) Fs → length (forestEntries ts) ≤ total roomFor Fs
+unfolding forestEntries total
 grew-room [] D [] g h = omega arith
 grew-room [] D (t ∷ ts) g h = absurd g
 grew-room (F ∷ Fs) D [] g h = absurd g
 grew-room (F ∷ Fs) D (t ∷ ts) g h =
-    sum (length (rows (t .nodes) ++ forestRows ts)) (length (rows (t .nodes))) (length (t .nodes)) (length (forestRows ts)) (asks F) (total asks Fs)
-    (length-append (rows (t .nodes)) (forestRows ts)) (length-rows (t .nodes)) (then-of (λ t. length (t .nodes) ≤ asks F) (fit F D) t (g .0) (h .0)) (grew-room Fs D ts (g .1) (h .1))
+    sum (length (entries (t .nodes) ++ forestEntries ts)) (length (entries (t .nodes))) (length (t .nodes)) (length (forestEntries ts)) (roomFor F) (total roomFor Fs)
+    (length-append (entries (t .nodes)) (forestEntries ts)) (length-entries (t .nodes)) (then-of (λ t. length (t .nodes) ≤ roomFor F) (fit F D) t (g .0) (h .0)) (grew-room Fs D ts (g .1) (h .1))
   where
     sum : (t a a′ b x y : ℕ) → t ≡ a + b → a ≡ a′ → a′ ≤ x → b ≤ y → t ≤ x + y
     sum t a a′ b x y h₁ h₂ h₃ h₄ = omega arith
@@ -115,9 +115,9 @@ module _ {W : Type 0} (K : Waits W) where
   pub record ForestAnswered (C : ForestCall) (R : ForestRooms W) : Type 0 where
     pub passed : firstFailed (forestTests K C R) ≡ 0
     pub trees : List Tree
-    pub grew : Grew (frames C) (C .given .measured) trees
+    pub grew : Grew (frames C) (C .given .inputs) trees
     pub after : fitForest K C R .rooms ≡ record {
-      nodes = writeRows (forestRows trees) (R .nodes);
+      nodes = writeEntries (forestEntries trees) (R .nodes);
       starts = front (startsFrom 0 trees) (R .starts);
       reports = writeReports (map (λ (t : Tree). t .report) trees) (R .reports);
       work = zeroWork K (R .work);
@@ -125,39 +125,39 @@ module _ {W : Type 0} (K : Waits W) where
 
   pub forest-answered : (C : ForestCall) (R : ForestRooms W) → fitForest K C R .answer ≡ ForestAnswer.Grown → ForestAnswered C R
   unfolding fitForest forestEnds forestDone grownForest
-  forest-answered C R h = go (firstFailed (forestTests K C R)) refl (plant 0 (frames C) (C .given .measured)) refl h
+  forest-answered C R h = go (firstFailed (forestTests K C R)) refl (growTrees 0 (frames C) (C .given .inputs)) refl h
     where
-      go : (k : ℕ) → firstFailed (forestTests K C R) ≡ k → (f : Forest) → plant 0 (frames C) (C .given .measured) ≡ f → forestEnds K k f R .answer ≡ ForestAnswer.Grown → ForestAnswered C R
-      go zero q (broke d) e h = absurd (subst ForestGrown (sym h) tt)
-      go zero q (stands ts) e h =
-          record { passed = q; trees = ts; grew = subst (GrewAll (frames C) (C .given .measured)) e (plant-grew 0 (frames C) (C .given .measured)); after = λ i. forestEnds K (q i) (e i) R .rooms }
+      go : (k : ℕ) → firstFailed (forestTests K C R) ≡ k → (f : Forest) → growTrees 0 (frames C) (C .given .inputs) ≡ f → forestEnds K k f R .answer ≡ ForestAnswer.Grown → ForestAnswered C R
+      go zero q (stopped d) e h = absurd (subst ForestGrown (sym h) tt)
+      go zero q (grownAll ts) e h =
+          record { passed = q; trees = ts; grew = subst (GrewAll (frames C) (C .given .inputs)) e (trees-grew 0 (frames C) (C .given .inputs)); after = λ i. forestEnds K (q i) (e i) R .rooms }
       go (suc k) q f e h = absurd (subst ForestGrown (sym h) tt)
 
   module _ (C : ForestCall) (R : ForestRooms W) (a : ForestAnswered C R) where
-    pub planted-right : Planted K C R
-    planted-right = forest-passed K C R (a .passed)
+    pub forest-right : ForestPassed K C R
+    forest-right = forest-passed K C R (a .passed)
 
     pub trees-length : length (a .trees) ≡ C .trees
     unfolding frames
-    trees-length = grew-length (frames C) (C .given .measured) (a .trees) (a .grew) ∙ length-map (from 0 (C .trees)) (frameAt C) ∙ length-from 0 (C .trees)
+    trees-length = grew-length (frames C) (C .given .inputs) (a .trees) (a .grew) ∙ length-map (from 0 (C .trees)) (frameAt C) ∙ length-from 0 (C .trees)
 
     -- what holds of every fit of these listings holds of each tree
-    pub trees-each : (Q : Tree → Type 0) → Binary64 (C .given .measured .values)
-        → ((t : ℕ) → Listed (frameAt C t) (C .given .measured) → Then (fit (frameAt C t) (C .given .measured)) Q) → Every Q (a .trees)
+    pub trees-each : (Q : Tree → Type 0) → Binary64 (C .given .inputs .values)
+        → ((t : ℕ) → Listed (frameAt C t) (C .given .inputs) → Then (fit (frameAt C t) (C .given .inputs)) Q) → Every Q (a .trees)
     unfolding frames
     trees-each Q held h =
-        let p = planted-right .passed in
-        grew-each Q (frames C) (C .given .measured) (a .trees) (a .grew)
+        let p = forest-right .passed in
+        grew-each Q (frames C) (C .given .inputs) (a .trees) (a .grew)
         (every-map _ (frameAt C) (from 0 (C .trees))
         (every-all _ (λ t. h t (listed-right (C .shape) (C .trees) (C .given) p (frameAt C t) (forest-framed C p t) held)) (from 0 (C .trees))))
 
-    -- the node room asked is enough for all the trees together
-    pub forest-room : Binary64 (C .given .measured .values) → length (forestRows (a .trees)) ≤ shortest (R .nodes)
+    -- the node room is enough for all the trees together
+    pub forest-room : Binary64 (C .given .inputs .values) → length (forestEntries (a .trees)) ≤ shortest (R .nodes)
     unfolding frames frameAt paramsOf
     forest-room held =
-        let p = planted-right .passed in
+        let p = forest-right .passed in
         le-trans
-        (grew-room (frames C) (C .given .measured) (a .trees) (a .grew)
+        (grew-room (frames C) (C .given .inputs) (a .trees) (a .grew)
         (every-map _ (frameAt C) (from 0 (C .trees))
-        (every-all _ (λ t. fit-nodes (frameAt C t) (C .given .measured) (listed-right (C .shape) (C .trees) (C .given) p (frameAt C t) (forest-framed C p t) held) (p .someFeatures)) (from 0 (C .trees)))))
-        (planted-right .room)
+        (every-all _ (λ t. fit-nodes (frameAt C t) (C .given .inputs) (listed-right (C .shape) (C .trees) (C .given) p (frameAt C t) (forest-framed C p t) held) (p .someFeatures)) (from 0 (C .trees)))))
+        (forest-right .room)

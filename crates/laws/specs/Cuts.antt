@@ -23,7 +23,7 @@ use Rattle.rules.specs.Words.{putIf, keep, total, eachOnce}
 use Rattle.rules.specs.Totals.{empty, takeIn, less, proxy}
 use Rattle.rules.specs.Threshold.{threshold}
 use Rattle.rules.specs.Draws.{Source, Tapes, takeWords, takeThreshold, nextThreshold, tape}
-use Rattle.rules.specs.Search.{Element, Column, at, totals, tally, Task, goesTrue, trueSide, falseSide, better, judge, runOn, step, walk, bestIn, final, drawn, Tries, drawIn, randomIn, tryOne, tryAll, Found, uncut, cut, found, search}
+use Rattle.rules.specs.Search.{Element, Column, at, totals, tally, Task, goesTrue, trueSide, falseSide, better, judge, candidateAt, step, walk, bestIn, final, drawn, Tries, drawIn, randomIn, tryOne, tryAll, Found, uncut, cut, found, search}
 use Rattle.rules.specs.Growth.{Waiting, child}
 use Rattle.laws.specs.Lists.{is-true, Every, every-imp, every-append, every-take, every-keep, keep-all, keep-none, keep-append, keep-keep, getD-keep, total-append, total-sides, Ordered, ordered-keep}
 use Rattle.laws.specs.Once.{once-below}
@@ -145,7 +145,7 @@ module _ (P : Params) (task : Task) (j : ℕ) (known : j < P .features) (counted
       → w .count ≡ tally pre → 0 < total (λ x. 1) pre → Value (w .last) → Every (λ x. Value (at j x)) rest
       → Every (λ x. T (le (at j x) (w .last))) pre → Every (λ x. T (le (w .last) (at j x))) rest → Rising j rest
       → HeldFine P task (w .best) → HeldFine P task (walk P task j w rest .best)
-  unfolding walk step runOn total
+  unfolding walk step candidateAt total
   walk-fine pre [] w hc hk some vl vs below above rise g = g
   walk-fine pre (e ∷ es) w hc hk some vl vs below above rise g =
       go (eq (at j e) (w .last)) refl (λ w′ k v b a h. walk-fine (pre ++ (e ∷ [])) es w′ (append-assoc pre (e ∷ []) es ∙ hc) k longer v (vs .1) b a (rise .1) h)
@@ -156,7 +156,7 @@ module _ (P : Params) (task : Task) (j : ℕ) (known : j < P .features) (counted
             before = takeIn (w .before) (e .target) (e .mass);
             count = w .count + e .count;
             last = cond b (w .last) (at j e);
-            best = runOn b P task j (at j e) w;
+            best = candidateAt b P task j (at j e) w;
           }
 
       more : w .count + e .count ≡ tally (pre ++ (e ∷ []))
@@ -182,7 +182,7 @@ module _ (P : Params) (task : Task) (j : ℕ) (known : j < P .features) (counted
   -- along the whole column
   pub best-fine : (h : Held) → Every (λ x. Value (at j x)) (getD (task .columns) j []) → Rising j (getD (task .columns) j [])
       → HeldFine P task h → HeldFine P task (bestIn P task j h (getD (task .columns) j []))
-  unfolding bestIn walk step runOn total
+  unfolding bestIn walk step candidateAt total
   best-fine h vs rise g = go (getD (task .columns) j []) refl vs rise
     where
       next : Element → Bool → Walk
@@ -191,7 +191,7 @@ module _ (P : Params) (task : Task) (j : ℕ) (known : j < P .features) (counted
             before = takeIn empty (e .target) (e .mass);
             count = 0 + e .count;
             last = cond b (at j e) (at j e);
-            best = runOn b P task j (at j e) (record { before = empty; count = 0; last = at j e; best = h });
+            best = candidateAt b P task j (at j e) (record { before = empty; count = 0; last = at j e; best = h });
           }
 
       one : (e : Element) → 0 + e .count ≡ e .count + 0

@@ -14,12 +14,12 @@ use lib.Ieee.Fits.{and-l, and-r}
 use Rattle.floats.specs.Order.{le-trans64}
 use Rattle.rules.specs.declared.Shape.{Shape}
 use Rattle.rules.specs.Words.{from, every, total, eachOnce}
-use Rattle.rules.specs.Lent.{Given, Frame, Waits, TreeRooms, ForestRooms, valuesAt, listingAt, unweighted, shortest}
-use Rattle.rules.specs.Checks.{Test, test, firstFailed, within, rowsIn, featuresIn, treesIn, lengths, goodCuts, goodWeight, numbersGood, countsGood, countsOne, asks, workEnough, reportsExact}
-use Rattle.rules.specs.Listing.{cell, neverFalls, goodListing, listingsGood}
+use Rattle.rules.specs.Lent.{Given, Frame, Waits, TreeRooms, ForestRooms, valuesAt, listingAt, unweighted, shortest, cell}
+use Rattle.rules.specs.Checks.{Test, test, firstFailed, within, rowsIn, featuresIn, treesIn, shapeIn, lengths, goodWeight, numbersGood, countsGood, countsOne, roomFor, workEnough, reportsExact}
+use Rattle.rules.specs.Listing.{neverFalls, goodListing, listingsGood}
 use Rattle.rules.specs.Search.{at}
 use Rattle.rules.specs.Fit.{valuesOf, listing, element, paramsOf, TreeCall, frameOf, treeTests}
-use Rattle.rules.specs.Forest.{ForestCall, frameAt, frames, forestTests}
+use Rattle.rules.specs.Forest.{ForestCall, frameAt, frames, cutsGood, roomsGood, forestTests}
 use Rattle.laws.specs.Lists.{or-other, Every, each, every-at, every-or, every-take, every-drop, every-from, Ordered, ordered-along}
 use Rattle.laws.specs.Once.{once-below}
 use Rattle.laws.specs.Values.{Value, not-falls}
@@ -61,72 +61,70 @@ and5 a b c d e t = let (w, x, y, z) = and4 b c d e (and-r a (b && (c && (d && e)
 pub record Passed (S : Shape) (trees : ℕ) (G : Given) : Type 0 where
   pub someRows : 1 ≤ S .rows
   pub someFeatures : 1 ≤ S .features
-  pub valuesLong : length (G .measured .values) ≡ S .rows * S .features
-  pub targetsLong : length (G .measured .targets) ≡ S .rows
+  pub valuesLong : length (G .inputs .values) ≡ S .rows * S .features
+  pub targetsLong : length (G .inputs .targets) ≡ S .rows
   pub weightsLong : unweighted (G .weights) ≡ false → length (G .weights) ≡ S .rows
   pub countsLong : length (G .counts) ≡ trees * S .rows
-  pub listingsLong : length (G .measured .listings) ≡ S .features * S .rows
-  pub valuesFinite : Every (λ x. T (finite x)) (G .measured .values)
-  pub targetsFinite : Every (λ x. T (finite x)) (G .measured .targets)
+  pub listingsLong : length (G .inputs .listings) ≡ S .features * S .rows
+  pub valuesFinite : Every (λ x. T (finite x)) (G .inputs .values)
+  pub targetsFinite : Every (λ x. T (finite x)) (G .inputs .targets)
   pub weightsGood : Every (λ w. T (goodWeight w)) (G .weights)
   pub countsLow : Every (λ c. T (leb c 65535)) (G .counts)
-  pub listings : T (listingsGood S (G .measured .values) (G .measured .listings))
+  pub listings : T (listingsGood S (G .inputs .values) (G .inputs .listings))
 
-from-tests : (S : Shape) (trees : ℕ) (G : Given) → T (rowsIn (S .rows)) → T (featuresIn (S .features)) → T (lengths S trees G) → T (numbersGood G) → T (countsGood G)
-    → T (listingsGood S (G .measured .values) (G .measured .listings)) → Passed S trees G
+from-tests : (S : Shape) (trees : ℕ) (G : Given) → T (shapeIn S) → T (lengths S trees G) → T (numbersGood G) → T (countsGood G)
+    → T (listingsGood S (G .inputs .values) (G .inputs .listings)) → Passed S trees G
 unfolding within lengths numbersGood countsGood
-from-tests S trees G r f l n c g =
-    let (l₁, l₂, l₃, l₄, l₅) = and5 (eqb (length (G .measured .values)) (S .rows * S .features)) (eqb (length (G .measured .targets)) (S .rows))
-    (unweighted (G .weights) || eqb (length (G .weights)) (S .rows)) (eqb (length (G .counts)) (trees * S .rows)) (eqb (length (G .measured .listings)) (S .features * S .rows)) l in
-    let (n₁, n₂, n₃) = and3 (every finite (G .measured .values)) (every finite (G .measured .targets)) (every goodWeight (G .weights)) n in
+from-tests S trees G i l n c g =
+    let (r, f) = and2 (rowsIn (S .rows)) (featuresIn (S .features)) i in
+    let (l₁, l₂, l₃, l₄, l₅) = and5 (eqb (length (G .inputs .values)) (S .rows * S .features)) (eqb (length (G .inputs .targets)) (S .rows))
+    (unweighted (G .weights) || eqb (length (G .weights)) (S .rows)) (eqb (length (G .counts)) (trees * S .rows)) (eqb (length (G .inputs .listings)) (S .features * S .rows)) l in
+    let (n₁, n₂, n₃) = and3 (every finite (G .inputs .values)) (every finite (G .inputs .targets)) (every goodWeight (G .weights)) n in
     record {
       someRows = leb→le 1 (S .rows) (and-l (leb 1 (S .rows)) (leb (S .rows) 65535) r);
       someFeatures = leb→le 1 (S .features) (and-l (leb 1 (S .features)) (leb (S .features) 1024) f);
-      valuesLong = eqb→eq (length (G .measured .values)) (S .rows * S .features) l₁;
-      targetsLong = eqb→eq (length (G .measured .targets)) (S .rows) l₂;
+      valuesLong = eqb→eq (length (G .inputs .values)) (S .rows * S .features) l₁;
+      targetsLong = eqb→eq (length (G .inputs .targets)) (S .rows) l₂;
       weightsLong = λ u. eqb→eq (length (G .weights)) (S .rows) (or-other (unweighted (G .weights)) (eqb (length (G .weights)) (S .rows)) u l₃);
       countsLong = eqb→eq (length (G .counts)) (trees * S .rows) l₄;
-      listingsLong = eqb→eq (length (G .measured .listings)) (S .features * S .rows) l₅;
-      valuesFinite = each finite (G .measured .values) n₁;
-      targetsFinite = each finite (G .measured .targets) n₂;
+      listingsLong = eqb→eq (length (G .inputs .listings)) (S .features * S .rows) l₅;
+      valuesFinite = each finite (G .inputs .values) n₁;
+      targetsFinite = each finite (G .inputs .targets) n₂;
       weightsGood = each goodWeight (G .weights) n₃;
       countsLow = each (λ k. leb k 65535) (G .counts) c;
       listings = g;
     }
 
 module _ {W : Type 0} (K : Waits W) where
-  pub tree-passed : (C : TreeCall) (R : TreeRooms W) → firstFailed (treeTests K C R) ≡ 0 → Passed (C .shape) 1 (C .given) × (asks (frameOf C) ≤ shortest (R .nodes))
+  pub tree-passed : (C : TreeCall) (R : TreeRooms W) → firstFailed (treeTests K C R) ≡ 0 → Passed (C .shape) 1 (C .given) × (roomFor (frameOf C) ≤ shortest (R .nodes))
   unfolding treeTests
   tree-passed C R h₁ =
       let (t₁, h₂) = past 0 _ _ h₁ in let (t₂, h₃) = past 1 _ _ h₂ in let (t₃, h₄) = past 2 _ _ h₃ in
-      let (t₄, h₅) = past 3 _ _ h₄ in let (t₅, h₆) = past 4 _ _ h₅ in let (t₆, h₇) = past 5 _ _ h₆ in
-      let (r, f) = and2 (rowsIn (C .shape .rows)) (featuresIn (C .shape .features)) t₁ in (
-        from-tests (C .shape) 1 (C .given) r f t₂ t₃ t₄ t₅,
-        leb→le (asks (frameOf C)) (shortest (R .nodes)) (and-l (leb (asks (frameOf C)) (shortest (R .nodes))) (workEnough K (C .shape) (R .work)) t₆),
+      let (t₄, h₅) = past 3 _ _ h₄ in let (t₅, h₆) = past 4 _ _ h₅ in let (t₆, h₇) = past 5 _ _ h₆ in (
+        from-tests (C .shape) 1 (C .given) t₁ t₂ t₃ t₄ t₅,
+        leb→le (roomFor (frameOf C)) (shortest (R .nodes)) (and-l (leb (roomFor (frameOf C)) (shortest (R .nodes))) (workEnough K (C .shape) (R .work)) t₆),
       )
 
   -- what a forest's checks say besides
-  pub record Planted (C : ForestCall) (R : ForestRooms W) : Type 0 where
+  pub record ForestPassed (C : ForestCall) (R : ForestRooms W) : Type 0 where
     pub passed : Passed (C .shape) (C .trees) (C .given)
-    pub ranges : T (rowsIn (C .shape .rows) && (featuresIn (C .shape .features) && treesIn (C .trees)))
+    pub ranges : T (shapeIn (C .shape) && treesIn (C .trees))
     pub someTrees : 1 ≤ C .trees
-    pub room : total asks (frames C) ≤ shortest (R .nodes)
+    pub room : total roomFor (frames C) ≤ shortest (R .nodes)
     pub startsRoom : suc (C .trees) ≤ length (R .starts)
 
-  pub forest-passed : (C : ForestCall) (R : ForestRooms W) → firstFailed (forestTests K C R) ≡ 0 → Planted C R
-  unfolding forestTests within
+  pub forest-passed : (C : ForestCall) (R : ForestRooms W) → firstFailed (forestTests K C R) ≡ 0 → ForestPassed C R
+  unfolding forestTests roomsGood within
   forest-passed C R h₁ =
       let (t₁, h₂) = past 0 _ _ h₁ in let (t₂, h₃) = past 1 _ _ h₂ in let (t₃, h₄) = past 2 _ _ h₃ in
       let (t₄, h₅) = past 3 _ _ h₄ in let (t₅, h₆) = past 4 _ _ h₅ in let (t₆, h₇) = past 5 _ _ h₆ in
-      let (r, f, n) = and3 (rowsIn (C .shape .rows)) (featuresIn (C .shape .features)) (treesIn (C .trees)) t₁ in
-      let (a, k, b, e) = and4 (leb (total asks (frames C)) (shortest (R .nodes))) (workEnough K (C .shape) (R .work)) (leb (suc (C .trees)) (length (R .starts))) (reportsExact (C .trees) (R .reports)) t₆ in
+      let (s, n) = and2 (shapeIn (C .shape)) (treesIn (C .trees)) t₁ in
+      let (a, k, b, e) = and4 (leb (total roomFor (frames C)) (shortest (R .nodes))) (workEnough K (C .shape) (R .work)) (leb (suc (C .trees)) (length (R .starts))) (reportsExact (C .trees) (R .reports)) t₆ in
       record {
-        passed = from-tests (C .shape) (C .trees) (C .given) r f
-            (and-l (lengths (C .shape) (C .trees) (C .given)) (goodCuts (C .trees) (length (C .words)) (C .wordCuts) && goodCuts (C .trees) (length (C .thresholds)) (C .thresholdCuts)) t₂)
-            t₃ (and-l (countsGood (C .given)) (countsOne (C .given)) t₄) t₅;
+        passed = from-tests (C .shape) (C .trees) (C .given) s (and-l (lengths (C .shape) (C .trees) (C .given)) (cutsGood C) t₂) t₃ (and-l (countsGood (C .given)) (countsOne (C .given)) t₄) t₅;
         ranges = t₁;
         someTrees = leb→le 1 (C .trees) (and-l (leb 1 (C .trees)) (leb (C .trees) 1024) n);
-        room = leb→le (total asks (frames C)) (shortest (R .nodes)) a;
+        room = leb→le (total roomFor (frames C)) (shortest (R .nodes)) a;
         startsRoom = leb→le (suc (C .trees)) (length (R .starts)) b;
       }
 
@@ -159,14 +157,16 @@ abbrev pub Binary64 : List Float → Type 0
 Binary64 xs = Every (λ x. T (fits binary64 x)) xs
 
 module _ (S : Shape) (trees : ℕ) (G : Given) (p : Passed S trees G) (F : Frame) (f : Framed S G F) where
-  cell-same : (i j : ℕ) → j < S .features → at j (element F (G .measured) i) ≡ cell (S .features) (G .measured .values) j i
-  unfolding at element valuesOf valuesAt
-  cell-same i j h =
-      getD-take (F .params .features) (drop (i * F .params .features) (G .measured .values)) j nan (subst (λ n. j < n) (sym (f .featuresSame)) h)
-      ∙ getD-drop (i * F .params .features) (G .measured .values) j nan
-      ∙ ap (λ n. getD (G .measured .values) (i * n + j) nan) (f .featuresSame)
+  cell-same : (i j : ℕ) → at j (element F (G .inputs) i) ≡ cell (S .features) (G .inputs .values) j i
+  unfolding at element valuesOf cell
+  cell-same i j = ap (λ n. getD (valuesAt n (G .inputs .values) i) j nan) (f .featuresSame)
 
-  inside : (i j : ℕ) → i < S .rows → j < S .features → i * S .features + j < length (G .measured .values)
+  -- where it lies
+  cell-at : (i j : ℕ) → j < S .features → cell (S .features) (G .inputs .values) j i ≡ getD (G .inputs .values) (i * S .features + j) nan
+  unfolding cell valuesAt
+  cell-at i j h = getD-take (S .features) (drop (i * S .features) (G .inputs .values)) j nan h ∙ getD-drop (i * S .features) (G .inputs .values) j nan
+
+  inside : (i j : ℕ) → i < S .rows → j < S .features → i * S .features + j < length (G .inputs .values)
   inside i j h k =
       subst (λ n. i * S .features + j < n) (sym (p .valuesLong))
       (step (i * S .features) (S .rows * S .features) j (S .features) k (subst (λ n. n ≤ S .rows * S .features) (suc-mul i (S .features)) (mul-le-mul-right (S .features) h)))
@@ -174,42 +174,44 @@ module _ (S : Shape) (trees : ℕ) (G : Given) (p : Passed S trees G) (F : Frame
       step : (a b j k : ℕ) → j < k → a + k ≤ b → a + j < b
       step a b j k x y = omega arith
 
-  cell-finite : (i j : ℕ) → i < S .rows → j < S .features → T (finite (cell (S .features) (G .measured .values) j i))
-  cell-finite i j h k = every-at _ (G .measured .values) nan (i * S .features + j) (p .valuesFinite) (inside i j h k)
+  cell-finite : (i j : ℕ) → i < S .rows → j < S .features → T (finite (cell (S .features) (G .inputs .values) j i))
+  cell-finite i j h k = subst (λ x. T (finite x)) (sym (cell-at i j k)) (every-at _ (G .inputs .values) nan (i * S .features + j) (p .valuesFinite) (inside i j h k))
 
-  rising : (j : ℕ) → j < S .features → (l : List ℕ) → Every (λ i. i < S .rows) l → T (neverFalls (cell (S .features) (G .measured .values) j) l)
-      → Ordered (Before F (G .measured) j) l
+  rising : (j : ℕ) → j < S .features → (l : List ℕ) → Every (λ i. i < S .rows) l → T (neverFalls (cell (S .features) (G .inputs .values) j) l)
+      → Ordered (Before F (G .inputs) j) l
   unfolding neverFalls
   rising j h l b t =
-      ordered-along (Before F (G .measured) j) (λ a c. not (lt (v c) (v a))) (λ i. i < S .rows)
-      (λ a c u w n. subst (λ z. T (le z (x c))) (sym (cell-same a j h)) (subst (λ z. T (le (v a) z)) (sym (cell-same c j h)) (not-falls (v a) (v c) (cell-finite a j u h) (cell-finite c j w h) n)))
+      ordered-along (Before F (G .inputs) j) (λ a c. not (lt (v c) (v a))) (λ i. i < S .rows)
+      (λ a c u w n. subst (λ z. T (le z (x c))) (sym (cell-same a j)) (subst (λ z. T (le (v a) z)) (sym (cell-same c j)) (not-falls (v a) (v c) (cell-finite a j u h) (cell-finite c j w h) n)))
       (λ a c d. le-trans64 (x a) (x c) (x d)) l b t
     where
       x : ℕ → Float
-      x i = at j (element F (G .measured) i)
+      x i = at j (element F (G .inputs) i)
 
       v : ℕ → Float
-      v i = cell (S .features) (G .measured .values) j i
+      v i = cell (S .features) (G .inputs .values) j i
 
   good : (j : ℕ) → j < S .features
-      → T (eachOnce (S .rows) (listingAt (S .rows) (G .measured .listings) j)) × T (neverFalls (cell (S .features) (G .measured .values) j) (listingAt (S .rows) (G .measured .listings) j))
+      → T (eachOnce (S .rows) (listingAt (S .rows) (G .inputs .listings) j)) × T (neverFalls (cell (S .features) (G .inputs .values) j) (listingAt (S .rows) (G .inputs .listings) j))
   unfolding listingsGood goodListing
   good j h =
-      and2 (eachOnce (S .rows) (listingAt (S .rows) (G .measured .listings) j)) (neverFalls (cell (S .features) (G .measured .values) j) (listingAt (S .rows) (G .measured .listings) j))
-      (subst (λ k. T (goodListing S (G .measured .values) (G .measured .listings) k)) (zero-add j)
-      (every-from _ 0 (S .features) (each (goodListing S (G .measured .values) (G .measured .listings)) (from 0 (S .features)) (p .listings)) j h))
+      and2 (eachOnce (S .rows) (listingAt (S .rows) (G .inputs .listings) j)) (neverFalls (cell (S .features) (G .inputs .values) j) (listingAt (S .rows) (G .inputs .listings) j))
+      (subst (λ k. T (goodListing S (G .inputs .values) (G .inputs .listings) k)) (zero-add j)
+      (every-from _ 0 (S .features) (each (goodListing S (G .inputs .values) (G .inputs .listings)) (from 0 (S .features)) (p .listings)) j h))
 
-  pub listed-right : Binary64 (G .measured .values) → Listed F (G .measured)
+  pub listed-right : Binary64 (G .inputs .values) → Listed F (G .inputs)
   unfolding listing fits
   listed-right held =
       record {
-        once = λ j h. subst (λ n. T (eachOnce n (listingAt n (G .measured .listings) j))) (sym (f .rowsSame)) (good j (wide j h) .0);
+        once = λ j h. subst (λ n. T (eachOnce n (listingAt n (G .inputs .listings) j))) (sym (f .rowsSame)) (good j (wide j h) .0);
         rising = λ j h.
-            subst (λ n. Ordered (Before F (G .measured) j) (listingAt n (G .measured .listings) j)) (sym (f .rowsSame))
-            (rising j (wide j h) (listingAt (S .rows) (G .measured .listings) j) (once-below (S .rows) _ (good j (wide j h) .0)) (good j (wide j h) .1));
+            subst (λ n. Ordered (Before F (G .inputs) j) (listingAt n (G .inputs .listings) j)) (sym (f .rowsSame))
+            (rising j (wide j h) (listingAt (S .rows) (G .inputs .listings) j) (once-below (S .rows) _ (good j (wide j h) .0)) (good j (wide j h) .1));
         values = λ i j h k.
-            subst Value (sym (cell-same i j (wide j k)))
-            (every-or _ (G .measured .values) nan (i * S .features + j) held tt, cell-finite i j (subst (λ n. i < n) (f .rowsSame) h) (wide j k));
+            subst Value (sym (cell-same i j)) (
+              subst (λ x. T (fits binary64 x)) (sym (cell-at i j (wide j k))) (every-or _ (G .inputs .values) nan (i * S .features + j) held tt),
+              cell-finite i j (subst (λ n. i < n) (f .rowsSame) h) (wide j k),
+            );
       }
     where
       wide : (j : ℕ) → j < F .params .features → j < S .features

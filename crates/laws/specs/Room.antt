@@ -10,7 +10,7 @@ use Rattle.rules.specs.declared.Params.{Params}
 use Rattle.rules.specs.Words.{keep, total}
 use Rattle.rules.specs.Draws.{Out}
 use Rattle.rules.specs.Search.{Element, Task, goesTrue, same, Found, uncut, cut}
-use Rattle.rules.specs.Growth.{Waiting, State, child, withChildren, joins, asked, ask, expand, fromRoot}
+use Rattle.rules.specs.Growth.{Waiting, State, child, withChildren, joins, searchable, searchIf, expand, fromRoot}
 use Rattle.laws.specs.Lists.{Every, every-append, getD-keep, total-append, total-sides}
 use Rattle.laws.specs.Outs.{Then, then-then, then-after}
 use Rattle.laws.specs.Stack.{children-length, root-keep}
@@ -63,11 +63,11 @@ module _ (P : Params) {S : Type 0} (choose : S → Task → Out (Found × S))
   joins-load n level task uncut = omega arith
   joins-load n level task (cut c) = omega arith
 
-  pub ask-load : (b : Bool) (n level : ℕ) (task : Task) (s : S) → Good P task
-      → Then (ask P choose b n level task s) (λ r. Every (Ripe P) (r .0) × (load (r .0) ≤ rowsOf task - 1))
-  unfolding ask total
-  ask-load false n level task s g = (tt, omega arith)
-  ask-load true n level task s g =
+  pub searchIf-load : (b : Bool) (n level : ℕ) (task : Task) (s : S) → Good P task
+      → Then (searchIf P choose b n level task s) (λ r. Every (Ripe P) (r .0) × (load (r .0) ≤ rowsOf task - 1))
+  unfolding searchIf total
+  searchIf-load false n level task s g = (tt, omega arith)
+  searchIf-load true n level task s g =
       then-then (choose s task) _ _ _ (fine s task g) (λ r h. (joins-ripe n level task (r .0) g h, joins-load n level task (r .0)))
 
   abbrev Bounded : ℕ → List Waiting → State S → Type 0
@@ -77,8 +77,8 @@ module _ (P : Params) {S : Type 0} (choose : S → Task → Out (Found × S))
       → Then (expand P choose w s) (λ r. Bounded top (r .0 ++ ws) (r .1))
   unfolding expand total
   expand-bounded some top w ws s b h =
-      then-then (ask P choose (asked P (suc (w .level)) (child same w)) (length (s .nodes)) (suc (w .level)) (child same w) (s .left)) _ _ _ (ask-load _ _ _ _ _ (side-good P same w (h .0 .0)))
-      (λ t ht. then-then (ask P choose (asked P (suc (w .level)) (child not w)) (suc (length (s .nodes))) (suc (w .level)) (child not w) (t .1)) _ _ _ (ask-load _ _ _ _ _ (side-good P not w (h .0 .0)))
+      then-then (searchIf P choose (searchable P (suc (w .level)) (child same w)) (length (s .nodes)) (suc (w .level)) (child same w) (s .left)) _ _ _ (searchIf-load _ _ _ _ _ (side-good P same w (h .0 .0)))
+      (λ t ht. then-then (searchIf P choose (searchable P (suc (w .level)) (child not w)) (suc (length (s .nodes))) (suc (w .level)) (child not w) (t .1)) _ _ _ (searchIf-load _ _ _ _ _ (side-good P not w (h .0 .0)))
       (λ f hf. (
         every-append _ (f .0 ++ t .0) ws (every-append _ (f .0) (t .0) (hf .0) (ht .0)) (h .0 .1),
         room (length (s .nodes)) (length (withChildren w (s .nodes))) (load (f .0 ++ t .0 ++ ws)) (load (f .0)) (load (t .0)) (load ws)
@@ -96,7 +96,7 @@ module _ (P : Params) {S : Type 0} (choose : S → Task → Out (Found × S))
   room-enough some root s g =
       then-after (fromRoot P choose root s) _ _
       (root-keep P choose (Bounded (1 + 2 * (rowsOf root - 1))) (expand-bounded some (1 + 2 * (rowsOf root - 1))) root s
-      (then-after (ask P choose (ltb 0 (root .count) && asked P 1 root) 0 1 root s) _ _ (ask-load _ 0 1 root s g)
+      (then-after (searchIf P choose (ltb 0 (root .count) && searchable P 1 root) 0 1 root s) _ _ (searchIf-load _ 0 1 root s g)
       (λ r q. (q .0, start (load (r .0)) (rowsOf root) (q .1)))))
       (λ s′ h. last (length (s′ .nodes)) (1 + 2 * (rowsOf root - 1)) (h .1))
     where

@@ -11,8 +11,8 @@ use lib.Dec.{T, ltb, ltb→lt}
 use lib.Ieee.{nan, lt, le}
 use lib.Ieee.Fits.{and-l}
 use Rattle.rules.specs.Words.{nought, from, keep, total, eachOnce}
-use Rattle.rules.specs.Lent.{Data, Frame, unweighted}
-use Rattle.rules.specs.Checks.{countOf, kept, keptRows, asks}
+use Rattle.rules.specs.Lent.{Data, Frame, unweighted, countOf, kept, keptRows}
+use Rattle.rules.specs.Checks.{roomFor}
 use Rattle.rules.specs.Draws.{tape}
 use Rattle.rules.specs.Search.{Element, at, tally, search}
 use Rattle.rules.specs.Growth.{fromRoot}
@@ -92,8 +92,8 @@ module _ (F : Frame) (D : Data) (ok : Listed F D) where
   root-rows some = ap (total (λ e. 1)) (column-at 0 some) ∙ column-whole 0 some (λ e. 1) ∙ length-total (keptRows F)
 
   -- the node room that is asked is enough
-  pub fit-nodes : 0 < F .params .features → Then (fit F D) (λ t. length (t .nodes) ≤ asks F)
-  unfolding fit rooted treeOf asks
+  pub fit-nodes : 0 < F .params .features → Then (fit F D) (λ t. length (t .nodes) ≤ roomFor F)
+  unfolding fit rooted treeOf roomFor
   fit-nodes some =
       then-then (fromRoot (F .params) (search (tape (F .params .features)) (F .params)) (root F D) _) _ _ _
       (room-enough (F .params) (search (tape (F .params .features)) (F .params)) (search-fine (F .params) (tape (F .params .features)) (tape-fair (F .params))) some (root F D) _ root-good)

@@ -19,10 +19,10 @@ use Rattle.rules.specs.Words.{keep, total}
 use Rattle.rules.specs.Totals.{empty}
 use Rattle.rules.specs.Draws.{Out}
 use Rattle.rules.specs.Search.{Task, goesTrue, same, Found, uncut, cut}
-use Rattle.rules.specs.Growth.{Grown, Waiting, State, child, leafOf, splitting, splitOf, withChildren, joins, asked, ask, expand, fromRoot}
+use Rattle.rules.specs.Growth.{TreeNode, Waiting, State, child, leafOf, splitting, splitOf, withChildren, joins, searchable, searchIf, expand, fromRoot}
 use Rattle.laws.specs.Lists.{Every, every-imp, every-append, every-keep, total-le, total-sides}
 use Rattle.laws.specs.Outs.{Then, then-both, then-after, always}
-use Rattle.laws.specs.Stack.{children-length, ask-joins, expand-joins, expand-nodes, root-keep}
+use Rattle.laws.specs.Stack.{children-length, searchIf-joins, expand-joins, expand-nodes, root-keep}
 use Rattle.laws.specs.Cuts.{Good, Suits, Ripe, side-good}
 
 -- ---- the counts of a fine cut's two sides
@@ -55,17 +55,17 @@ module _ (P : Params) (w : Waiting) (h : Ripe P w) where
 
 -- ---- nodes
 
-abbrev pub noNode : Grown
+abbrev pub noNode : TreeNode
 noNode = record { totals = empty; count = 0; kind = Leaf }
 
-abbrev pub kindAt : List Grown → ℕ → Kind
+abbrev pub kindAt : List TreeNode → ℕ → Kind
 kindAt ns k = getD ns k noNode .kind
 
-abbrev pub countAt : List Grown → ℕ → ℕ
+abbrev pub countAt : List TreeNode → ℕ → ℕ
 countAt ns k = getD ns k noNode .count
 
 -- a split's feature is in range, its children lie above it and inside, and each has some of its count, the least leaf at the least
-pub record Divides (P : Params) (ns : List Grown) (k : ℕ) (s : Fork) : Type 0 where
+pub record Divides (P : Params) (ns : List TreeNode) (k : ℕ) (s : Fork) : Type 0 where
   pub known : s .cut .feature < P .features
   pub above : k < s .children
   pub inside : suc (s .children) < length ns
@@ -75,12 +75,12 @@ pub record Divides (P : Params) (ns : List Grown) (k : ℕ) (s : Fork) : Type 0 
   pub leafFalse : P .leaf ≤ countAt ns (suc (s .children))
   pub whole : countAt ns (s .children) + countAt ns (suc (s .children)) ≡ countAt ns k
 
-pub record Stands (P : Params) (ns : List Grown) : Type 0 where
+pub record Stands (P : Params) (ns : List TreeNode) : Type 0 where
   pub some : 0 < length ns
   pub splits : (k : ℕ) (s : Fork) → kindAt ns k ≡ Split s → Divides P ns k s
 
 -- a node that waits, and its place among the nodes
-pub record Placed (P : Params) (ns : List Grown) (w : Waiting) : Type 0 where
+pub record Placed (P : Params) (ns : List TreeNode) (w : Waiting) : Type 0 where
   pub ripe : Ripe P w
   pub inside : w .number < length ns
   pub count : countAt ns (w .number) ≡ w .task .count
@@ -96,8 +96,8 @@ abbrev forkOf : Fork → Kind → Fork
 forkOf d Leaf = d
 forkOf d (Split s) = s
 
-module _ (P : Params) (w : Waiting) (ns : List Grown) (h : Stands P ns) (p : Placed P ns w) where
-  abbrev after : List Grown
+module _ (P : Params) (w : Waiting) (ns : List TreeNode) (h : Stands P ns) (p : Placed P ns w) where
+  abbrev after : List TreeNode
   after = withChildren w ns
 
   -- the split node, and the two new ones
@@ -125,19 +125,19 @@ module _ (P : Params) (w : Waiting) (ns : List Grown) (h : Stands P ns) (p : Pla
   count-stays k l = go (ℕ-discrete k (w .number))
     where
       go : Dec (k ≡ w .number) → countAt after k ≡ countAt ns k
-      go (yes q) = ap (countAt after) q ∙ ap (λ (n : Grown). n .count) at-split ∙ sym (p .count) ∙ ap (countAt ns) (sym q)
-      go (no d) = ap (λ (n : Grown). n .count) (at-other k l d)
+      go (yes q) = ap (countAt after) q ∙ ap (λ (n : TreeNode). n .count) at-split ∙ sym (p .count) ∙ ap (countAt ns) (sym q)
+      go (no d) = ap (λ (n : TreeNode). n .count) (at-other k l d)
 
   pub true-count : countAt after (length ns) ≡ child same w .count
   unfolding leafOf
-  true-count = ap (countAt after) (zero-more (length ns)) ∙ ap (λ (n : Grown). n .count) (at-new 0)
+  true-count = ap (countAt after) (zero-more (length ns)) ∙ ap (λ (n : TreeNode). n .count) (at-new 0)
     where
       zero-more : (n : ℕ) → n ≡ n + 0
       zero-more n = omega arith
 
   pub false-count : countAt after (suc (length ns)) ≡ child not w .count
   unfolding leafOf
-  false-count = ap (countAt after) (one-more (length ns)) ∙ ap (λ (n : Grown). n .count) (at-new 1)
+  false-count = ap (countAt after) (one-more (length ns)) ∙ ap (λ (n : TreeNode). n .count) (at-new 1)
     where
       one-more : (n : ℕ) → suc n ≡ n + 1
       one-more n = omega arith
@@ -155,7 +155,7 @@ module _ (P : Params) (w : Waiting) (ns : List Grown) (h : Stands P ns) (p : Pla
         someFalse = subst (λ n. 1 ≤ n) (sym false-count) (c .someFalse);
         leafTrue = subst (λ n. P .leaf ≤ n) (sym true-count) (c .leafTrue);
         leafFalse = subst (λ n. P .leaf ≤ n) (sym false-count) (c .leafFalse);
-        whole = (λ i. true-count i + false-count i) ∙ c .whole ∙ sym (ap (λ (n : Grown). n .count) at-split);
+        whole = (λ i. true-count i + false-count i) ∙ c .whole ∙ sym (ap (λ (n : TreeNode). n .count) at-split);
       }
     where
       two-more : (n n′ : ℕ) → n′ ≡ n + 2 → suc n < n′
@@ -182,7 +182,7 @@ module _ (P : Params) (w : Waiting) (ns : List Grown) (h : Stands P ns) (p : Pla
   -- from the end on all are leaves
   leaf-past : (k : ℕ) → ¬ (k < length ns) → kindAt after k ≡ Leaf
   unfolding leafOf
-  leaf-past k l = ap (kindAt after) (back (length ns) k l) ∙ ap (λ (n : Grown). n .kind) (at-new (k - length ns)) ∙ new (k - length ns)
+  leaf-past k l = ap (kindAt after) (back (length ns) k l) ∙ ap (λ (n : TreeNode). n .kind) (at-new (k - length ns)) ∙ new (k - length ns)
     where
       back : (n k : ℕ) → ¬ (k < n) → k ≡ n + (k - n)
       back n k l = omega arith
@@ -206,8 +206,8 @@ module _ (P : Params) (w : Waiting) (ns : List Grown) (h : Stands P ns) (p : Pla
       go : (k : ℕ) (s : Fork) → kindAt after k ≡ Split s → Dec (k ≡ w .number) → Dec (k < length ns) → Divides P after k s
       go k s q (yes e) l =
           subst (λ z. Divides P after z s) (sym e)
-          (subst (Divides P after (w .number)) (ap (forkOf s) (sym (ap (λ (n : Grown). n .kind) at-split) ∙ ap (kindAt after) (sym e) ∙ q)) divides-new)
-      go k s q (no d) (yes l) = divides-old k l s (h .splits k s (sym (ap (λ (n : Grown). n .kind) (at-other k l d)) ∙ q))
+          (subst (Divides P after (w .number)) (ap (forkOf s) (sym (ap (λ (n : TreeNode). n .kind) at-split) ∙ ap (kindAt after) (sym e) ∙ q)) divides-new)
+      go k s q (no d) (yes l) = divides-old k l s (h .splits k s (sym (ap (λ (n : TreeNode). n .kind) (at-other k l d)) ∙ q))
       go k s q (no d) (no l) = absurd (leaf≢split s (sym (leaf-past k l) ∙ q))
 
   pub placed-on : (v : Waiting) → Placed P ns v → Placed P after v
@@ -219,7 +219,7 @@ module _ (P : Params) (w : Waiting) (ns : List Grown) (h : Stands P ns) (p : Pla
 
 module _ (P : Params) {S : Type 0} (choose : S → Task → Out (Found × S))
     (fine : (s : S) (task : Task) → Good P task → Then (choose s task) (λ r. Suits P task (r .0))) where
-  joins-placed : (ns : List Grown) (n level : ℕ) (task : Task) (f : Found) → Good P task → Suits P task f → n < length ns → countAt ns n ≡ task .count
+  joins-placed : (ns : List TreeNode) (n level : ℕ) (task : Task) (f : Found) → Good P task → Suits P task f → n < length ns → countAt ns n ≡ task .count
       → Every (Placed P ns) (joins n level task f)
   unfolding joins
   joins-placed ns n level task uncut g s l c = tt
@@ -228,8 +228,8 @@ module _ (P : Params) {S : Type 0} (choose : S → Task → Out (Found × S))
   abbrev Kept : List Waiting → State S → Type 0
   Kept ws s = Every (Placed P (s .nodes)) ws × Stands P (s .nodes)
 
-  joined : (w : Waiting) (s : State S) → Placed P (s .nodes) w → Stands P (s .nodes) → Then (expand P choose w s) (λ r. Every (Placed P (withChildren w (s .nodes))) (r .0))
-  joined w s p k =
+  withTree : (w : Waiting) (s : State S) → Placed P (s .nodes) w → Stands P (s .nodes) → Then (expand P choose w s) (λ r. Every (Placed P (withChildren w (s .nodes))) (r .0))
+  withTree w s p k =
       expand-joins P choose _ w s
       (λ t a. one same (length (s .nodes)) t (first n n′ (children-length w (s .nodes))) (true-count P w (s .nodes) k p))
       (λ t a. one not (suc (length (s .nodes))) t (second n n′ (children-length w (s .nodes))) (false-count P w (s .nodes) k p))
@@ -255,7 +255,7 @@ module _ (P : Params) {S : Type 0} (choose : S → Task → Out (Found × S))
   expand-kept : (w : Waiting) (ws : List Waiting) (s : State S) → w .level < P .limit → Kept (w ∷ ws) s → Then (expand P choose w s) (λ r. Kept (r .0 ++ ws) (r .1))
   expand-kept w ws s b h =
       then-after (expand P choose w s) _ _
-      (then-both (expand P choose w s) _ _ (joined w s (h .0 .0) (h .1)) (expand-nodes P choose w s))
+      (then-both (expand P choose w s) _ _ (withTree w s (h .0 .0) (h .1)) (expand-nodes P choose w s))
       (λ r q. (
         subst (λ ns. Every (Placed P ns) (r .0 ++ ws)) (sym (q .1))
             (every-append _ (r .0) ws (q .0) (every-imp _ _ (λ v k. placed-on P w (s .nodes) (h .1) (h .0 .0) v k) ws (h .0 .1))),
@@ -268,10 +268,10 @@ module _ (P : Params) {S : Type 0} (choose : S → Task → Out (Found × S))
   growth-stands root s g =
       then-after (fromRoot P choose root s) _ _
       (root-keep P choose Kept expand-kept root s
-      (then-both (ask P choose (ltb 0 (root .count) && asked P 1 root) 0 1 root s) _ _
-      (ask-joins P choose _ _ 0 1 root s
+      (then-both (searchIf P choose (ltb 0 (root .count) && searchable P 1 root) 0 1 root s) _ _
+      (searchIf-joins P choose _ _ 0 1 root s
       (λ t. then-after (choose s root) _ _ (fine s root g) (λ r f. joins-placed (leafOf root ∷ []) 0 1 root (r .0) g f (lit< tt) refl)))
-      (always (ask P choose (ltb 0 (root .count) && asked P 1 root) 0 1 root s) _ (λ r. start))))
+      (always (searchIf P choose (ltb 0 (root .count) && searchable P 1 root) 0 1 root s) _ (λ r. start))))
       (λ s′ h. h .1)
     where
       only : (k : ℕ) → kindAt (leafOf root ∷ []) k ≡ Leaf

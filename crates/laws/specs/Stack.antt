@@ -11,11 +11,11 @@ use lib.Ieee.Fits.{and-l, and-r}
 use Rattle.rules.specs.declared.Params.{Params}
 use Rattle.rules.specs.Draws.{Out, bind}
 use Rattle.rules.specs.Search.{Task, Found, uncut, cut, same}
-use Rattle.rules.specs.Growth.{Grown, Waiting, State, child, leafOf, splitOf, withChildren, joins, runs, asked, ask, expand, grow, growAll, fromRoot}
+use Rattle.rules.specs.Growth.{TreeNode, Waiting, State, child, leafOf, splitOf, withChildren, joins, runs, searchable, searchIf, expand, grow, growAll, fromRoot}
 use Rattle.laws.specs.Lists.{Every, every-append, every-imp}
 use Rattle.laws.specs.Outs.{bind-assoc, Then, then-then, then-any, then-both, always, bind-all, bind-same}
 
-pub children-length : (w : Waiting) (ns : List Grown) → length (withChildren w ns) ≡ length ns + 2
+pub children-length : (w : Waiting) (ns : List TreeNode) → length (withChildren w ns) ≡ length ns + 2
 unfolding withChildren
 children-length w ns =
     length-append (set ns (w .number) (splitOf w (length ns))) (leafOf (child same w) ∷ leafOf (child not w) ∷ [])
@@ -38,39 +38,39 @@ runs-same f g (w ∷ ws) s h =
 module _ (P : Params) {S : Type 0} (choose : S → Task → Out (Found × S)) where
   -- ---- who joins: one at most, under the number and at the level asked
 
-  -- what holds of the node asked, if it joins
-  pub ask-joins : (Q : Waiting → Type 0) (b : Bool) (n level : ℕ) (task : Task) (s : S)
-      → (T b → Then (choose s task) (λ r. Every Q (joins n level task (r .0)))) → Then (ask P choose b n level task s) (λ r. Every Q (r .0))
-  unfolding ask
-  ask-joins Q false n level task s h = tt
-  ask-joins Q true n level task s h = then-then (choose s task) _ _ _ (h tt) (λ r q. q)
+  -- what holds of the node searched, if it joins
+  pub searchIf-joins : (Q : Waiting → Type 0) (b : Bool) (n level : ℕ) (task : Task) (s : S)
+      → (T b → Then (choose s task) (λ r. Every Q (joins n level task (r .0)))) → Then (searchIf P choose b n level task s) (λ r. Every Q (r .0))
+  unfolding searchIf
+  searchIf-joins Q false n level task s h = tt
+  searchIf-joins Q true n level task s h = then-then (choose s task) _ _ _ (h tt) (λ r q. q)
 
   -- what holds of both children, if they join
   pub expand-joins : (Q : Waiting → Type 0) (w : Waiting) (s : State S)
-      → ((t : S) → T (asked P (suc (w .level)) (child same w)) → Then (choose t (child same w)) (λ r. Every Q (joins (length (s .nodes)) (suc (w .level)) (child same w) (r .0))))
-      → ((t : S) → T (asked P (suc (w .level)) (child not w)) → Then (choose t (child not w)) (λ r. Every Q (joins (suc (length (s .nodes))) (suc (w .level)) (child not w) (r .0))))
+      → ((t : S) → T (searchable P (suc (w .level)) (child same w)) → Then (choose t (child same w)) (λ r. Every Q (joins (length (s .nodes)) (suc (w .level)) (child same w) (r .0))))
+      → ((t : S) → T (searchable P (suc (w .level)) (child not w)) → Then (choose t (child not w)) (λ r. Every Q (joins (suc (length (s .nodes))) (suc (w .level)) (child not w) (r .0))))
       → Then (expand P choose w s) (λ r. Every Q (r .0))
   unfolding expand
   expand-joins Q w s h g =
-      then-then (ask P choose (asked P (suc (w .level)) (child same w)) (length (s .nodes)) (suc (w .level)) (child same w) (s .left)) _ _ _
-      (ask-joins Q _ _ _ _ _ (h (s .left)))
-      (λ t ht. then-then (ask P choose (asked P (suc (w .level)) (child not w)) (suc (length (s .nodes))) (suc (w .level)) (child not w) (t .1)) _ _ _
-      (ask-joins Q _ _ _ _ _ (g (t .1)))
+      then-then (searchIf P choose (searchable P (suc (w .level)) (child same w)) (length (s .nodes)) (suc (w .level)) (child same w) (s .left)) _ _ _
+      (searchIf-joins Q _ _ _ _ _ (h (s .left)))
+      (λ t ht. then-then (searchIf P choose (searchable P (suc (w .level)) (child not w)) (suc (length (s .nodes))) (suc (w .level)) (child not w) (t .1)) _ _ _
+      (searchIf-joins Q _ _ _ _ _ (g (t .1)))
       (λ f hf. every-append _ (f .0) (t .0) hf ht))
 
   pub expand-nodes : (w : Waiting) (s : State S) → Then (expand P choose w s) (λ r. r .1 .nodes ≡ withChildren w (s .nodes))
   unfolding expand
   expand-nodes w s =
-      then-any (ask P choose (asked P (suc (w .level)) (child same w)) (length (s .nodes)) (suc (w .level)) (child same w) (s .left)) _ _
-      (λ t. then-any (ask P choose (asked P (suc (w .level)) (child not w)) (suc (length (s .nodes))) (suc (w .level)) (child not w) (t .1)) _ _ (λ f. refl))
+      then-any (searchIf P choose (searchable P (suc (w .level)) (child same w)) (length (s .nodes)) (suc (w .level)) (child same w) (s .left)) _ _
+      (λ t. then-any (searchIf P choose (searchable P (suc (w .level)) (child not w)) (suc (length (s .nodes))) (suc (w .level)) (child not w) (t .1)) _ _ (λ f. refl))
 
   -- v waits at a level below the limit
   abbrev pub AtLevel : ℕ → Waiting → Type 0
   AtLevel level v = (v .level ≡ level) × (v .level < P .limit)
 
-  pub asked-below : (level : ℕ) (task : Task) → T (asked P level task) → level < P .limit
-  unfolding asked
-  asked-below level task t = ltb→lt level (P .limit) (and-l (ltb level (P .limit)) (leb (P .split) (task .count)) t)
+  pub searchable-below : (level : ℕ) (task : Task) → T (searchable P level task) → level < P .limit
+  unfolding searchable
+  searchable-below level task t = ltb→lt level (P .limit) (and-l (ltb level (P .limit)) (leb (P .split) (task .count)) t)
 
   joins-level : (n level : ℕ) (task : Task) (f : Found) → level < P .limit → Every (AtLevel level) (joins n level task f)
   unfolding joins
@@ -80,13 +80,13 @@ module _ (P : Params) {S : Type 0} (choose : S → Task → Out (Found × S)) wh
   pub expand-level : (w : Waiting) (s : State S) → Then (expand P choose w s) (λ r. Every (AtLevel (suc (w .level))) (r .0))
   expand-level w s = expand-joins _ w s (λ t h. level same (length (s .nodes)) t h) (λ t h. level not (suc (length (s .nodes))) t h)
     where
-      level : (b : Bool → Bool) (n : ℕ) (t : S) → T (asked P (suc (w .level)) (child b w))
+      level : (b : Bool → Bool) (n : ℕ) (t : S) → T (searchable P (suc (w .level)) (child b w))
           → Then (choose t (child b w)) (λ r. Every (AtLevel (suc (w .level))) (joins n (suc (w .level)) (child b w) (r .0)))
-      level b n t h = always (choose t (child b w)) _ (λ r. joins-level n (suc (w .level)) (child b w) (r .0) (asked-below (suc (w .level)) (child b w) h))
+      level b n t h = always (choose t (child b w)) _ (λ r. joins-level n (suc (w .level)) (child b w) (r .0) (searchable-below (suc (w .level)) (child b w) h))
 
-  pub root-level : (root : Task) (s : S) → Then (ask P choose (ltb 0 (root .count) && asked P 1 root) 0 1 root s) (λ r. Every (AtLevel 1) (r .0))
+  pub root-level : (root : Task) (s : S) → Then (searchIf P choose (ltb 0 (root .count) && searchable P 1 root) 0 1 root s) (λ r. Every (AtLevel 1) (r .0))
   root-level root s =
-      ask-joins _ _ 0 1 root s (λ t. always (choose s root) _ (λ r. joins-level 0 1 root (r .0) (asked-below 1 root (and-r (ltb 0 (root .count)) (asked P 1 root) t))))
+      searchIf-joins _ _ 0 1 root s (λ t. always (choose s root) _ (λ r. joins-level 0 1 root (r .0) (searchable-below 1 root (and-r (ltb 0 (root .count)) (searchable P 1 root) t))))
 
   -- ---- the stack
 
@@ -148,12 +148,12 @@ module _ (P : Params) {S : Type 0} (choose : S → Task → Out (Found × S)) wh
         then-then (grow P choose (P .limit - w .level) w s) _ (λ s′. I ws s′) (λ s′. I [] s′)
         (grow-keep (P .limit - w .level) w ws s refl (e .0) h) (λ s′ h′. all-keep ws s′ (e .1) h′)
 
-    -- from the root on: what holds once the root has been asked holds in the end
+    -- from the root on: what holds once the root has been searched holds in the end
     pub root-keep : (root : Task) (s : S)
-        → Then (ask P choose (ltb 0 (root .count) && asked P 1 root) 0 1 root s) (λ r. I (r .0) (record { nodes = leafOf root ∷ []; depth = 0; left = r .1 }))
+        → Then (searchIf P choose (ltb 0 (root .count) && searchable P 1 root) 0 1 root s) (λ r. I (r .0) (record { nodes = leafOf root ∷ []; depth = 0; left = r .1 }))
         → Then (fromRoot P choose root s) (λ s′. I [] s′)
     unfolding fromRoot
     root-keep root s h =
-        then-then (ask P choose (ltb 0 (root .count) && asked P 1 root) 0 1 root s) _ _ _
-        (then-both (ask P choose (ltb 0 (root .count) && asked P 1 root) 0 1 root s) _ _ h (root-level root s))
+        then-then (searchIf P choose (ltb 0 (root .count) && searchable P 1 root) 0 1 root s) _ _ _
+        (then-both (searchIf P choose (ltb 0 (root .count) && searchable P 1 root) 0 1 root s) _ _ h (root-level root s))
         (λ r q. all-keep (r .0) (record { nodes = leafOf root ∷ []; depth = 0; left = r .1 }) (every-imp _ _ (λ v l. l .1) (r .0) (q .1)) (q .0))

@@ -14,11 +14,11 @@ use Rattle.rules.specs.declared.Fork.{Fork}
 use Rattle.rules.specs.declared.Kind.{Kind}
 use Rattle.rules.specs.declared.Kind.the-variants.{Leaf, Split}
 use Rattle.rules.specs.Totals.{valueOf}
-use Rattle.rules.specs.Lent.{Data, Frame, Row}
-use Rattle.rules.specs.Growth.{Grown}
-use Rattle.rules.specs.Fit.{rowOf, rows, fit}
-use Rattle.rules.specs.Table.{leafRow, goodRow, goodFrom, goodTree}
-use Rattle.rules.specs.Reading.{noRow, onto, walked}
+use Rattle.rules.specs.Lent.{Data, Frame, Entry}
+use Rattle.rules.specs.Growth.{TreeNode}
+use Rattle.rules.specs.Fit.{entryOf, entries, fit}
+use Rattle.rules.specs.Table.{isLeaf, goodEntry, goodFrom, goodTree}
+use Rattle.rules.specs.Reading.{noEntry, onto, walked}
 use Rattle.laws.specs.Lists.{or-other}
 use Rattle.laws.specs.Outs.{Then, then-after}
 use Rattle.laws.specs.Passed.{and4}
@@ -27,23 +27,23 @@ use Rattle.laws.specs.Root.{Listed, fit-stands}
 
 -- ---- node by node
 
-good-at : (features n k : ℕ) (rs : List Row) → T (goodFrom features n k rs) → (i : ℕ) → i < length rs → T (goodRow features n (k + i) (getD rs i noRow))
+good-at : (features n k : ℕ) (rs : List Entry) → T (goodFrom features n k rs) → (i : ℕ) → i < length rs → T (goodEntry features n (k + i) (getD rs i noEntry))
 unfolding goodFrom
 good-at features n k [] t i h = absurd (not-suc-le-zero h)
-good-at features n k (r ∷ rs) t zero h = subst (λ m. T (goodRow features n m r)) (sym (add-zero k)) (and-l (goodRow features n k r) (goodFrom features n (suc k) rs) t)
+good-at features n k (r ∷ rs) t zero h = subst (λ m. T (goodEntry features n m r)) (sym (add-zero k)) (and-l (goodEntry features n k r) (goodFrom features n (suc k) rs) t)
 good-at features n k (r ∷ rs) t (suc i) h =
-    subst (λ m. T (goodRow features n m (getD rs i noRow))) (shift k i) (good-at features n (suc k) rs (and-r (goodRow features n k r) (goodFrom features n (suc k) rs) t) i (le-of-suc-le-suc h))
+    subst (λ m. T (goodEntry features n m (getD rs i noEntry))) (shift k i) (good-at features n (suc k) rs (and-r (goodEntry features n k r) (goodFrom features n (suc k) rs) t) i (le-of-suc-le-suc h))
   where
     shift : (k i : ℕ) → suc k + i ≡ k + suc i
     shift k i = omega arith
 
-good-from : (features n k : ℕ) (rs : List Row) → ((i : ℕ) → i < length rs → T (goodRow features n (k + i) (getD rs i noRow))) → T (goodFrom features n k rs)
+good-from : (features n k : ℕ) (rs : List Entry) → ((i : ℕ) → i < length rs → T (goodEntry features n (k + i) (getD rs i noEntry))) → T (goodFrom features n k rs)
 unfolding goodFrom
 good-from features n k [] h = tt
 good-from features n k (r ∷ rs) h =
-    and-i (goodRow features n k r) (goodFrom features n (suc k) rs)
-    (subst (λ m. T (goodRow features n m r)) (add-zero k) (h 0 (first (length rs))))
-    (good-from features n (suc k) rs (λ i b. subst (λ m. T (goodRow features n m (getD rs i noRow))) (shift k i) (h (suc i) (next i (length rs) b))))
+    and-i (goodEntry features n k r) (goodFrom features n (suc k) rs)
+    (subst (λ m. T (goodEntry features n m r)) (add-zero k) (h 0 (first (length rs))))
+    (good-from features n (suc k) rs (λ i b. subst (λ m. T (goodEntry features n m (getD rs i noEntry))) (shift k i) (h (suc i) (next i (length rs) b))))
   where
     first : (n : ℕ) → 0 < suc n
     first n = omega arith
@@ -55,18 +55,18 @@ good-from features n k (r ∷ rs) h =
     next i n h = omega arith
 
 -- a split of a good tree of n nodes, at node k
-pub record Onward (features n k : ℕ) (r : Row) : Type 0 where
+pub record Onward (features n k : ℕ) (r : Entry) : Type 0 where
   pub above : k < r .trueChild
   pub next : r .falseChild ≡ suc (r .trueChild)
   pub inside : r .falseChild < n
   pub known : r .feature < features
 
-pub node-good : (features : ℕ) (rs : List Row) → T (goodTree features rs) → (k : ℕ) → k < length rs → leafRow (getD rs k noRow) ≡ false → Onward features (length rs) k (getD rs k noRow)
-unfolding goodTree goodRow
+pub node-good : (features : ℕ) (rs : List Entry) → T (goodTree features rs) → (k : ℕ) → k < length rs → isLeaf (getD rs k noEntry) ≡ false → Onward features (length rs) k (getD rs k noEntry)
+unfolding goodTree goodEntry
 node-good features rs t k h l =
-    let r : Row = getD rs k noRow in
+    let r : Entry = getD rs k noEntry in
     let (a, b, c, d) = and4 (ltb k (r .trueChild)) (eqb (r .falseChild) (suc (r .trueChild))) (ltb (r .falseChild) (length rs)) (ltb (r .feature) features)
-    (or-other (leafRow r) _ l (subst (λ m. T (goodRow features (length rs) m r)) (zero-add k)
+    (or-other (isLeaf r) _ l (subst (λ m. T (goodEntry features (length rs) m r)) (zero-add k)
     (good-at features (length rs) 0 rs (and-r (ltb 0 (length rs)) (goodFrom features (length rs) 0 rs) t) k h))) in
     record {
       above = ltb→lt k (r .trueChild) a;
@@ -77,29 +77,29 @@ node-good features rs t k h l =
 
 -- ---- the walk
 
-module _ (features : ℕ) (rs : List Row) (good : T (goodTree features rs)) (xs : List Float) where
-  abbrev rowOn : ℕ → Row
-  rowOn k = getD rs k noRow
+module _ (features : ℕ) (rs : List Entry) (good : T (goodTree features rs)) (xs : List Float) where
+  abbrev rowOn : ℕ → Entry
+  rowOn k = getD rs k noEntry
 
   -- where the row goes from a split
   abbrev sent : ℕ → ℕ
   sent k = cond (le (getD xs (rowOn k .feature) nan) (rowOn k .threshold)) (rowOn k .trueChild) (rowOn k .falseChild)
 
-  onto-leaf : (k : ℕ) → leafRow (rowOn k) ≡ true → onto (rowOn k) xs k ≡ k
+  onto-leaf : (k : ℕ) → isLeaf (rowOn k) ≡ true → onto (rowOn k) xs k ≡ k
   unfolding onto
   onto-leaf k q = ap (λ z. cond z k (sent k)) q
 
-  onto-split : (k : ℕ) → leafRow (rowOn k) ≡ false → onto (rowOn k) xs k ≡ sent k
+  onto-split : (k : ℕ) → isLeaf (rowOn k) ≡ false → onto (rowOn k) xs k ≡ sent k
   unfolding onto
   onto-split k q = ap (λ z. cond z k (sent k)) q
 
-  pub leaf-stays : (f k : ℕ) → leafRow (rowOn k) ≡ true → walked f rs xs k ≡ k
+  pub leaf-stays : (f k : ℕ) → isLeaf (rowOn k) ≡ true → walked f rs xs k ≡ k
   unfolding walked
   leaf-stays zero k h = refl
   leaf-stays (suc f) k h = ap (walked f rs xs) (onto-leaf k h) ∙ leaf-stays f k h
 
   -- from a split a row goes up, and stays inside
-  sent-on : (k : ℕ) → k < length rs → leafRow (rowOn k) ≡ false → (k < sent k) × (sent k < length rs)
+  sent-on : (k : ℕ) → k < length rs → isLeaf (rowOn k) ≡ false → (k < sent k) × (sent k < length rs)
   sent-on k h q = go (le (getD xs (rowOn k .feature) nan) (rowOn k .threshold))
     where
       g : Onward features (length rs) k (rowOn k)
@@ -111,7 +111,7 @@ module _ (features : ℕ) (rs : List Row) (good : T (goodTree features rs)) (xs 
 
   pub record Ends (m : ℕ) : Type 0 where
     pub inside : m < length rs
-    pub leaf : leafRow (rowOn m) ≡ true
+    pub leaf : isLeaf (rowOn m) ≡ true
 
   ends-from : (f k : ℕ) → k < length rs → length rs ≤ k + f → Ends (walked f rs xs k)
   unfolding walked
@@ -119,12 +119,12 @@ module _ (features : ℕ) (rs : List Row) (good : T (goodTree features rs)) (xs 
     where
       out : (n k : ℕ) → k < n → n ≤ k + 0 → ⊥
       out n k a b = omega arith
-  ends-from (suc f) k h b = go (leafRow (rowOn k)) refl (λ m a c. ends-from f m a c)
+  ends-from (suc f) k h b = go (isLeaf (rowOn k)) refl (λ m a c. ends-from f m a c)
     where
       next : (n k m : ℕ) → k < m → n ≤ k + suc f → n ≤ m + f
       next n k m x z = omega arith
 
-      go : (z : Bool) → leafRow (rowOn k) ≡ z → ((m : ℕ) → m < length rs → length rs ≤ m + f → Ends (walked f rs xs m)) → Ends (walked f rs xs (onto (rowOn k) xs k))
+      go : (z : Bool) → isLeaf (rowOn k) ≡ z → ((m : ℕ) → m < length rs → length rs ≤ m + f → Ends (walked f rs xs m)) → Ends (walked f rs xs (onto (rowOn k) xs k))
       go true q ih = subst Ends (sym (ap (walked f rs xs) (onto-leaf k q) ∙ leaf-stays f k q)) (record { inside = h; leaf = q })
       go false q ih =
           subst (λ m. Ends (walked f rs xs m)) (sym (onto-split k q)) (ih (sent k) (sent-on k h q .1) (next (length rs) k (sent k) (sent-on k h q .0) b))
@@ -138,44 +138,44 @@ module _ (features : ℕ) (rs : List Row) (good : T (goodTree features rs)) (xs 
 
 -- ---- what a fit grows is a good tree
 
-pub length-rows : (ns : List Grown) → length (rows ns) ≡ length ns
-unfolding rows
-length-rows [] = refl
-length-rows (n ∷ ns) = ap suc (length-rows ns)
+pub length-entries : (ns : List TreeNode) → length (entries ns) ≡ length ns
+unfolding entries
+length-entries [] = refl
+length-entries (n ∷ ns) = ap suc (length-entries ns)
 
-row-of : (ns : List Grown) (k : ℕ) → k < length ns → getD (rows ns) k noRow ≡ rowOf (valueOf (getD ns k noNode .totals)) (kindAt ns k)
-unfolding rows
-row-of [] k h = absurd (not-suc-le-zero h)
-row-of (n ∷ ns) zero h = refl
-row-of (n ∷ ns) (suc k) h = row-of ns k (le-of-suc-le-suc h)
+entry-of : (ns : List TreeNode) (k : ℕ) → k < length ns → getD (entries ns) k noEntry ≡ entryOf (valueOf (getD ns k noNode .totals)) (kindAt ns k)
+unfolding entries
+entry-of [] k h = absurd (not-suc-le-zero h)
+entry-of (n ∷ ns) zero h = refl
+entry-of (n ∷ ns) (suc k) h = entry-of ns k (le-of-suc-le-suc h)
 
 or-right : (a b : Bool) → T b → T (a || b)
 or-right true b t = tt
 or-right false b t = t
 
-good-row : (P : Params) (ns : List Grown) (k : ℕ) (v : Float) (z : Kind) → ((s : Fork) → z ≡ Split s → Divides P ns k s) → T (goodRow (P .features) (length ns) k (rowOf v z))
-unfolding goodRow leafRow rowOf
-good-row P ns k v Leaf h = tt
-good-row P ns k v (Split s) h =
+good-entry : (P : Params) (ns : List TreeNode) (k : ℕ) (v : Float) (z : Kind) → ((s : Fork) → z ≡ Split s → Divides P ns k s) → T (goodEntry (P .features) (length ns) k (entryOf v z))
+unfolding goodEntry isLeaf entryOf
+good-entry P ns k v Leaf h = tt
+good-entry P ns k v (Split s) h =
     or-right (eqb (s .children) 0 && eqb (suc (s .children)) 0)
     (ltb k (s .children) && (eqb (suc (s .children)) (suc (s .children)) && (ltb (suc (s .children)) (length ns) && ltb (s .cut .feature) (P .features))))
     (and-i (ltb k (s .children)) _ (lt→ltb k (s .children) (h s refl .above))
     (and-i (eqb (suc (s .children)) (suc (s .children))) _ (eqb-refl (suc (s .children)))
     (and-i (ltb (suc (s .children)) (length ns)) (ltb (s .cut .feature) (P .features)) (lt→ltb (suc (s .children)) (length ns) (h s refl .inside)) (lt→ltb (s .cut .feature) (P .features) (h s refl .known)))))
 
-pub stands-good : (P : Params) (ns : List Grown) → Stands P ns → T (goodTree (P .features) (rows ns))
+pub stands-good : (P : Params) (ns : List TreeNode) → Stands P ns → T (goodTree (P .features) (entries ns))
 unfolding goodTree
 stands-good P ns h =
-    and-i (ltb 0 (length (rows ns))) (goodFrom (P .features) (length (rows ns)) 0 (rows ns))
-    (lt→ltb 0 (length (rows ns)) (subst (λ n. 0 < n) (sym (length-rows ns)) (h .some)))
-    (good-from (P .features) (length (rows ns)) 0 (rows ns) (λ i b. each i (subst (λ n. i < n) (length-rows ns) b)))
+    and-i (ltb 0 (length (entries ns))) (goodFrom (P .features) (length (entries ns)) 0 (entries ns))
+    (lt→ltb 0 (length (entries ns)) (subst (λ n. 0 < n) (sym (length-entries ns)) (h .some)))
+    (good-from (P .features) (length (entries ns)) 0 (entries ns) (λ i b. each i (subst (λ n. i < n) (length-entries ns) b)))
   where
-    each : (i : ℕ) → i < length ns → T (goodRow (P .features) (length (rows ns)) (0 + i) (getD (rows ns) i noRow))
+    each : (i : ℕ) → i < length ns → T (goodEntry (P .features) (length (entries ns)) (0 + i) (getD (entries ns) i noEntry))
     each i b =
-        subst (λ m. T (goodRow (P .features) (length (rows ns)) m (getD (rows ns) i noRow))) (sym (zero-add i))
-        (subst (λ n. T (goodRow (P .features) n i (getD (rows ns) i noRow))) (sym (length-rows ns))
-        (subst (λ r. T (goodRow (P .features) (length ns) i r)) (sym (row-of ns i b))
-        (good-row P ns i (valueOf (getD ns i noNode .totals)) (kindAt ns i) (λ s q. h .splits i s q))))
+        subst (λ m. T (goodEntry (P .features) (length (entries ns)) m (getD (entries ns) i noEntry))) (sym (zero-add i))
+        (subst (λ n. T (goodEntry (P .features) n i (getD (entries ns) i noEntry))) (sym (length-entries ns))
+        (subst (λ r. T (goodEntry (P .features) (length ns) i r)) (sym (entry-of ns i b))
+        (good-entry P ns i (valueOf (getD ns i noNode .totals)) (kindAt ns i) (λ s q. h .splits i s q))))
 
-pub fit-good : (F : Frame) (D : Data) → Listed F D → Then (fit F D) (λ t. T (goodTree (F .params .features) (rows (t .nodes))))
+pub fit-good : (F : Frame) (D : Data) → Listed F D → Then (fit F D) (λ t. T (goodTree (F .params .features) (entries (t .nodes))))
 fit-good F D l = then-after (fit F D) _ _ (fit-stands F D l) (λ t h. stands-good (F .params) (t .nodes) h)

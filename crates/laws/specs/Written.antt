@@ -8,21 +8,21 @@ use lib.ListN.{length, getD, drop, length-append, length-drop, length-map}
 use lib.Seq.{getD-drop, getD-append-seam, drop-drop}
 use lib.Ieee.{nan}
 use Rattle.rules.specs.Words.{from, front}
-use Rattle.rules.specs.Lent.{Columns, Row, shortest, rowAt, rowsAt, writeRows}
-use Rattle.rules.specs.Fit.{rows, Tree}
-use Rattle.rules.specs.Table.{treeAt, treesAt}
-use Rattle.rules.specs.Reading.{noRow}
-use Rattle.rules.specs.Forest.{startsFrom, forestRows}
-use Rattle.laws.specs.Tables.{length-rows}
+use Rattle.rules.specs.Lent.{Columns, Entry, shortest, entryAt, entriesAt, writeEntries}
+use Rattle.rules.specs.Fit.{entries, Tree}
+use Rattle.rules.specs.Table.{treeAt, ForestTable, treesOf}
+use Rattle.rules.specs.Reading.{noEntry}
+use Rattle.rules.specs.Forest.{startsFrom, forestEntries}
+use Rattle.laws.specs.Tables.{length-entries}
 
 -- a column of rows, and more behind it
-map-at {ℓ} : {A : Type ℓ} (f : Row → A) (rs : List Row) (x : List A) (k : ℕ) (d : A) → k < length rs → getD (map f rs ++ x) k d ≡ f (getD rs k noRow)
+map-at {ℓ} : {A : Type ℓ} (f : Entry → A) (rs : List Entry) (x : List A) (k : ℕ) (d : A) → k < length rs → getD (map f rs ++ x) k d ≡ f (getD rs k noEntry)
 map-at f [] x k d h = absurd (not-suc-le-zero h)
 map-at f (r ∷ rs) x zero d h = refl
 map-at f (r ∷ rs) x (suc k) d h = map-at f rs x k d (le-of-suc-le-suc h)
 
-pub row-written : (rs : List Row) (c : Columns) (k : ℕ) → k < length rs → rowAt (writeRows rs c) k ≡ getD rs k noRow
-row-written rs c k h =
+pub entry-written : (rs : List Entry) (c : Columns) (k : ℕ) → k < length rs → entryAt (writeEntries rs c) k ≡ getD rs k noEntry
+entry-written rs c k h =
     λ i.
     record {
       value = one (λ r. r .value) (c .value) nan i;
@@ -33,16 +33,16 @@ row-written rs c k h =
       falseChild = one (λ r. r .falseChild) (c .falseChild) 0 i;
     }
   where
-    one : {A : Type 0} (f : Row → A) (old : List A) (d : A) → getD (front (map f rs) old) k d ≡ f (getD rs k noRow)
+    one : {A : Type 0} (f : Entry → A) (old : List A) (d : A) → getD (front (map f rs) old) k d ≡ f (getD rs k noEntry)
     one f old d = map-at f rs (drop (length (map f rs)) old) k d h
 
 -- a stretch of what was written
-pub rows-written : (all : List Row) (c : Columns) (mid pre post : List Row) → all ≡ pre ++ (mid ++ post) → rowsAt (writeRows all c) (length pre) (length mid) ≡ mid
-unfolding rowsAt from
-rows-written all c [] pre post e = refl
-rows-written all c (x ∷ mid) pre post e =
-    λ i. (row-written all c (length pre) inside ∙ ap (λ l. getD l (length pre) noRow) e ∙ getD-append-seam pre x (mid ++ post) noRow) i
-    ∷ rest (rows-written all c mid (pre ++ (x ∷ [])) post (e ∙ sym (append-assoc pre (x ∷ []) (mid ++ post)))) i
+pub entries-written : (all : List Entry) (c : Columns) (mid pre post : List Entry) → all ≡ pre ++ (mid ++ post) → entriesAt (writeEntries all c) (length pre) (length mid) ≡ mid
+unfolding entriesAt from
+entries-written all c [] pre post e = refl
+entries-written all c (x ∷ mid) pre post e =
+    λ i. (entry-written all c (length pre) inside ∙ ap (λ l. getD l (length pre) noEntry) e ∙ getD-append-seam pre x (mid ++ post) noEntry) i
+    ∷ rest (entries-written all c mid (pre ++ (x ∷ [])) post (e ∙ sym (append-assoc pre (x ∷ []) (mid ++ post)))) i
   where
     short : (n p m : ℕ) → n ≡ p + suc m → p < n
     short n p m h = omega arith
@@ -53,33 +53,33 @@ rows-written all c (x ∷ mid) pre post e =
     one : (n : ℕ) → n + 1 ≡ suc n
     one n = omega arith
 
-    rest : map (rowAt (writeRows all c)) (from (length (pre ++ (x ∷ []))) (length mid)) ≡ mid → map (rowAt (writeRows all c)) (from (suc (length pre)) (length mid)) ≡ mid
-    rest h = ap (λ n. map (rowAt (writeRows all c)) (from n (length mid))) (sym (length-append pre (x ∷ []) ∙ one (length pre))) ∙ h
+    rest : map (entryAt (writeEntries all c)) (from (length (pre ++ (x ∷ []))) (length mid)) ≡ mid → map (entryAt (writeEntries all c)) (from (suc (length pre)) (length mid)) ≡ mid
+    rest h = ap (λ n. map (entryAt (writeEntries all c)) (from n (length mid))) (sym (length-append pre (x ∷ []) ∙ one (length pre))) ∙ h
 
 -- ---- a forest's trees
 
-abbrev pub tables : List Tree → List (List Row)
-tables ts = map (λ (t : Tree). rows (t .nodes)) ts
+abbrev pub tables : List Tree → List (List Entry)
+tables ts = map (λ (t : Tree). entries (t .nodes)) ts
 
 pub first-start : (a : ℕ) (ts : List Tree) (x : List ℕ) (d : ℕ) → getD (startsFrom a ts ++ x) 0 d ≡ a
 unfolding startsFrom
 first-start a [] x d = refl
 first-start a (t ∷ ts) x d = refl
 
-trees-from : (all : List Row) (c : Columns) (starts : List ℕ) (x : List ℕ) (ts : List Tree) (k : ℕ) (pre : List Row) → all ≡ pre ++ forestRows ts → drop k starts ≡ startsFrom (length pre) ts ++ x
-    → map (treeAt (writeRows all c) starts) (from k (length ts)) ≡ tables ts
-unfolding from forestRows startsFrom treeAt
+trees-from : (all : List Entry) (c : Columns) (starts : List ℕ) (x : List ℕ) (ts : List Tree) (k : ℕ) (pre : List Entry) → all ≡ pre ++ forestEntries ts → drop k starts ≡ startsFrom (length pre) ts ++ x
+    → map (treeAt (writeEntries all c) starts) (from k (length ts)) ≡ tables ts
+unfolding from forestEntries startsFrom treeAt
 trees-from all c starts x [] k pre e s = refl
 trees-from all c starts x (t ∷ ts) k pre e s =
-    λ i. head i ∷ trees-from all c starts x ts (suc k) (pre ++ rows (t .nodes)) (e ∙ sym (append-assoc pre (rows (t .nodes)) (forestRows ts))) next i
+    λ i. head i ∷ trees-from all c starts x ts (suc k) (pre ++ entries (t .nodes)) (e ∙ sym (append-assoc pre (entries (t .nodes)) (forestEntries ts))) next i
   where
-    long : length (pre ++ rows (t .nodes)) ≡ length pre + length (t .nodes)
-    long = length-append pre (rows (t .nodes)) ∙ ap (λ n. length pre + n) (length-rows (t .nodes))
+    long : length (pre ++ entries (t .nodes)) ≡ length pre + length (t .nodes)
+    long = length-append pre (entries (t .nodes)) ∙ ap (λ n. length pre + n) (length-entries (t .nodes))
 
     plus-one : (k : ℕ) → k + 1 ≡ suc k
     plus-one k = omega arith
 
-    next : drop (suc k) starts ≡ startsFrom (length (pre ++ rows (t .nodes))) ts ++ x
+    next : drop (suc k) starts ≡ startsFrom (length (pre ++ entries (t .nodes))) ts ++ x
     next = ap (λ n. drop n starts) (sym (plus-one k)) ∙ sym (drop-drop 1 k starts) ∙ ap (drop 1) s ∙ ap (λ n. startsFrom n ts ++ x) (sym long)
 
     here : getD starts k 0 ≡ length pre
@@ -88,23 +88,26 @@ trees-from all c starts x (t ∷ ts) k pre e s =
     there : getD starts (suc k) 0 ≡ length pre + length (t .nodes)
     there =
         ap (λ n. getD starts n 0) (sym (add-zero (suc k))) ∙ sym (getD-drop (suc k) starts 0 0) ∙ ap (λ l. getD l 0 0) next
-        ∙ first-start (length (pre ++ rows (t .nodes))) ts x 0 ∙ long
+        ∙ first-start (length (pre ++ entries (t .nodes))) ts x 0 ∙ long
 
     between : (a b : ℕ) → a + b - a ≡ b
     between a b = omega arith
 
-    head : rowsAt (writeRows all c) (getD starts k 0) (getD starts (suc k) 0 - getD starts k 0) ≡ rows (t .nodes)
+    head : entriesAt (writeEntries all c) (getD starts k 0) (getD starts (suc k) 0 - getD starts k 0) ≡ entries (t .nodes)
     head =
-        (λ i. rowsAt (writeRows all c) (here i) (there i - here i))
-        ∙ ap (λ n. rowsAt (writeRows all c) (length pre) n) (between (length pre) (length (t .nodes)) ∙ sym (length-rows (t .nodes)))
-        ∙ rows-written all c (rows (t .nodes)) pre (forestRows ts) e
+        (λ i. entriesAt (writeEntries all c) (here i) (there i - here i))
+        ∙ ap (λ n. entriesAt (writeEntries all c) (length pre) n) (between (length pre) (length (t .nodes)) ∙ sym (length-entries (t .nodes)))
+        ∙ entries-written all c (entries (t .nodes)) pre (forestEntries ts) e
 
-pub trees-written : (c : Columns) (starts : List ℕ) (ts : List Tree) (trees : ℕ) → length ts ≡ trees
-    → treesAt (writeRows (forestRows ts) c) (front (startsFrom 0 ts) starts) trees ≡ tables ts
-unfolding treesAt
+-- a forest's table as a fit leaves it
+abbrev pub tableLeft : ℕ → List Tree → Columns → List ℕ → ForestTable
+tableLeft trees ts c starts = record { trees = trees; nodes = writeEntries (forestEntries ts) c; starts = front (startsFrom 0 ts) starts }
+
+pub trees-written : (c : Columns) (starts : List ℕ) (ts : List Tree) (trees : ℕ) → length ts ≡ trees → treesOf (tableLeft trees ts c starts) ≡ tables ts
+unfolding treesOf
 trees-written c starts ts trees h =
-    ap (λ n. map (treeAt (writeRows (forestRows ts) c) (front (startsFrom 0 ts) starts)) (from 0 n)) (sym h)
-    ∙ trees-from (forestRows ts) c (front (startsFrom 0 ts) starts) (drop (length (startsFrom 0 ts)) starts) ts 0 [] refl refl
+    ap (λ n. map (treeAt (writeEntries (forestEntries ts) c) (front (startsFrom 0 ts) starts)) (from 0 n)) (sym h)
+    ∙ trees-from (forestEntries ts) c (front (startsFrom 0 ts) starts) (drop (length (startsFrom 0 ts)) starts) ts 0 [] refl refl
 
 -- ---- lengths stay
 
@@ -119,10 +122,10 @@ unfolding startsFrom
 starts-length a [] = refl
 starts-length a (t ∷ ts) = ap suc (starts-length (a + length (t .nodes)) ts)
 
-pub shortest-stays : (rs : List Row) (c : Columns) → length rs ≤ shortest c → shortest (writeRows rs c) ≡ shortest c
+pub shortest-stays : (rs : List Entry) (c : Columns) → length rs ≤ shortest c → shortest (writeEntries rs c) ≡ shortest c
 shortest-stays rs c h =
     λ i. min (one (λ r. r .value) (c .value) (omega arith) i) (min (one (λ r. r .feature) (c .feature) (omega arith) i) (min (one (λ r. r .threshold) (c .threshold) (omega arith) i)
     (min (one (λ r. r .score) (c .score) (omega arith) i) (min (one (λ r. r .trueChild) (c .trueChild) (omega arith) i) (one (λ r. r .falseChild) (c .falseChild) (omega arith) i)))))
   where
-    one : {A : Type 0} (f : Row → A) (old : List A) → length rs ≤ length old → length (front (map f rs) old) ≡ length old
+    one : {A : Type 0} (f : Entry → A) (old : List A) → length rs ≤ length old → length (front (map f rs) old) ≡ length old
     one f old k = front-length (map f rs) old (subst (λ n. n ≤ length old) (sym (length-map rs f)) k)

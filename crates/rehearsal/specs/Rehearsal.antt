@@ -10,7 +10,7 @@ use lib.Ieee.{Float, nan, binary64, add, sub, mul, div, lt, le, eq, isNan, ofInt
 use Rattle.rules.specs.declared.Splitter.the-variants.{Best}
 use Rattle.rules.specs.declared.Depth.{Depth}
 use Rattle.rules.specs.declared.Depth.the-variants.{Unlimited, AtMost}
-use Rattle.rules.specs.declared.Tried.the-variants.{Root}
+use Rattle.rules.specs.declared.Tried.the-variants.{Unsaid}
 use Rattle.rules.specs.declared.Scale.{Scale}
 use Rattle.rules.specs.declared.Scale.the-variants.{Normalised, ByMass}
 use Rattle.rules.specs.declared.TreeAnswer.{TreeAnswer}
@@ -18,42 +18,38 @@ use Rattle.rules.specs.declared.Reply.{Reply}
 use Rattle.rules.specs.Words.{nought, float, from, putIf, keep, every, alongFrom, along, total, member, fresh, eachOnce}
 use Rattle.rules.specs.Totals.{takeIn, less, valueOf, massless, gap, proxy, score}
 use Rattle.rules.specs.Threshold.{midpoint, threshold}
-use Rattle.rules.specs.Lent.{Given, Columns, Waits, Work, TreeRooms, ForestRooms, Outcome, valuesAt, listingAt, unweighted, rowsAt}
-use Rattle.rules.specs.Checks.{firstFailed, within, lengths, goodCuts, goodWeight, numbersGood, countsGood, countsOne, countOf, kept, keptRows, asks, workEnough, reportsExact}
+use Rattle.rules.specs.Lent.{Given, Columns, Stack, stack, Work, TreeRooms, ForestRooms, Outcome, valuesAt, listingAt, unweighted, entriesAt, countOf, kept, keptRows, cell}
+use Rattle.rules.specs.Checks.{firstFailed, within, lengths, goodCuts, goodWeight, numbersGood, countsGood, countsOne, roomFor, workEnough, reportsExact}
 use Rattle.rules.specs.Listing.{neverFalls, goodListing, listingsGood}
 use Rattle.rules.specs.Draws.{bind, takeWords, takeThreshold, nextThreshold, tape}
-use Rattle.rules.specs.Search.{at, totals, goesTrue, better, judge, runOn, step, walk, bestIn, final, drawn, drawIn, randomIn, tryOne, tryAll, search}
-use Rattle.rules.specs.Growth.{child, leafOf, splitting, splitOf, withChildren, asked, joins, runs, ask, expand, grow, growAll, fromRoot}
-use Rattle.rules.specs.Fit.{massOf, targetOf, valuesOf, listing, element, column, root, treeOf, rooted, fit, rowOf, rows, limitOf, paramsOf, TreeCall, frameOf, grownTree, treeTests, treeDone, treeEnds, fitTree}
-use Rattle.rules.specs.Table.{leafRow, goodRow, goodFrom, goodTree, treeIn, startsGood, treeAt, treesAt, goodForest}
-use Rattle.rules.specs.Reading.{onto, walked, leafValue, reads, addTrees, meanOf, scored, addScores, sumFrom, dividedIf, normalised, scoresOf, scaled, treeWeighTests, treeImportances}
-use Rattle.rules.specs.Forest.{ForestCall, squares, triedOf, part, frameAt, frames, joined, planted, plant, grownForest, startsFrom, forestRows, forestTests, forestDone, forestEnds, fitForest}
+use Rattle.rules.specs.Search.{at, totals, goesTrue, better, judge, candidateAt, step, walk, bestIn, final, drawn, drawIn, randomIn, tryOne, tryAll, search}
+use Rattle.rules.specs.Growth.{child, leafOf, splitting, splitOf, withChildren, searchable, joins, runs, searchIf, expand, grow, growAll, fromRoot}
+use Rattle.rules.specs.Fit.{massOf, targetOf, valuesOf, listing, element, column, root, treeOf, rooted, fit, entryOf, entries, limitOf, paramsOf, TreeCall, frameOf, grownTree, treeTests, treeDone, treeEnds, fitTree}
+use Rattle.rules.specs.Table.{isLeaf, goodEntry, goodFrom, goodTree, treeIn, startsGood, treeAt, treesOf, goodForest}
+use Rattle.rules.specs.Reading.{onto, walked, leafValue, reads, addTrees, meanOf, scored, addScores, sumFrom, dividedIf, normalised, scoresOf, scaled, treeImportanceTests, treeImportances}
+use Rattle.rules.specs.Forest.{ForestCall, squares, triedOf, part, frameAt, frames, withTree, nextTree, growTrees, grownForest, startsFrom, forestEntries, cutsGood, roomsGood, forestTests, forestDone, forestEnds, fitForest}
 use Rattle.rules.specs.OutOfBag.{outTrees, outOfBagMean, outTests, outOfBagMeans}
 
 -- ---- a call of the table, and what it leaves
 
 pub data Call : Type 0 where
-  fits : TreeCall → TreeRooms (List ℕ) → Call
+  fits : TreeCall → TreeRooms Stack → Call
   -- the fit of a tree, then its importances
-  weighs : Scale → TreeCall → TreeRooms (List ℕ) → List Float → Call
+  weighs : Scale → TreeCall → TreeRooms Stack → List Float → Call
   -- the fit of a forest, then its out-of-bag means with the fit's own counts and features
-  bags : ForestCall → ForestRooms (List ℕ) → List Float → Call
+  bags : ForestCall → ForestRooms Stack → List Float → Call
 
 pub data Seen : Type 0 where
-  fitted : Outcome TreeAnswer (TreeRooms (List ℕ)) → Seen
+  fitted : Outcome TreeAnswer (TreeRooms Stack) → Seen
   read : Outcome Reply (List Float) → Seen
 
--- a waiting list of numbers
-abbrev pub flat : Waits (List ℕ)
-flat = record { places = λ l. length l; zeroed = λ l. map (λ _. 0) l }
-
 unfoldable pub run : Call → Seen
-unfolding from putIf keep every alongFrom along total member fresh eachOnce takeIn less valueOf massless gap proxy score midpoint threshold valuesAt listingAt unweighted rowsAt firstFailed within lengths goodCuts goodWeight numbersGood countsGood countsOne countOf kept keptRows asks workEnough reportsExact neverFalls goodListing listingsGood bind takeWords takeThreshold nextThreshold tape at totals goesTrue better judge runOn step walk bestIn final drawn drawIn randomIn tryOne tryAll search child leafOf splitting splitOf withChildren asked joins runs ask expand grow growAll fromRoot massOf targetOf valuesOf listing element column root treeOf rooted fit rowOf rows limitOf paramsOf frameOf grownTree treeTests treeDone treeEnds fitTree leafRow goodRow goodFrom goodTree treeIn startsGood treeAt treesAt goodForest onto walked leafValue reads addTrees meanOf scored addScores sumFrom dividedIf normalised scoresOf scaled treeWeighTests treeImportances squares triedOf part frameAt frames joined planted plant grownForest startsFrom forestRows forestTests forestDone forestEnds fitForest outTrees outOfBagMean outTests outOfBagMeans add sub mul div lt le eq isNan ofInt ofBits
-run (fits C R) = fitted (fitTree flat C R)
-run (weighs by C R out) = read (treeImportances (C .shape .features) by (fitTree flat C R .rooms .nodes) out)
+unfolding from putIf keep every alongFrom along total member fresh eachOnce takeIn less valueOf massless gap proxy score midpoint threshold valuesAt cell listingAt unweighted entriesAt firstFailed within lengths goodCuts goodWeight numbersGood countsGood countsOne countOf kept keptRows roomFor workEnough reportsExact neverFalls goodListing listingsGood bind takeWords takeThreshold nextThreshold tape at totals goesTrue better judge candidateAt step walk bestIn final drawn drawIn randomIn tryOne tryAll search child leafOf splitting splitOf withChildren searchable joins runs searchIf expand grow growAll fromRoot massOf targetOf valuesOf listing element column root treeOf rooted fit entryOf entries limitOf paramsOf frameOf grownTree treeTests treeDone treeEnds fitTree isLeaf goodEntry goodFrom goodTree treeIn startsGood treeAt treesOf goodForest onto walked leafValue reads addTrees meanOf scored addScores sumFrom dividedIf normalised scoresOf scaled treeImportanceTests treeImportances squares triedOf part frameAt frames withTree nextTree growTrees grownForest startsFrom forestEntries cutsGood roomsGood forestTests forestDone forestEnds fitForest outTrees outOfBagMean outTests outOfBagMeans add sub mul div lt le eq isNan ofInt ofBits
+run (fits C R) = fitted (fitTree stack C R)
+run (weighs by C R out) = read (treeImportances (C .shape .features) by (fitTree stack C R .rooms .nodes) out)
 run (bags C R out) =
-    let F = fitForest flat C R .rooms in
-    read (outOfBagMeans (C .shape) (C .trees) (C .given .measured .values) (C .given .counts) (F .nodes) (F .starts) out)
+    let F = fitForest stack C R .rooms in
+    read (outOfBagMeans (C .shape) (C .given .inputs .values) (C .given .counts) (record { trees = C .trees; nodes = F .nodes; starts = F .starts }) out)
 
 -- ---- the table's calls
 
@@ -65,7 +61,7 @@ half n = div binary64 (float n) (float 2)
 
 -- one feature, four rows
 abbrev given : List ℕ → List Float → List ℕ → List ℕ → Given
-given xs ys counts listing = record { measured = record { values = floats xs; targets = ys; listings = listing }; weights = []; counts = counts }
+given xs ys counts listing = record { inputs = record { values = floats xs; targets = ys; listings = listing }; weights = []; counts = counts }
 
 abbrev rise : List ℕ
 rise = 1 ∷ 2 ∷ 3 ∷ 4 ∷ []
@@ -110,7 +106,7 @@ forest G =
       shape = record { rows = 4; features = 1 };
       trees = 1;
       settings = record { depth = Unlimited; leaf = 1; split = 2; splitter = Best };
-      tried = Root;
+      tried = Unsaid;
       given = G;
       words = words;
       thresholds = [];
@@ -125,13 +121,19 @@ nines n = replicate n 9
 abbrev room : ℕ → Columns
 room n = record { value = floats (nines n); feature = nines n; threshold = floats (nines n); score = floats (nines n); trueChild = nines n; falseChild = nines n }
 
-abbrev work : ℕ → Bool → Work (List ℕ)
-work k b = record { order = replicate 4 k; scratch = replicate 4 k; flags = replicate 4 b; waiting = replicate 4 k }
+abbrev work : ℕ → Bool → Work Stack
+work k b =
+    record {
+      order = replicate 4 k;
+      scratch = replicate 4 k;
+      flags = replicate 4 b;
+      waiting = record { wholes = replicate 4 (replicate 6 k); reals = replicate 4 (replicate 3 (float k)) };
+    }
 
-abbrev lent : ℕ → TreeRooms (List ℕ)
+abbrev lent : ℕ → TreeRooms Stack
 lent n = record { nodes = room n; work = work 9 true }
 
-abbrev lentAll : ℕ → ForestRooms (List ℕ)
+abbrev lentAll : ℕ → ForestRooms Stack
 lentAll n =
     record {
       nodes = room n;
@@ -181,7 +183,7 @@ says n depth mass searches c =
     })
 
 -- refused, and all as it was
-abbrev no : ℕ → TreeRooms (List ℕ) → Seen
+abbrev no : ℕ → TreeRooms Stack → Seen
 no n R = fitted (record { answer = TreeAnswer.Refused n; rooms = R })
 
 abbrev results : List Float → Seen

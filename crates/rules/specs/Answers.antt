@@ -1,8 +1,7 @@
--- Each case of each answer in the paper's numbers and values; 0 is no refusal. Definitions only. Assumes nothing.
+-- Each case of each answer in the paper's numbers and values; 0 is no refusal.
 use Prim.Native.Nat.{ℕ}
+use mathlib.Core.Bool.{Bool, true, false}
 use lib.Ieee.{Float}
-use Rattle.rules.specs.declared.Kind.the-variants.{Leaf}
-use Rattle.rules.specs.declared.Node.{Node}
 use Rattle.rules.specs.declared.Report.{Report}
 use Rattle.rules.specs.declared.TreeAnswer.{TreeAnswer}
 use Rattle.rules.specs.declared.ForestAnswer.{ForestAnswer}
@@ -10,8 +9,10 @@ use Rattle.rules.specs.declared.Reply.{Reply}
 use Rattle.rules.specs.declared.ErrorReply.{ErrorReply}
 use Rattle.rules.specs.declared.NodeReply.{NodeReply}
 use Rattle.rules.specs.Words.{nought}
+use Rattle.rules.specs.Lent.{Entry, leafEntry}
+use Rattle.rules.specs.Fit.{entryOf}
 
--- what a fit tells: a refusal its number and zeros, and refusal 7 its tree and search besides
+-- what a fit tells: zeros where it is refused, but for the place of a bad draw
 pub record Told : Type 0 where
   pub number : ℕ
   pub tree : ℕ
@@ -23,13 +24,13 @@ noReport = record { nodes = 0; depth = 0; mass = nought; searches = 0; words = 0
 
 abbrev pub treeTold : TreeAnswer → Told
 treeTold (TreeAnswer.Refused n) = record { number = n; tree = 0; search = 0; report = noReport }
-treeTold (TreeAnswer.BadDraw d) = record { number = 7; tree = d .tree; search = d .search; report = noReport }
+treeTold (TreeAnswer.BadDraw p) = record { number = 7; tree = p .tree; search = p .search; report = noReport }
 treeTold (TreeAnswer.Grown r) = record { number = 0; tree = 0; search = 0; report = r }
 
 -- a forest's reports stand in its report columns
 abbrev pub forestTold : ForestAnswer → Told
 forestTold (ForestAnswer.Refused n) = record { number = n; tree = 0; search = 0; report = noReport }
-forestTold (ForestAnswer.BadDraw d) = record { number = 7; tree = d .tree; search = d .search; report = noReport }
+forestTold (ForestAnswer.BadDraw p) = record { number = 7; tree = p .tree; search = p .search; report = noReport }
 forestTold ForestAnswer.Grown = record { number = 0; tree = 0; search = 0; report = noReport }
 
 abbrev pub replyTold : Reply → ℕ
@@ -44,10 +45,13 @@ abbrev pub errorTold : ErrorReply → ErrorTold
 errorTold (ErrorReply.Refused n) = record { number = n; error = nought }
 errorTold (ErrorReply.Error e) = record { number = 0; error = e }
 
+-- whether the node is there, and its six values
 pub record NodeTold : Type 0 where
   pub number : ℕ
-  pub node : Node
+  pub there : Bool
+  pub entry : Entry
 
 abbrev pub nodeTold : NodeReply → NodeTold
-nodeTold (NodeReply.Refused n) = record { number = n; node = record { value = nought; kind = Leaf } }
-nodeTold (NodeReply.Read m) = record { number = 0; node = m }
+nodeTold (NodeReply.Refused n) = record { number = n; there = false; entry = leafEntry nought }
+nodeTold NodeReply.Missing = record { number = 0; there = false; entry = leafEntry nought }
+nodeTold (NodeReply.Read m) = record { number = 0; there = true; entry = entryOf (m .value) (m .kind) }

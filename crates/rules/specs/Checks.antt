@@ -1,14 +1,15 @@
--- The tests behind refusals 1, 2, 3, 4 and 6, and how the first that fails decides. 5 stands in Listing, 7 in Draws, 8 in Table. Definitions only. Assumes nothing.
-use Prim.Native.Nat.{ℕ, suc, _-_, _*_, max}
+-- How the first test that fails decides, and the tests behind refusals 1, 2, 3, 4 and 6. Those of 5 are in Listing, of 7 in Draws, of 8 in Table, of 9 and 10 in OutOfBag.
+use Prim.Native.Nat.{ℕ, zero, suc, _-_, _*_, max}
 use mathlib.Core.Bool.{Bool, not, _&&_, _||_, cond}
 use mathlib.Core.List.{List, [], _∷_}
 use lib.ListN.{length, getD}
-use lib.Dec.{leb, ltb, eqb}
-use lib.Ieee.{Float, nan, lt}
+use lib.Dec.{leb, eqb}
+use lib.Ieee.{Float, lt}
 use lib.Ieee.Scale.{finite}
 use Rattle.rules.specs.declared.Shape.{Shape}
-use Rattle.rules.specs.Words.{nought, from, keep, every, along}
-use Rattle.rules.specs.Lent.{Given, Frame, Reports, Waits, Work, unweighted}
+use Rattle.rules.specs.declared.Reply.{Reply}
+use Rattle.rules.specs.Words.{nought, every, along}
+use Rattle.rules.specs.Lent.{Given, Frame, Reports, Waits, Work, unweighted, keptRows}
 
 -- a test, with the number that its failing gives
 pub record Test : Type 0 where
@@ -18,10 +19,15 @@ pub record Test : Type 0 where
 abbrev pub test : ℕ → Bool → Test
 test n b = record { number = n; passes = b }
 
--- the first that fails decides; 0 says that none does
+-- 0 says that none fails
 unfoldable pub firstFailed : List Test → ℕ
 firstFailed [] = 0
 firstFailed (t ∷ ts) = cond (t .passes) (firstFailed ts) (t .number)
+
+-- the answer of a call that only checks
+unfoldable pub replies : ℕ → Reply
+replies zero = Reply.Done
+replies (suc n) = Reply.Refused (suc n)
 
 -- ---- 1
 
@@ -37,15 +43,24 @@ featuresIn n = within 1024 n
 abbrev pub treesIn : ℕ → Bool
 treesIn n = within 1024 n
 
+abbrev pub shapeIn : Shape → Bool
+shapeIn S = rowsIn (S .rows) && featuresIn (S .features)
+
 -- ---- 2
+
+abbrev pub valuesLong : Shape → List Float → Bool
+valuesLong S xs = eqb (length xs) (S .rows * S .features)
+
+abbrev pub listingsLong : Shape → List ℕ → Bool
+listingsLong S ls = eqb (length ls) (S .features * S .rows)
 
 unfoldable pub lengths : Shape → ℕ → Given → Bool
 lengths S trees G =
-    eqb (length (G .measured .values)) (S .rows * S .features) && (eqb (length (G .measured .targets)) (S .rows)
+    valuesLong S (G .inputs .values) && (eqb (length (G .inputs .targets)) (S .rows)
     && ((unweighted (G .weights) || eqb (length (G .weights)) (S .rows)) && (eqb (length (G .counts)) (trees * S .rows)
-    && eqb (length (G .measured .listings)) (S .features * S .rows))))
+    && listingsLong S (G .inputs .listings))))
 
--- a cut table: trees + 1 positions, the first 0, never falling, the last the tape's length
+-- the rule of a cut table over a tape of so many draws
 unfoldable pub goodCuts : ℕ → ℕ → List ℕ → Bool
 goodCuts trees tape cuts =
     eqb (length cuts) (suc trees) && (eqb (getD cuts 0 1) 0 && (along leb cuts && eqb (getD cuts trees (suc tape)) tape))
@@ -56,7 +71,7 @@ unfoldable pub goodWeight : Float → Bool
 goodWeight w = finite w && not (lt w nought)
 
 unfoldable pub numbersGood : Given → Bool
-numbersGood G = every finite (G .measured .values) && (every finite (G .measured .targets) && every goodWeight (G .weights))
+numbersGood G = every finite (G .inputs .values) && (every finite (G .inputs .targets) && every goodWeight (G .weights))
 
 -- ---- 4
 
@@ -69,19 +84,9 @@ countsOne G = unweighted (G .weights) || every (λ c. eqb c 1) (G .counts)
 
 -- ---- 6
 
-unfoldable pub countOf : Frame → ℕ → ℕ
-countOf F i = getD (F .counts) i 0
-
--- a row is kept
-unfoldable pub kept : Frame → ℕ → Bool
-kept F i = ltb 0 (countOf F i) && (unweighted (F .weights) || lt nought (getD (F .weights) i nan))
-
-unfoldable pub keptRows : Frame → List ℕ
-keptRows F = keep (kept F) (from 0 (F .rows))
-
--- the node room that a tree asks
-unfoldable pub asks : Frame → ℕ
-asks F = max 1 (2 * length (keptRows F) - 1)
+-- the node room that a tree needs
+unfoldable pub roomFor : Frame → ℕ
+roomFor F = max 1 (2 * length (keptRows F) - 1)
 
 unfoldable pub workEnough : {W : Type 0} → Waits W → Shape → Work W → Bool
 workEnough K S w =

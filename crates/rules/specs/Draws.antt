@@ -1,4 +1,4 @@
--- Draws, and refusal 7. Growth takes its draws from any source; the two tapes are one. Definitions only. Assumes nothing.
+-- Draws, and refusal 7. Growth takes its draws from any source; a tree's part of the two tapes is such a source.
 use Prim.Native.Nat.{ℕ, suc}
 use mathlib.Core.Bool.{Bool, true, false, _&&_}
 use mathlib.Core.List.{List, [], _∷_}
@@ -28,7 +28,7 @@ pub record Tapes : Type 0 where
   pub thresholds : List Float
   pub searches : ℕ
 
--- a search takes its choice words if they are a permutation: too few are none
+-- a search's choice words, if they are a permutation of the features; where too few are left, they are not
 unfoldable pub takeWords : Bool → ℕ → Tapes → Out (List ℕ × Tapes)
 takeWords false n d = bad (d .searches)
 takeWords true n d = ok (take n (d .words), record { words = drop n (d .words); thresholds = d .thresholds; searches = d .searches })

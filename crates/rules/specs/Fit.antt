@@ -1,4 +1,4 @@
--- The fit of one tree: from what is lent to its answer and the rooms after. Definitions only. Assumes nothing.
+-- The fit of one tree: from what is lent to its answer and the rooms after.
 use Prim.Native.Nat.{ℕ, zero, suc, _-_}
 use mathlib.Core.Bool.{_&&_, cond}
 use mathlib.Core.List.{List, [], _∷_, map}
@@ -14,18 +14,18 @@ use Rattle.rules.specs.declared.Kind.{Kind}
 use Rattle.rules.specs.declared.Kind.the-variants.{Leaf, Split}
 use Rattle.rules.specs.declared.Report.{Report}
 use Rattle.rules.specs.declared.TreeAnswer.{TreeAnswer}
-use Rattle.rules.specs.Words.{nought, float, from, keep, total}
+use Rattle.rules.specs.Words.{float, from, keep, total}
 use Rattle.rules.specs.Totals.{empty, valueOf}
-use Rattle.rules.specs.Lent.{Data, Given, Frame, Row, Waits, TreeRooms, Outcome, valuesAt, listingAt, unweighted, shortest, writeRows, zeroColumns, zeroWork}
-use Rattle.rules.specs.Checks.{Test, test, firstFailed, rowsIn, featuresIn, lengths, numbersGood, countsGood, countOf, kept, keptRows, asks, workEnough}
+use Rattle.rules.specs.Lent.{Data, Given, Frame, Entry, Waits, TreeRooms, Outcome, valuesAt, listingAt, unweighted, countOf, kept, keptRows, shortest, leafEntry, writeEntries, zeroColumns, zeroWork}
+use Rattle.rules.specs.Checks.{Test, test, firstFailed, shapeIn, lengths, numbersGood, countsGood, roomFor, workEnough}
 use Rattle.rules.specs.Listing.{listingsGood}
 use Rattle.rules.specs.Draws.{Out, bad, ok, bind, Tapes, tape}
 use Rattle.rules.specs.Search.{Element, Column, totals, Task, search}
-use Rattle.rules.specs.Growth.{Grown, State, fromRoot}
+use Rattle.rules.specs.Growth.{TreeNode, State, fromRoot}
 
 -- ---- the root
 
--- a row's mass is its count as a float, times its weight if there are weights
+-- without weights a row weighs its count
 unfoldable pub massOf : Frame → ℕ → Float
 massOf F i = cond (unweighted (F .weights)) (float (countOf F i)) (mul binary64 (float (countOf F i)) (getD (F .weights) i nan))
 
@@ -41,11 +41,11 @@ listing F D j = listingAt (F .rows) (D .listings) j
 unfoldable pub element : Frame → Data → ℕ → Element
 element F D i = record { row = i; count = countOf F i; mass = massOf F i; target = targetOf D i; values = valuesOf F D i }
 
--- the kept rows, in their listing's order
+-- feature j's column: what its listing has of kept rows
 unfoldable pub column : Frame → Data → ℕ → Column
 column F D j = map (element F D) (keep (kept F) (listing F D j))
 
--- the root's totals run over all rows by number
+-- the totals take in every row, kept or not, from row 0 on
 unfoldable pub root : Frame → Data → Task
 root F D =
     record {
@@ -57,7 +57,7 @@ root F D =
 -- ---- a grown tree, and what is reported of it
 
 pub record Tree : Type 0 where
-  pub nodes : List Grown
+  pub nodes : List TreeNode
   pub report : Report
 
 unfoldable pub treeOf : Frame → Task → State Tapes → Tree
@@ -84,9 +84,9 @@ unfoldable pub fit : Frame → Data → Out Tree
 fit F D = rooted F (root F D)
 
 -- a node as it is written: a leaf's feature, threshold, score and children are 0
-unfoldable pub rowOf : Float → Kind → Row
-rowOf v Leaf = record { value = v; feature = 0; threshold = nought; score = nought; trueChild = 0; falseChild = 0 }
-rowOf v (Split s) =
+unfoldable pub entryOf : Float → Kind → Entry
+entryOf v Leaf = leafEntry v
+entryOf v (Split s) =
     record {
       value = v;
       feature = s .cut .feature;
@@ -96,9 +96,9 @@ rowOf v (Split s) =
       falseChild = suc (s .children);
     }
 
-unfoldable pub rows : List Grown → List Row
-rows [] = []
-rows (n ∷ ns) = rowOf (valueOf (n .totals)) (n .kind) ∷ rows ns
+unfoldable pub entries : List TreeNode → List Entry
+entries [] = []
+entries (n ∷ ns) = entryOf (valueOf (n .totals)) (n .kind) ∷ entries ns
 
 -- ---- the call
 
@@ -131,18 +131,18 @@ frameOf C =
     }
 
 unfoldable pub grownTree : TreeCall → Out Tree
-grownTree C = fit (frameOf C) (C .given .measured)
+grownTree C = fit (frameOf C) (C .given .inputs)
 
 module _ {W : Type 0} (K : Waits W) where
   -- 1 to 6, in this order
   unfoldable pub treeTests : TreeCall → TreeRooms W → List Test
   treeTests C R =
-      test 1 (rowsIn (C .shape .rows) && featuresIn (C .shape .features))
+      test 1 (shapeIn (C .shape))
       ∷ test 2 (lengths (C .shape) 1 (C .given))
       ∷ test 3 (numbersGood (C .given))
       ∷ test 4 (countsGood (C .given))
-      ∷ test 5 (listingsGood (C .shape) (C .given .measured .values) (C .given .measured .listings))
-      ∷ test 6 (leb (asks (frameOf C)) (shortest (R .nodes)) && workEnough K (C .shape) (R .work))
+      ∷ test 5 (listingsGood (C .shape) (C .given .inputs .values) (C .given .inputs .listings))
+      ∷ test 6 (leb (roomFor (frameOf C)) (shortest (R .nodes)) && workEnough K (C .shape) (R .work))
       ∷ []
 
   -- a bad draw leaves all rooms zero; an answer leaves the nodes, and the work room zero
@@ -155,7 +155,7 @@ module _ {W : Type 0} (K : Waits W) where
   treeDone (ok t) R =
       record {
         answer = TreeAnswer.Grown (t .report);
-        rooms = record { nodes = writeRows (rows (t .nodes)) (R .nodes); work = zeroWork K (R .work) };
+        rooms = record { nodes = writeEntries (entries (t .nodes)) (R .nodes); work = zeroWork K (R .work) };
       }
 
   -- a refusal by 1 to 6 leaves the rooms as they were

@@ -1,6 +1,6 @@
--- The fit of a forest: each tree with its own counts and its own part of both tapes. Definitions only. Assumes nothing.
+-- The fit of a forest: each tree with its own counts and its own part of both tapes.
 use Prim.Native.Nat.{ℕ, zero, suc, _+_, _-_, _*_}
-use mathlib.Core.Bool.{_&&_, cond}
+use mathlib.Core.Bool.{Bool, _&&_, cond}
 use mathlib.Core.List.{List, [], _∷_, _++_, map}
 use lib.ListN.{length, getD}
 use lib.Dec.{leb}
@@ -8,15 +8,15 @@ use lib.Ieee.{Float}
 use Rattle.rules.specs.declared.Settings.{Settings}
 use Rattle.rules.specs.declared.Shape.{Shape}
 use Rattle.rules.specs.declared.Tried.{Tried}
-use Rattle.rules.specs.declared.Tried.the-variants.{Root, Number}
-use Rattle.rules.specs.declared.Draw.{Draw}
+use Rattle.rules.specs.declared.Tried.the-variants.{Unsaid, Number}
+use Rattle.rules.specs.declared.Place.{Place}
 use Rattle.rules.specs.declared.ForestAnswer.{ForestAnswer}
 use Rattle.rules.specs.Words.{from, stretch, front, filled, total}
-use Rattle.rules.specs.Lent.{Data, Given, Frame, Row, Waits, ForestRooms, Outcome, shortest, writeRows, writeReports, zeroColumns, zeroReports, zeroWork}
-use Rattle.rules.specs.Checks.{Test, test, firstFailed, rowsIn, featuresIn, treesIn, lengths, goodCuts, numbersGood, countsGood, countsOne, asks, workEnough, reportsExact}
+use Rattle.rules.specs.Lent.{Data, Given, Frame, Entry, Waits, ForestRooms, Outcome, shortest, writeEntries, writeReports, zeroColumns, zeroReports, zeroWork}
+use Rattle.rules.specs.Checks.{Test, test, firstFailed, treesIn, shapeIn, lengths, goodCuts, numbersGood, countsGood, countsOne, roomFor, workEnough, reportsExact}
 use Rattle.rules.specs.Listing.{listingsGood}
 use Rattle.rules.specs.Draws.{Out, bad, ok}
-use Rattle.rules.specs.Fit.{Tree, fit, rows, paramsOf}
+use Rattle.rules.specs.Fit.{Tree, fit, entries, paramsOf}
 
 pub record ForestCall : Type 0 where
   pub shape : Shape
@@ -35,7 +35,7 @@ squares n zero = 0
 squares n (suc k) = cond (leb (suc k * suc k) n) 1 0 + squares n k
 
 unfoldable pub triedOf : ℕ → Tried → ℕ
-triedOf features Root = squares features features
+triedOf features Unsaid = squares features features
 triedOf features (Number m) = m
 
 -- a tree's own part of a tape
@@ -59,23 +59,23 @@ frames C = map (frameAt C) (from 0 (C .trees))
 -- ---- trees are grown one after another; the first bad draw ends it
 
 pub data Forest : Type 0 where
-  broke : Draw → Forest
-  stands : List Tree → Forest
+  stopped : Place → Forest
+  grownAll : List Tree → Forest
 
-unfoldable pub joined : Tree → Forest → Forest
-joined t (broke d) = broke d
-joined t (stands ts) = stands (t ∷ ts)
+unfoldable pub withTree : Tree → Forest → Forest
+withTree t (stopped d) = stopped d
+withTree t (grownAll ts) = grownAll (t ∷ ts)
 
-unfoldable pub planted : ℕ → Out Tree → Forest → Forest
-planted k (bad s) rest = broke (record { tree = k; search = s })
-planted k (ok t) rest = joined t rest
+unfoldable pub nextTree : ℕ → Out Tree → Forest → Forest
+nextTree k (bad s) rest = stopped (record { tree = k; search = s })
+nextTree k (ok t) rest = withTree t rest
 
-unfoldable pub plant : ℕ → List Frame → Data → Forest
-plant k [] D = stands []
-plant k (F ∷ Fs) D = planted k (fit F D) (plant (suc k) Fs D)
+unfoldable pub growTrees : ℕ → List Frame → Data → Forest
+growTrees k [] D = grownAll []
+growTrees k (F ∷ Fs) D = nextTree k (fit F D) (growTrees (suc k) Fs D)
 
 unfoldable pub grownForest : ForestCall → Forest
-grownForest C = plant 0 (frames C) (C .given .measured)
+grownForest C = growTrees 0 (frames C) (C .given .inputs)
 
 -- ---- the call
 
@@ -84,27 +84,33 @@ unfoldable pub startsFrom : ℕ → List Tree → List ℕ
 startsFrom a [] = a ∷ []
 startsFrom a (t ∷ ts) = a ∷ startsFrom (a + length (t .nodes)) ts
 
-unfoldable pub forestRows : List Tree → List Row
-forestRows [] = []
-forestRows (t ∷ ts) = rows (t .nodes) ++ forestRows ts
+unfoldable pub forestEntries : List Tree → List Entry
+forestEntries [] = []
+forestEntries (t ∷ ts) = entries (t .nodes) ++ forestEntries ts
+
+unfoldable pub cutsGood : ForestCall → Bool
+cutsGood C = goodCuts (C .trees) (length (C .words)) (C .wordCuts) && goodCuts (C .trees) (length (C .thresholds)) (C .thresholdCuts)
 
 module _ {W : Type 0} (K : Waits W) where
+  -- all but the node room
+  unfoldable pub roomsGood : ForestCall → ForestRooms W → Bool
+  roomsGood C R =
+      workEnough K (C .shape) (R .work) && (leb (suc (C .trees)) (length (R .starts)) && reportsExact (C .trees) (R .reports))
+
   -- 1 to 6, in this order
   unfoldable pub forestTests : ForestCall → ForestRooms W → List Test
   forestTests C R =
-      test 1 (rowsIn (C .shape .rows) && (featuresIn (C .shape .features) && treesIn (C .trees)))
-      ∷ test 2 (lengths (C .shape) (C .trees) (C .given)
-      && (goodCuts (C .trees) (length (C .words)) (C .wordCuts) && goodCuts (C .trees) (length (C .thresholds)) (C .thresholdCuts)))
+      test 1 (shapeIn (C .shape) && treesIn (C .trees))
+      ∷ test 2 (lengths (C .shape) (C .trees) (C .given) && cutsGood C)
       ∷ test 3 (numbersGood (C .given))
       ∷ test 4 (countsGood (C .given) && countsOne (C .given))
-      ∷ test 5 (listingsGood (C .shape) (C .given .measured .values) (C .given .measured .listings))
-      ∷ test 6 (leb (total asks (frames C)) (shortest (R .nodes)) && (workEnough K (C .shape) (R .work)
-      && (leb (suc (C .trees)) (length (R .starts)) && reportsExact (C .trees) (R .reports))))
+      ∷ test 5 (listingsGood (C .shape) (C .given .inputs .values) (C .given .inputs .listings))
+      ∷ test 6 (leb (total roomFor (frames C)) (shortest (R .nodes)) && roomsGood C R)
       ∷ []
 
   -- a bad draw leaves all rooms zero; an answer leaves nodes, starts and reports, and the work room zero
   unfoldable pub forestDone : Forest → ForestRooms W → Outcome ForestAnswer (ForestRooms W)
-  forestDone (broke d) R =
+  forestDone (stopped d) R =
       record {
         answer = ForestAnswer.BadDraw d;
         rooms = record {
@@ -114,11 +120,11 @@ module _ {W : Type 0} (K : Waits W) where
           work = zeroWork K (R .work);
         };
       }
-  forestDone (stands ts) R =
+  forestDone (grownAll ts) R =
       record {
         answer = ForestAnswer.Grown;
         rooms = record {
-          nodes = writeRows (forestRows ts) (R .nodes);
+          nodes = writeEntries (forestEntries ts) (R .nodes);
           starts = front (startsFrom 0 ts) (R .starts);
           reports = writeReports (map (λ (t : Tree). t .report) ts) (R .reports);
           work = zeroWork K (R .work);

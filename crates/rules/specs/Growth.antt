@@ -1,4 +1,4 @@
--- The growth of one tree from its root, over any way to choose cuts. Definitions only. Assumes nothing.
+-- The growth of one tree from its root, over any way to choose cuts.
 use Prim.Native.Nat.{ℕ, zero, suc, _-_, max}
 use mathlib.Core.Bool.{Bool, true, false, not, _&&_}
 use mathlib.Core.List.{List, [], _∷_, _++_, map}
@@ -14,8 +14,8 @@ use Rattle.rules.specs.Totals.{empty, score}
 use Rattle.rules.specs.Draws.{Out, ok, bind}
 use Rattle.rules.specs.Search.{totals, tally, Task, same, sideOf, Found, uncut, cut}
 
--- a node of a tree that grows
-pub record Grown : Type 0 where
+-- a node of a tree that grows; of its totals the value is written, and its count is for theorems
+pub record TreeNode : Type 0 where
   pub totals : Totals
   pub count : ℕ
   pub kind : Kind
@@ -29,13 +29,13 @@ pub record Waiting : Type 0 where
 
 -- ---- a split
 
--- a side of a waiting node: every column keeps its order, and the totals are added afresh in the split column's order
+-- one side of a waiting node. Its totals are not taken over from the search: they are added up again along the split column
 unfoldable pub child : (Bool → Bool) → Waiting → Task
 child b w =
     let side = sideOf b (w .cut) (getD (w .task .columns) (w .cut .feature) []) in
     record { columns = map (sideOf b (w .cut)) (w .task .columns); totals = totals empty side; count = tally side }
 
-unfoldable pub leafOf : Task → Grown
+unfoldable pub leafOf : Task → TreeNode
 leafOf t = record { totals = t .totals; count = t .count; kind = Leaf }
 
 -- the score takes the whole node's mass afresh too; k is the true child's number
@@ -47,24 +47,24 @@ splitting w k =
       children = k;
     }
 
-unfoldable pub splitOf : Waiting → ℕ → Grown
+unfoldable pub splitOf : Waiting → ℕ → TreeNode
 splitOf w k = record { totals = w .task .totals; count = w .task .count; kind = Split (splitting w k) }
 
 -- the true child has the next number, then the false child
-unfoldable pub withChildren : Waiting → List Grown → List Grown
+unfoldable pub withChildren : Waiting → List TreeNode → List TreeNode
 withChildren w ns = set ns (w .number) (splitOf w (length ns)) ++ (leafOf (child same w) ∷ leafOf (child not w) ∷ [])
 
 -- ---- growth
 
 -- nodes and depth so far, and what is left to choose cuts by
 pub record State (S : Type 0) : Type 0 where
-  pub nodes : List Grown
+  pub nodes : List TreeNode
   pub depth : ℕ
   pub left : S
 
--- a node is searched if its level is below the limit and its count reaches the least split
-unfoldable pub asked : Params → ℕ → Task → Bool
-asked P level task = ltb level (P .limit) && leb (P .split) (task .count)
+-- whether a node is searched, by its level and count
+unfoldable pub searchable : Params → ℕ → Task → Bool
+searchable P level task = ltb level (P .limit) && leb (P .split) (task .count)
 
 -- it joins the waiting list if a cut is found
 unfoldable pub joins : ℕ → ℕ → Task → Found → List Waiting
@@ -77,15 +77,15 @@ runs f [] s = ok s
 runs f (w ∷ ws) s = bind (f w s) (λ s′. runs f ws s′)
 
 module _ (P : Params) {S : Type 0} (choose : S → Task → Out (Found × S)) where
-  unfoldable pub ask : Bool → ℕ → ℕ → Task → S → Out (List Waiting × S)
-  ask false n level task s = ok ([], s)
-  ask true n level task s = bind (choose s task) (λ r. ok (joins n level task (r .0), r .1))
+  unfoldable pub searchIf : Bool → ℕ → ℕ → Task → S → Out (List Waiting × S)
+  searchIf false n level task s = ok ([], s)
+  searchIf true n level task s = bind (choose s task) (λ r. ok (joins n level task (r .0), r .1))
 
-  -- one split: two nodes more, the true child asked first, and those that wait now, the last to join at the head
+  -- one split: two nodes more, the true child searched first, and those that wait now, the last to join at the head
   unfoldable pub expand : Waiting → State S → Out (List Waiting × State S)
   expand w s =
-      bind (ask (asked P (suc (w .level)) (child same w)) (length (s .nodes)) (suc (w .level)) (child same w) (s .left)) (λ t.
-      bind (ask (asked P (suc (w .level)) (child not w)) (suc (length (s .nodes))) (suc (w .level)) (child not w) (t .1)) (λ f.
+      bind (searchIf (searchable P (suc (w .level)) (child same w)) (length (s .nodes)) (suc (w .level)) (child same w) (s .left)) (λ t.
+      bind (searchIf (searchable P (suc (w .level)) (child not w)) (suc (length (s .nodes))) (suc (w .level)) (child not w) (t .1)) (λ f.
       ok (f .0 ++ t .0, record { nodes = withChildren w (s .nodes); depth = max (s .depth) (suc (w .level)); left = f .1 })))
 
   -- w is split, and then all that comes of it, k levels down to the limit. No bound on the splits is asked: a child waits only below the limit.
@@ -93,12 +93,12 @@ module _ (P : Params) {S : Type 0} (choose : S → Task → Out (Found × S)) wh
   grow zero w s = ok s
   grow (suc k) w s = bind (expand w s) (λ r. runs (λ w′ s′. grow k w′ s′) (r .0) (r .1))
 
-  -- the waiting list, its head split first: a stack, as `pop` of laws shows
+  -- the waiting list, its head split first: a stack, as `pop` in crate laws, Stack, shows
   unfoldable pub growAll : List Waiting → State S → Out (State S)
   growAll ws s = runs (λ w s′. grow (P .limit - w .level) w s′) ws s
 
   -- the root has level 1, and is searched only if something is kept
   unfoldable pub fromRoot : Task → S → Out (State S)
   fromRoot root s =
-      bind (ask (ltb 0 (root .count) && asked P 1 root) 0 1 root s) (λ r.
+      bind (searchIf (ltb 0 (root .count) && searchable P 1 root) 0 1 root s) (λ r.
       growAll (r .0) (record { nodes = leafOf root ∷ []; depth = 0; left = r .1 }))

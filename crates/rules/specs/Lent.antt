@@ -1,12 +1,13 @@
--- What is lent: tables to read, and rooms to write. Definitions only. Assumes nothing.
+-- What is lent: tables to read, and rooms to write.
 use Prim.Native.Nat.{ℕ, _*_, min}
-use mathlib.Core.Bool.{Bool, true, false}
+use mathlib.Core.Bool.{Bool, true, false, _&&_, _||_}
 use mathlib.Core.List.{List, [], _∷_, map}
-use lib.ListN.{length, getD}
-use lib.Ieee.{Float, nan}
+use lib.ListN.{length, getD, replicate}
+use lib.Dec.{ltb}
+use lib.Ieee.{Float, nan, lt}
 use Rattle.rules.specs.declared.Params.{Params}
 use Rattle.rules.specs.declared.Report.{Report}
-use Rattle.rules.specs.Words.{nought, from, stretch, front, filled}
+use Rattle.rules.specs.Words.{nought, from, keep, stretch, front, filled}
 
 -- ---- to read
 
@@ -18,7 +19,7 @@ pub record Data : Type 0 where
 
 -- with the data, what both fits are given but for the draws: weights, one a row or none at all, and counts, tree after tree
 pub record Given : Type 0 where
-  pub measured : Data
+  pub inputs : Data
   pub weights : List Float
   pub counts : List ℕ
 
@@ -31,16 +32,30 @@ pub record Frame : Type 0 where
   pub words : List ℕ
   pub thresholds : List Float
 
--- one row's values, and one feature's listing
+-- row i's values, and feature j's value among them
 unfoldable pub valuesAt : ℕ → List Float → ℕ → List Float
 valuesAt features xs i = stretch (i * features) features xs
 
+unfoldable pub cell : ℕ → List Float → ℕ → ℕ → Float
+cell features xs j i = getD (valuesAt features xs i) j nan
+
+-- feature j's listing
 unfoldable pub listingAt : ℕ → List ℕ → ℕ → List ℕ
 listingAt rows ls j = stretch (j * rows) rows ls
 
 unfoldable pub unweighted : List Float → Bool
 unweighted [] = true
 unweighted (w ∷ ws) = false
+
+unfoldable pub countOf : Frame → ℕ → ℕ
+countOf F i = getD (F .counts) i 0
+
+-- whether the tree keeps row i
+unfoldable pub kept : Frame → ℕ → Bool
+kept F i = ltb 0 (countOf F i) && (unweighted (F .weights) || lt nought (getD (F .weights) i nan))
+
+unfoldable pub keptRows : Frame → List ℕ
+keptRows F = keep (kept F) (from 0 (F .rows))
 
 -- ---- to write
 
@@ -53,8 +68,8 @@ pub record Columns : Type 0 where
   pub trueChild : List ℕ
   pub falseChild : List ℕ
 
--- a node as it stands in them
-pub record Row : Type 0 where
+-- a node's place in them
+pub record Entry : Type 0 where
   pub value : Float
   pub feature : ℕ
   pub threshold : Float
@@ -62,7 +77,7 @@ pub record Row : Type 0 where
   pub trueChild : ℕ
   pub falseChild : ℕ
 
--- a forest's report columns, an entry a tree
+-- a forest's report columns, a place a tree
 pub record Reports : Type 0 where
   pub nodes : List ℕ
   pub depth : List ℕ
@@ -71,10 +86,22 @@ pub record Reports : Type 0 where
   pub words : List ℕ
   pub thresholds : List ℕ
 
--- a waiting list in any form: how many entries it has, the shortest column's if it has columns, and it with every entry zero
+-- a waiting list of any form: how many places it has, and what it is when all are zero
 pub record Waits (W : Type 0) : Type 0 where
   pub places : W → ℕ
   pub zeroed : W → W
+
+-- the form that is lent: six whole numbers and three floats a place, in two slices of which the shorter counts
+pub record Stack : Type 0 where
+  pub wholes : List (List ℕ)
+  pub reals : List (List Float)
+
+abbrev pub stack : Waits Stack
+stack =
+    record {
+      places = λ w. min (length (w .wholes)) (length (w .reals));
+      zeroed = λ w. record { wholes = filled (replicate 6 0) (w .wholes); reals = filled (replicate 3 nought) (w .reals) };
+    }
 
 pub record Work (W : Type 0) : Type 0 where
   pub order : List ℕ
@@ -99,36 +126,40 @@ pub record Outcome (A R : Type 0) : Type 0 where
 
 -- ---- node room
 
--- the shortest column counts
+-- it is as long as its shortest column
 abbrev pub shortest : Columns → ℕ
 shortest c =
     min (length (c .value)) (min (length (c .feature)) (min (length (c .threshold))
     (min (length (c .score)) (min (length (c .trueChild)) (length (c .falseChild))))))
 
-abbrev pub rowAt : Columns → ℕ → Row
-rowAt c i =
+abbrev pub entryAt : Columns → ℕ → Entry
+entryAt c k =
     record {
-      value = getD (c .value) i nan;
-      feature = getD (c .feature) i 0;
-      threshold = getD (c .threshold) i nan;
-      score = getD (c .score) i nan;
-      trueChild = getD (c .trueChild) i 0;
-      falseChild = getD (c .falseChild) i 0;
+      value = getD (c .value) k nan;
+      feature = getD (c .feature) k 0;
+      threshold = getD (c .threshold) k nan;
+      score = getD (c .score) k nan;
+      trueChild = getD (c .trueChild) k 0;
+      falseChild = getD (c .falseChild) k 0;
     }
 
--- the n nodes from place a on
-unfoldable pub rowsAt : Columns → ℕ → ℕ → List Row
-rowsAt c a n = map (rowAt c) (from a n)
+-- n entries from place a on
+unfoldable pub entriesAt : Columns → ℕ → ℕ → List Entry
+entriesAt c a n = map (entryAt c) (from a n)
 
-abbrev pub writeRows : List Row → Columns → Columns
-writeRows rs c =
+-- a leaf of value v, as it is written
+abbrev pub leafEntry : Float → Entry
+leafEntry v = record { value = v; feature = 0; threshold = nought; score = nought; trueChild = 0; falseChild = 0 }
+
+abbrev pub writeEntries : List Entry → Columns → Columns
+writeEntries es c =
     record {
-      value = front (map (λ (r : Row). r .value) rs) (c .value);
-      feature = front (map (λ (r : Row). r .feature) rs) (c .feature);
-      threshold = front (map (λ (r : Row). r .threshold) rs) (c .threshold);
-      score = front (map (λ (r : Row). r .score) rs) (c .score);
-      trueChild = front (map (λ (r : Row). r .trueChild) rs) (c .trueChild);
-      falseChild = front (map (λ (r : Row). r .falseChild) rs) (c .falseChild);
+      value = front (map (λ (e : Entry). e .value) es) (c .value);
+      feature = front (map (λ (e : Entry). e .feature) es) (c .feature);
+      threshold = front (map (λ (e : Entry). e .threshold) es) (c .threshold);
+      score = front (map (λ (e : Entry). e .score) es) (c .score);
+      trueChild = front (map (λ (e : Entry). e .trueChild) es) (c .trueChild);
+      falseChild = front (map (λ (e : Entry). e .falseChild) es) (c .falseChild);
     }
 
 abbrev pub writeReports : List Report → Reports → Reports

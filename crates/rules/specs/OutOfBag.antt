@@ -1,50 +1,48 @@
--- Out-of-bag means, and their error. Definitions only. Assumes nothing.
+-- Out-of-bag means, refusals 9 and 10, and the error of the means.
 use Prim.Native.Nat.{ℕ, zero, suc, _+_, _*_}
 use mathlib.Core.Bool.{_&&_, cond}
 use mathlib.Core.List.{List, [], _∷_, map}
 use lib.ListN.{length, getD}
-use lib.Dec.{leb, ltb, eqb}
+use lib.Dec.{ltb, eqb}
 use lib.Ieee.{Float, binary64, add, sub, mul, div, isNan}
 use Rattle.rules.specs.declared.Shape.{Shape}
 use Rattle.rules.specs.declared.Reply.{Reply}
 use Rattle.rules.specs.declared.ErrorReply.{ErrorReply}
 use Rattle.rules.specs.Words.{nought, float, from, putIf}
-use Rattle.rules.specs.Lent.{Columns, Row, Outcome, valuesAt}
-use Rattle.rules.specs.Checks.{Test, test, firstFailed, rowsIn, featuresIn, treesIn}
-use Rattle.rules.specs.Table.{treesAt, goodForest}
+use Rattle.rules.specs.Lent.{Entry, Outcome, valuesAt}
+use Rattle.rules.specs.Checks.{Test, test, firstFailed, rowsIn, treesIn, shapeIn, valuesLong}
+use Rattle.rules.specs.Table.{ForestTable, treesOf, goodForest, startsEnough}
 use Rattle.rules.specs.Reading.{meanOf, reads}
 
--- ---- means over the trees where the row's count is 0; over none it is 0/0, a NaN
+-- ---- means; over no tree it is 0/0, a NaN
 
--- the trees from tree t on that leave row i out
-unfoldable pub outTrees : ℕ → List ℕ → ℕ → ℕ → List (List Row) → List (List Row)
+-- of the trees from tree t on, those for which row i counts 0
+unfoldable pub outTrees : ℕ → List ℕ → ℕ → ℕ → List (List Entry) → List (List Entry)
 outTrees rows counts i t [] = []
-outTrees rows counts i t (rs ∷ ts) = putIf (eqb (getD counts (t * rows + i) 0) 0) rs (outTrees rows counts i (suc t) ts)
+outTrees rows counts i t (es ∷ ts) = putIf (eqb (getD counts (t * rows + i) 0) 0) es (outTrees rows counts i (suc t) ts)
 
-unfoldable pub outOfBagMean : Shape → ℕ → List Float → List ℕ → Columns → List ℕ → ℕ → Float
-outOfBagMean S trees xs counts c starts i =
-    meanOf (outTrees (S .rows) counts i 0 (treesAt c starts trees)) (valuesAt (S .features) xs i)
+unfoldable pub outOfBagMean : Shape → List Float → List ℕ → ForestTable → ℕ → Float
+outOfBagMean S xs counts T i = meanOf (outTrees (S .rows) counts i 0 (treesOf T)) (valuesAt (S .features) xs i)
 
--- 1, 9, 10, 2, 6, 8, in this order
-unfoldable pub outTests : Shape → ℕ → List Float → List ℕ → Columns → List ℕ → List Float → List Test
-outTests S trees xs counts c starts out =
-    test 1 (rowsIn (S .rows) && (featuresIn (S .features) && treesIn trees))
+unfoldable pub outTests : Shape → List Float → List ℕ → ForestTable → List Float → List Test
+outTests S xs counts T out =
+    test 1 (shapeIn S && treesIn (T .trees))
     ∷ test 9 (ltb 0 (length counts))
-    ∷ test 10 (eqb (length counts) (trees * S .rows))
-    ∷ test 2 (eqb (length xs) (S .rows * S .features))
-    ∷ test 6 (eqb (length out) (S .rows) && leb (suc trees) (length starts))
-    ∷ test 8 (goodForest (S .features) trees c starts)
+    ∷ test 10 (eqb (length counts) (T .trees * S .rows))
+    ∷ test 2 (valuesLong S xs)
+    ∷ test 6 (eqb (length out) (S .rows) && startsEnough T)
+    ∷ test 8 (goodForest (S .features) T)
     ∷ []
 
-unfoldable pub outOfBagMeans : Shape → ℕ → List Float → List ℕ → Columns → List ℕ → List Float → Outcome Reply (List Float)
-outOfBagMeans S trees xs counts c starts out =
-    reads (firstFailed (outTests S trees xs counts c starts out)) (map (outOfBagMean S trees xs counts c starts) (from 0 (S .rows))) out
+unfoldable pub outOfBagMeans : Shape → List Float → List ℕ → ForestTable → List Float → Outcome Reply (List Float)
+outOfBagMeans S xs counts T out = reads (firstFailed (outTests S xs counts T out)) (map (outOfBagMean S xs counts T) (from 0 (S .rows))) out
 
--- ---- the error: squares are added in row order and divided by the rows; a NaN mean adds nothing
+-- ---- the error
 
 unfoldable pub squareOff : Float → Float → Float
 squareOff y m = mul binary64 (sub binary64 y m) (sub binary64 y m)
 
+-- rows without a mean are passed over
 unfoldable pub addSquares : Float → List Float → List Float → Float
 addSquares s [] ms = s
 addSquares s (y ∷ ys) [] = s
@@ -57,6 +55,6 @@ errs (suc n) e = ErrorReply.Refused (suc n)
 unfoldable pub errorTests : ℕ → List Float → List Float → List Test
 errorTests rows ys ms = test 1 (rowsIn rows) ∷ test 2 (eqb (length ys) rows && eqb (length ms) rows) ∷ []
 
+-- and are counted all the same
 unfoldable pub outOfBagError : ℕ → List Float → List Float → ErrorReply
-outOfBagError rows ys ms =
-    errs (firstFailed (errorTests rows ys ms)) (div binary64 (addSquares nought ys ms) (float rows))
+outOfBagError rows ys ms = errs (firstFailed (errorTests rows ys ms)) (div binary64 (addSquares nought ys ms) (float rows))

@@ -1,5 +1,5 @@
--- The search of a node for its cut, under both splitters. Definitions only. Assumes nothing.
--- A kept row becomes an element at once (Fit), and from there on nothing looks at a row number.
+-- The search of a node for its cut, under both splitters.
+-- Rows become elements before growth (Fit): from there on nothing looks at a row number.
 use Prim.Native.Nat.{ℕ, _+_, _-_, min}
 use mathlib.Core.Bool.{Bool, true, false, not, cond}
 use mathlib.Core.List.{List, [], _∷_}
@@ -21,7 +21,7 @@ use Rattle.rules.specs.Draws.{Out, ok, bind, Source}
 
 -- ---- nodes and their columns
 
--- a kept row, with all that growth learns of it
+-- a row, with all that growth learns of it; its number only tells which one it is
 pub record Element : Type 0 where
   pub row : ℕ
   pub count : ℕ
@@ -70,7 +70,7 @@ falseSide c es = sideOf not c es
 
 -- ---- candidates
 
--- the first candidate is taken, a later one only if its proxy is greater
+-- c with proxy q, against what is held: a NaN held is never given up
 unfoldable pub better : Held → Cut → Float → Held
 better Nothing c q = Holds c q
 better (Holds b p) c q = cond (lt p q) (Holds c q) (Holds b p)
@@ -83,9 +83,9 @@ judge P task h t k c =
 -- ---- the best splitter: a walk along feature j's column
 
 -- x comes next: a candidate stands where it differs from the one before
-unfoldable pub runOn : Bool → Params → Task → ℕ → Float → Walk → Held
-runOn true P task j x w = w .best
-runOn false P task j x w =
+unfoldable pub candidateAt : Bool → Params → Task → ℕ → Float → Walk → Held
+candidateAt true P task j x w = w .best
+candidateAt false P task j x w =
     judge P task (w .best) (w .before) (w .count) (record { feature = j; threshold = threshold (w .last) x })
 
 -- a run of equals keeps its first value
@@ -95,7 +95,7 @@ step P task j w e =
       before = takeIn (w .before) (e .target) (e .mass);
       count = w .count + e .count;
       last = cond (eq (at j e) (w .last)) (w .last) (at j e);
-      best = runOn (eq (at j e) (w .last)) P task j (at j e) w;
+      best = candidateAt (eq (at j e) (w .last)) P task j (at j e) w;
     }
 
 unfoldable pub walk : Params → Task → ℕ → Walk → Column → Walk
@@ -124,7 +124,7 @@ pub record Tries (S : Type 0) : Type 0 where
   pub left : S
 
 module _ {S : Type 0} (src : Source S) where
-  -- no threshold is taken where the lowest value is not below the highest
+  -- a threshold is drawn only between two values that differ
   unfoldable pub drawIn : Bool → Params → Task → ℕ → Tries S → Element → Column → Out (Tries S)
   drawIn false P task j r e es = ok r
   drawIn true P task j r e es =

@@ -1,4 +1,4 @@
--- Tree tables: when one is good, refusal 8, the calls that check one alone, and a node read out. Definitions only. Assumes nothing.
+-- Tree tables: when one is good, refusal 8, the calls that check one alone, and a node read out.
 use Prim.Native.Nat.{ℕ, zero, suc, _-_}
 use mathlib.Core.Bool.{Bool, true, _&&_, _||_, cond}
 use mathlib.Core.List.{List, [], _∷_, map}
@@ -9,32 +9,30 @@ use Rattle.rules.specs.declared.Node.{Node}
 use Rattle.rules.specs.declared.Reply.{Reply}
 use Rattle.rules.specs.declared.NodeReply.{NodeReply}
 use Rattle.rules.specs.Words.{from, every, along}
-use Rattle.rules.specs.Lent.{Columns, Row, shortest, rowAt, rowsAt}
-use Rattle.rules.specs.Checks.{Test, test, firstFailed, featuresIn, treesIn}
-use Rattle.rules.specs.Listing.{replies}
+use Rattle.rules.specs.Lent.{Columns, Entry, shortest, entryAt, entriesAt}
+use Rattle.rules.specs.Checks.{Test, test, firstFailed, replies, featuresIn, treesIn}
 
 -- ---- one tree
 
--- both children 0
-unfoldable pub leafRow : Row → Bool
-leafRow r = eqb (r .trueChild) 0 && eqb (r .falseChild) 0
+unfoldable pub isLeaf : Entry → Bool
+isLeaf e = eqb (e .trueChild) 0 && eqb (e .falseChild) 0
 
--- node k of a tree of n nodes
-unfoldable pub goodRow : ℕ → ℕ → ℕ → Row → Bool
-goodRow features n k r =
-    leafRow r || (ltb k (r .trueChild) && (eqb (r .falseChild) (suc (r .trueChild))
-    && (ltb (r .falseChild) n && ltb (r .feature) features)))
+-- node k of a tree of n nodes: a leaf, or its children come in order, above it and inside the tree, and its feature is one of them
+unfoldable pub goodEntry : ℕ → ℕ → ℕ → Entry → Bool
+goodEntry features n k e =
+    isLeaf e || (ltb k (e .trueChild) && (eqb (e .falseChild) (suc (e .trueChild))
+    && (ltb (e .falseChild) n && ltb (e .feature) features)))
 
-unfoldable pub goodFrom : ℕ → ℕ → ℕ → List Row → Bool
+unfoldable pub goodFrom : ℕ → ℕ → ℕ → List Entry → Bool
 goodFrom features n k [] = true
-goodFrom features n k (r ∷ rs) = goodRow features n k r && goodFrom features n (suc k) rs
+goodFrom features n k (e ∷ es) = goodEntry features n k e && goodFrom features n (suc k) es
 
-unfoldable pub goodTree : ℕ → List Row → Bool
-goodTree features rs = ltb 0 (length rs) && goodFrom features (length rs) 0 rs
+unfoldable pub goodTree : ℕ → List Entry → Bool
+goodTree features es = ltb 0 (length es) && goodFrom features (length es) 0 es
 
--- a reader of one tree takes all entries as the tree
-unfoldable pub treeIn : Columns → List Row
-treeIn c = rowsAt c 0 (shortest c)
+-- all that is lent is the tree
+unfoldable pub treeIn : Columns → List Entry
+treeIn c = entriesAt c 0 (shortest c)
 
 unfoldable pub treeTableTests : ℕ → Columns → List Test
 treeTableTests features c = test 1 (featuresIn features) ∷ test 8 (goodTree features (treeIn c)) ∷ []
@@ -44,49 +42,55 @@ checkTree features c = replies (firstFailed (treeTableTests features c))
 
 -- ---- a forest: its trees lie one after another
 
--- starts begin at 0, rise strictly and end within the columns
-unfoldable pub startsGood : ℕ → List ℕ → ℕ → Bool
-startsGood trees starts room =
-    eqb (getD starts 0 1) 0 && (along ltb (take (suc trees) starts) && leb (getD starts trees (suc room)) room)
+-- as it is lent to a reader
+pub record ForestTable : Type 0 where
+  pub trees : ℕ
+  pub nodes : Columns
+  pub starts : List ℕ
 
--- tree t lies between two starts
-unfoldable pub treeAt : Columns → List ℕ → ℕ → List Row
-treeAt c starts t = rowsAt c (getD starts t 0) (getD starts (suc t) 0 - getD starts t 0)
+-- the start table's rule: from 0, each above the one before, the last no further than the columns reach
+unfoldable pub startsGood : ForestTable → Bool
+startsGood T =
+    eqb (getD (T .starts) 0 1) 0 && (along ltb (take (suc (T .trees)) (T .starts))
+    && leb (getD (T .starts) (T .trees) (suc (shortest (T .nodes)))) (shortest (T .nodes)))
 
-unfoldable pub treesAt : Columns → List ℕ → ℕ → List (List Row)
-treesAt c starts trees = map (treeAt c starts) (from 0 trees)
+-- a tree lies between two starts
+unfoldable pub treeAt : Columns → List ℕ → ℕ → List Entry
+treeAt c starts t = entriesAt c (getD starts t 0) (getD starts (suc t) 0 - getD starts t 0)
 
-unfoldable pub goodForest : ℕ → ℕ → Columns → List ℕ → Bool
-goodForest features trees c starts = startsGood trees starts (shortest c) && every (goodTree features) (treesAt c starts trees)
+unfoldable pub treesOf : ForestTable → List (List Entry)
+treesOf T = map (treeAt (T .nodes) (T .starts)) (from 0 (T .trees))
 
-unfoldable pub forestTableTests : ℕ → ℕ → Columns → List ℕ → List Test
-forestTableTests features trees c starts =
-    test 1 (featuresIn features && treesIn trees)
-    ∷ test 6 (leb (suc trees) (length starts))
-    ∷ test 8 (goodForest features trees c starts)
+unfoldable pub goodForest : ℕ → ForestTable → Bool
+goodForest features T = startsGood T && every (goodTree features) (treesOf T)
+
+abbrev pub startsEnough : ForestTable → Bool
+startsEnough T = leb (suc (T .trees)) (length (T .starts))
+
+unfoldable pub forestTableTests : ℕ → ForestTable → List Test
+forestTableTests features T =
+    test 1 (featuresIn features && treesIn (T .trees))
+    ∷ test 6 (startsEnough T)
+    ∷ test 8 (goodForest features T)
     ∷ []
 
-unfoldable pub checkForest : ℕ → ℕ → Columns → List ℕ → Reply
-checkForest features trees c starts =
-    replies (firstFailed (forestTableTests features trees c starts))
+unfoldable pub checkForest : ℕ → ForestTable → Reply
+checkForest features T = replies (firstFailed (forestTableTests features T))
 
 -- ---- a node read out
 
-unfoldable pub nodeOf : Row → Node
-nodeOf r =
+unfoldable pub nodeOf : Entry → Node
+nodeOf e =
     record {
-      value = r .value;
-      kind = cond (leafRow r) Leaf
-          (Split (record { cut = record { feature = r .feature; threshold = r .threshold }; score = r .score; children = r .trueChild }));
+      value = e .value;
+      kind = cond (isLeaf e) Leaf
+          (Split (record { cut = record { feature = e .feature; threshold = e .threshold }; score = e .score; children = e .trueChild }));
     }
 
-unfoldable pub nodeRead : ℕ → Node → NodeReply
-nodeRead zero n = NodeReply.Read n
-nodeRead (suc k) n = NodeReply.Refused (suc k)
-
--- 8 too if the tree has no such node
-unfoldable pub nodeTests : ℕ → Columns → ℕ → List Test
-nodeTests features c k = test 1 (featuresIn features) ∷ test 8 (ltb k (shortest c) && goodRow features (shortest c) k (rowAt c k)) ∷ []
+-- refused as the table is; else node k, if there is one
+unfoldable pub nodeRead : ℕ → Columns → ℕ → NodeReply
+nodeRead zero c k = cond (ltb k (shortest c)) (NodeReply.Read (nodeOf (entryAt c k))) NodeReply.Missing
+nodeRead (suc n) c k = NodeReply.Refused (suc n)
 
 unfoldable pub readNode : ℕ → Columns → ℕ → NodeReply
-readNode features c k = nodeRead (firstFailed (nodeTests features c k)) (nodeOf (rowAt c k))
+readNode features c k = nodeRead (firstFailed (treeTableTests features c)) c k

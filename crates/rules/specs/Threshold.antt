@@ -1,4 +1,4 @@
--- The threshold between two neighbours of a column, p before and x after. Definitions only. Assumes nothing.
+-- The threshold between two neighbours of a column, p before and x after.
 use mathlib.Core.Bool.{cond}
 use lib.Ieee.{Float, binary64, add, sub, div, lt}
 use Rattle.rules.specs.Words.{two}
@@ -6,6 +6,6 @@ use Rattle.rules.specs.Words.{two}
 unfoldable pub midpoint : Float → Float → Float
 midpoint p x = add binary64 p (div binary64 (sub binary64 x p) two)
 
--- the middle, or p where rounding takes the middle up to x or beyond, or it is a NaN
+-- the middle, or p where rounding takes the middle up to x or beyond
 unfoldable pub threshold : Float → Float → Float
 threshold p x = cond (lt (midpoint p x) x) (midpoint p x) p

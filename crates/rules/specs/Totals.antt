@@ -1,14 +1,14 @@
--- Totals and scores. Definitions only. Assumes nothing.
+-- Totals and scores.
 use mathlib.Core.Bool.{Bool, _||_, cond}
 use lib.Ieee.{Float, binary64, add, sub, mul, div, lt, le}
 use Rattle.rules.specs.declared.Totals.{Totals}
 use Rattle.rules.specs.Words.{nought}
 
--- totals start at +0
+-- no rows yet
 abbrev pub empty : Totals
 empty = record { sum = nought; mass = nought }
 
--- and take in a row of target y and mass m
+-- one row more, of target y and mass m
 unfoldable pub takeIn : Totals → Float → Float → Totals
 takeIn t y m = record { sum = add binary64 (t .sum) (mul binary64 y m); mass = add binary64 (t .mass) m }
 
@@ -24,7 +24,7 @@ valueOf t = cond (lt nought (t .mass)) (div binary64 (t .sum) (t .mass)) nought
 unfoldable pub massless : Totals → Totals → Bool
 massless t f = le (t .mass) nought || le (f .mass) nought
 
--- the d of the paper, of the true side's totals and the false side's
+-- d, from the true side's totals and the false side's
 unfoldable pub gap : Totals → Totals → Float
 gap t f = sub binary64 (mul binary64 (t .sum) (f .mass)) (mul binary64 (f .sum) (t .mass))
 

@@ -1,4 +1,4 @@
--- The few words on lists and numbers that the rules are written in. Definitions only. Assumes nothing.
+-- The few words on lists and numbers that the rules are written in.
 use Prim.Native.Nat.{ℕ, zero, suc, _+_}
 use mathlib.Core.Bool.{Bool, true, false, not, _&&_, _||_}
 use mathlib.Core.List.{List, [], _∷_, _++_, map}

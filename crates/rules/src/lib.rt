@@ -25,13 +25,13 @@ pub struct Settings {
     pub splitter: Splitter,
 }
 
-// How many features a search of a forest tries: the floor of the root of their number, or so many.
+// How many features a search of a forest tries: where nothing is said, the floor of the root of their number.
 pub enum Tried {
-    Root,
+    Unsaid,
     Number(u32),
 }
 
-// The settings as growth reads them: the depth is a number.
+// What growth goes by: the settings, the depth as a number, how many features are tried and how many there are.
 pub struct Params {
     pub limit: u32,
     pub leaf: u32,
@@ -66,7 +66,7 @@ pub struct Walk {
     pub best: Held,
 }
 
-// A split: its cut, its score, and the number of its true child. The false child's is the next.
+// A split: its cut, its score, and the number of its true child. The false child's is one more.
 pub struct Fork {
     pub cut: Cut,
     pub score: f64,
@@ -90,7 +90,7 @@ pub enum Scale {
     ByMass(f64),
 }
 
-// What a fit reports of a tree: node count, depth, root mass, searches, choice words and thresholds used.
+// What a fit tells of a tree that it grew. Words and thresholds are those it took from the tapes.
 pub struct Report {
     pub nodes: u32,
     pub depth: u32,
@@ -100,21 +100,21 @@ pub struct Report {
     pub thresholds: u32,
 }
 
-// Where a bad draw was met: the tree, and the search within it, from 0.
-pub struct Draw {
+// Where a bad draw was met. Both count from 0.
+pub struct Place {
     pub tree: u32,
     pub search: u32,
 }
 
 pub enum TreeAnswer {
     Refused(u32),
-    BadDraw(Draw),
+    BadDraw(Place),
     Grown(Report),
 }
 
 pub enum ForestAnswer {
     Refused(u32),
-    BadDraw(Draw),
+    BadDraw(Place),
     Grown,
 }
 
@@ -129,7 +129,9 @@ pub enum ErrorReply {
     Error(f64),
 }
 
+// A good tree may have no node of the number asked.
 pub enum NodeReply {
     Refused(u32),
+    Missing,
     Read(Node),
 }
