@@ -50,7 +50,7 @@ splitting w k =
 unfoldable pub splitOf : Waiting → ℕ → TreeNode
 splitOf w k = record { totals = w .task .totals; count = w .task .count; kind = Split (splitting w k) }
 
--- the true child has the next number, then the false child
+-- two nodes more at the end, the true child before the false one
 unfoldable pub withChildren : Waiting → List TreeNode → List TreeNode
 withChildren w ns = set ns (w .number) (splitOf w (length ns)) ++ (leafOf (child same w) ∷ leafOf (child not w) ∷ [])
 
@@ -66,7 +66,7 @@ pub record State (S : Type 0) : Type 0 where
 unfoldable pub searchable : Params → ℕ → Task → Bool
 searchable P level task = ltb level (P .limit) && leb (P .split) (task .count)
 
--- it joins the waiting list if a cut is found
+-- who waits after a search: the node, if it has a cut now
 unfoldable pub joins : ℕ → ℕ → Task → Found → List Waiting
 joins n level task uncut = []
 joins n level task (cut c) = record { number = n; level = level; task = task; cut = c } ∷ []

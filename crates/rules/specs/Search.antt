@@ -75,7 +75,7 @@ unfoldable pub better : Held → Cut → Float → Held
 better Nothing c q = Holds c q
 better (Holds b p) c q = cond (lt p q) (Holds c q) (Holds b p)
 
--- a cut whose true side has totals t and count k: skipped if a side's count is below the least leaf
+-- a cut whose true side has totals t and count k: both sides must have the least leaf
 unfoldable pub judge : Params → Task → Held → Totals → ℕ → Cut → Held
 judge P task h t k c =
     cond (ltb k (P .leaf)) h (cond (ltb (task .count - k) (P .leaf)) h (better h c (proxy t (less (task .totals) t))))
