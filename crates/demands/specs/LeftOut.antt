@@ -19,11 +19,11 @@ use Rattle.rules.specs.declared.Totals.{Totals}
 use Rattle.rules.specs.declared.TreeAnswer.{TreeAnswer}
 use Rattle.rules.specs.Words.{nought, float, from, keep}
 use Rattle.rules.specs.Totals.{empty, takeIn}
-use Rattle.rules.specs.Lent.{Data, Given, Frame, Waits, TreeRooms, unweighted, countOf, kept}
+use Rattle.rules.specs.Lent.{Data, Given, Frame, Waits, TreeRooms, unweighted, kept, valuesAt, countIn, massIn, keptIn}
 use Rattle.rules.specs.Checks.{firstFailed, goodWeight}
 use Rattle.rules.specs.Draws.{Out, bad, ok}
 use Rattle.rules.specs.Search.{totals}
-use Rattle.rules.specs.Fit.{massOf, targetOf, valuesOf, listing, element, column, root, Tree, rooted, fit, TreeCall, frameOf, grownTree, treeTests, treeDone, treeEnds, fitTree}
+use Rattle.rules.specs.Fit.{elementIn, listing, element, column, root, Tree, rooted, fit, TreeCall, frameOf, grownTree, treeTests, treeDone, treeEnds, fitTree}
 use Rattle.laws.specs.Lists.{is-false, Every, every-imp, every-at, every-or, kept-pass, map-same, every-all, from-below}
 use Rattle.laws.specs.Passed.{past, goes-on, none-fails, Passed, Framed, tree-passed, tree-framed}
 
@@ -31,8 +31,8 @@ use Rattle.laws.specs.Passed.{past, goes-on, none-fails, Passed, Framed, tree-p
 
 -- D and E agree at the rows that are kept, and their listings read the same with the others struck
 pub record Alike (F : Frame) (D E : Data) : Type 0 where
-  pub targets : (i : ℕ) → kept F i ≡ true → targetOf D i ≡ targetOf E i
-  pub values : (i : ℕ) → kept F i ≡ true → valuesOf F D i ≡ valuesOf F E i
+  pub targets : (i : ℕ) → kept F i ≡ true → getD (D .targets) i nan ≡ getD (E .targets) i nan
+  pub values : (i : ℕ) → kept F i ≡ true → valuesAt (F .params .features) (D .values) i ≡ valuesAt (F .params .features) (E .values) i
   pub listings : (j : ℕ) → keep (kept F) (listing F D j) ≡ keep (kept F) (listing F E j)
 
 -- the same call over other features, targets and listings
@@ -68,9 +68,9 @@ Demand3 =
 
 -- of what refusals 3 and 4 keep out, the part that is used
 pub record Accepted (F : Frame) (D : Data) : Type 0 where
-  pub targets : (i : ℕ) → i < F .rows → T (finite (targetOf D i))
+  pub targets : (i : ℕ) → i < F .rows → T (finite (getD (D .targets) i nan))
   pub weights : unweighted (F .weights) ≡ false → (i : ℕ) → i < F .rows → T (finite (getD (F .weights) i nan)) × (lt (getD (F .weights) i nan) nought ≡ false)
-  pub counts : (i : ℕ) → i < F .rows → countOf F i ≤ 65535
+  pub counts : (i : ℕ) → i < F .rows → countIn (F .counts) i ≤ 65535
 
 -- neither below nor above 0
 nonneg-zero : (w : Float) → T (finite w) → lt w nought ≡ false → lt nought w ≡ false → T (isZero w)
@@ -91,29 +91,29 @@ no-count n h = zeros n (nltb→le 0 n (subst (λ b. T (not b)) (sym h) tt))
     zeros : (n : ℕ) → n ≤ 0 → n ≡ 0
     zeros n h = omega arith
 
-mass-fits : (F : Frame) (i : ℕ) → T (fits binary64 (massOf F i))
-unfolding massOf
+mass-fits : (F : Frame) (i : ℕ) → T (fits binary64 (massIn (F .weights) (F .counts) i))
+unfolding massIn
 mass-fits F i = go (unweighted (F .weights))
   where
-    go : (u : Bool) → T (fits binary64 (cond u (float (countOf F i)) (mul binary64 (float (countOf F i)) (getD (F .weights) i nan))))
+    go : (u : Bool) → T (fits binary64 (cond u (float (countIn (F .counts) i)) (mul binary64 (float (countIn (F .counts) i)) (getD (F .weights) i nan))))
     go true = ofInt-fits binary64 _
-    go false = mul-fits binary64 (float (countOf F i)) (getD (F .weights) i nan)
+    go false = mul-fits binary64 (float (countIn (F .counts) i)) (getD (F .weights) i nan)
 
-mass-zero : (F : Frame) (D : Data) → Accepted F D → (i : ℕ) → i < F .rows → kept F i ≡ false → T (isZero (massOf F i))
-unfolding kept massOf
-mass-zero F D a i h k = go (unweighted (F .weights)) refl (ltb 0 (countOf F i)) refl (lt nought w) refl k
+mass-zero : (F : Frame) (D : Data) → Accepted F D → (i : ℕ) → i < F .rows → kept F i ≡ false → T (isZero (massIn (F .weights) (F .counts) i))
+unfolding kept keptIn massIn
+mass-zero F D a i h k = go (unweighted (F .weights)) refl (ltb 0 (countIn (F .counts) i)) refl (lt nought w) refl k
   where
     w : Float
     w = getD (F .weights) i nan
 
-    go : (u : Bool) → unweighted (F .weights) ≡ u → (n : Bool) → ltb 0 (countOf F i) ≡ n → (b : Bool) → lt nought w ≡ b → (n && (u || b)) ≡ false
-        → T (isZero (cond u (float (countOf F i)) (mul binary64 (float (countOf F i)) w)))
+    go : (u : Bool) → unweighted (F .weights) ≡ u → (n : Bool) → ltb 0 (countIn (F .counts) i) ≡ n → (b : Bool) → lt nought w ≡ b → (n && (u || b)) ≡ false
+        → T (isZero (cond u (float (countIn (F .counts) i)) (mul binary64 (float (countIn (F .counts) i)) w)))
     go true q true qa b qb k = absurd (true≢false k)
-    go true q false qa b qb k = subst (λ n. T (isZero (float n))) (sym (no-count (countOf F i) qa)) count-zero
-    go false q false qa b qb k = subst (λ n. T (isZero (mul binary64 (float n) w))) (sym (no-count (countOf F i) qa)) (mass-none w (a .weights q i h .0))
+    go true q false qa b qb k = subst (λ n. T (isZero (float n))) (sym (no-count (countIn (F .counts) i) qa)) count-zero
+    go false q false qa b qb k = subst (λ n. T (isZero (mul binary64 (float n) w))) (sym (no-count (countIn (F .counts) i) qa)) (mass-none w (a .weights q i h .0))
     go false q true qa true qb k = absurd (true≢false k)
     go false q true qa false qb k =
-        mass-weightless (countOf F i) w (le-trans (a .counts i h) (lit≤ tt)) (nonneg-zero w (a .weights q i h .0) (a .weights q i h .1) qb)
+        mass-weightless (countIn (F .counts) i) w (le-trans (a .counts i h) (lit≤ tt)) (nonneg-zero w (a .weights q i h .0) (a .weights q i h .1) qb)
 
 -- a number of the format, and not -0
 Plain : Float → Type 0
@@ -131,26 +131,26 @@ clean-start : Clean empty
 unfolding Clean Plain fits ofBits
 clean-start = ((tt, tt), (tt, tt))
 
-clean-on : (F : Frame) (t : Totals) (y : Float) (i : ℕ) → Clean t → Clean (takeIn t y (massOf F i))
+clean-on : (F : Frame) (t : Totals) (y : Float) (i : ℕ) → Clean t → Clean (takeIn t y (massIn (F .weights) (F .counts) i))
 unfolding Clean takeIn
-clean-on F t y i c = (plain-add (t .sum) (mul binary64 y (massOf F i)) (c .0) (mul-fits binary64 y (massOf F i)), plain-add (t .mass) (massOf F i) (c .1) (mass-fits F i))
+clean-on F t y i c = (plain-add (t .sum) (mul binary64 y (massIn (F .weights) (F .counts) i)) (c .0) (mul-fits binary64 y (massIn (F .weights) (F .counts) i)), plain-add (t .mass) (massIn (F .weights) (F .counts) i) (c .1) (mass-fits F i))
 
-idle : (F : Frame) (D : Data) → Accepted F D → (t : Totals) (i : ℕ) → i < F .rows → Clean t → kept F i ≡ false → takeIn t (targetOf D i) (massOf F i) ≡ t
+idle : (F : Frame) (D : Data) → Accepted F D → (t : Totals) (i : ℕ) → i < F .rows → Clean t → kept F i ≡ false → takeIn t (getD (D .targets) i nan) (massIn (F .weights) (F .counts) i) ≡ t
 unfolding Clean Plain takeIn
 idle F D a t i h c k =
-    let z : T (isZero (massOf F i)) = mass-zero F D a i h k in
+    let z : T (isZero (massIn (F .weights) (F .counts) i)) = mass-zero F D a i h k in
     λ r.
     record {
-      sum = add-zero64 binary64 (t .sum) (mul binary64 (targetOf D i) (massOf F i)) (c .0 .0) (c .0 .1) (mul-zero64 (targetOf D i) (massOf F i) (a .targets i h) z) r;
-      mass = add-zero64 binary64 (t .mass) (massOf F i) (c .1 .0) (c .1 .1) z r;
+      sum = add-zero64 binary64 (t .sum) (mul binary64 (getD (D .targets) i nan) (massIn (F .weights) (F .counts) i)) (c .0 .0) (c .0 .1) (mul-zero64 (getD (D .targets) i nan) (massIn (F .weights) (F .counts) i) (a .targets i h) z) r;
+      mass = add-zero64 binary64 (t .mass) (massIn (F .weights) (F .counts) i) (c .1 .0) (c .1 .1) z r;
     }
 
 -- ---- so the roots are one, and the growths
 
 module _ (F : Frame) (D E : Data) (d : Accepted F D) (e : Accepted F E) (like : Alike F D E) where
   element-same : (i : ℕ) → kept F i ≡ true → element F D i ≡ element F E i
-  unfolding element
-  element-same i k = λ r. record { row = i; count = countOf F i; mass = massOf F i; target = like .targets i k r; values = like .values i k r }
+  unfolding element elementIn
+  element-same i k = λ r. record { row = i; count = countIn (F .counts) i; mass = massIn (F .weights) (F .counts) i; target = like .targets i k r; values = like .values i k r }
 
   column-same : (j : ℕ) → column F D j ≡ column F E j
   unfolding column
@@ -159,14 +159,14 @@ module _ (F : Frame) (D E : Data) (d : Accepted F D) (e : Accepted F E) (like : 
       ∙ map-same (element F D) (element F E) (keep (kept F) (listing F E j)) (every-imp _ _ (λ i k. element-same i k) (keep (kept F) (listing F E j)) (kept-pass (kept F) (listing F E j)))
 
   sweep-same : (t : Totals) → Clean t → (l : List ℕ) → Every (λ i. i < F .rows) l → totals t (map (element F D) l) ≡ totals t (map (element F E) l)
-  unfolding totals element
+  unfolding totals element elementIn
   sweep-same t c [] b = refl
   sweep-same t c (i ∷ l) b = go (kept F i) refl (λ u x. sweep-same u x l (b .1))
     where
       go : (k : Bool) → kept F i ≡ k → ((u : Totals) → Clean u → totals u (map (element F D) l) ≡ totals u (map (element F E) l))
-          → totals (takeIn t (targetOf D i) (massOf F i)) (map (element F D) l) ≡ totals (takeIn t (targetOf E i) (massOf F i)) (map (element F E) l)
+          → totals (takeIn t (getD (D .targets) i nan) (massIn (F .weights) (F .counts) i)) (map (element F D) l) ≡ totals (takeIn t (getD (E .targets) i nan) (massIn (F .weights) (F .counts) i)) (map (element F E) l)
       go true k h =
-          h (takeIn t (targetOf D i) (massOf F i)) (clean-on F t (targetOf D i) i c) ∙ ap (λ y. totals (takeIn t y (massOf F i)) (map (element F E) l)) (like .targets i k)
+          h (takeIn t (getD (D .targets) i nan) (massIn (F .weights) (F .counts) i)) (clean-on F t (getD (D .targets) i nan) i c) ∙ ap (λ y. totals (takeIn t y (massIn (F .weights) (F .counts) i)) (map (element F E) l)) (like .targets i k)
       go false k h =
           ap (λ u. totals u (map (element F D) l)) (idle F D d t i (b .0) c k) ∙ h t c ∙ ap (λ u. totals u (map (element F E) l)) (sym (idle F E e t i (b .0) c k))
 
@@ -188,7 +188,7 @@ module _ (F : Frame) (D E : Data) (d : Accepted F D) (e : Accepted F E) (like : 
 
 -- passed checks accept
 pub accepted : (S : Shape) (trees : ℕ) (G : Given) → Passed S trees G → (F : Frame) → Framed S G F → Accepted F (G .inputs)
-unfolding targetOf countOf goodWeight
+unfolding countIn goodWeight
 accepted S trees G p F f =
     record {
       targets = λ i h. every-at _ (G .inputs .targets) nan i (p .targetsFinite) (subst (λ n. i < n) (sym (p .targetsLong)) (below i h));

@@ -8,7 +8,7 @@ use mathlib.Core.Bool.{Bool, true, false, not, _&&_}
 use mathlib.Core.List.{List, [], _∷_, map}
 use lib.ListN.{length, getD, take, drop, length-take, length-drop}
 use lib.Dec.{T, ltb}
-use lib.Ieee.{Float, le, lt}
+use lib.Ieee.{Float, nan, le, lt}
 use Rattle.rules.specs.declared.Totals.{Totals}
 use Rattle.rules.specs.declared.Params.{Params}
 use Rattle.rules.specs.declared.Splitter.{Splitter}
@@ -19,12 +19,12 @@ use Rattle.rules.specs.declared.TreeAnswer.{TreeAnswer}
 use Rattle.rules.specs.declared.ForestAnswer.{ForestAnswer}
 use Rattle.rules.specs.Words.{eachOnce, from}
 use Rattle.rules.specs.Totals.{empty, takeIn}
-use Rattle.rules.specs.Lent.{Data, Frame, Waits, TreeRooms, ForestRooms, shortest}
+use Rattle.rules.specs.Lent.{Data, Frame, Waits, TreeRooms, ForestRooms, shortest, massIn}
 use Rattle.rules.specs.Checks.{roomFor}
 use Rattle.rules.specs.Draws.{Out, Tapes, takeWords, takeThreshold, nextThreshold, tape}
 use Rattle.rules.specs.Search.{Column, at, totals, Task, same, final, Tries, drawIn, randomIn, tryOne, tryAll, Found, search}
 use Rattle.rules.specs.Growth.{Waiting, State, child, withChildren, searchable, searchIf, expand, fromRoot}
-use Rattle.rules.specs.Fit.{massOf, targetOf, element, root, Tree, treeOf, rooted, fit, paramsOf, TreeCall, frameOf, fitTree}
+use Rattle.rules.specs.Fit.{elementIn, element, root, Tree, treeOf, rooted, fit, paramsOf, TreeCall, frameOf, fitTree}
 use Rattle.rules.specs.Forest.{ForestCall, frameAt, frames, forestEntries, fitForest}
 use Rattle.laws.specs.Lists.{Every}
 use Rattle.laws.specs.Once.{once-length}
@@ -40,7 +40,7 @@ use Rattle.demands.specs.Walks.{reported-nodes}
 -- the totals of rows 0 to n - 1, the last taken in last
 pub totalsTo : Frame → Data → ℕ → Totals
 totalsTo F D zero = empty
-totalsTo F D (suc n) = takeIn (totalsTo F D n) (targetOf D n) (massOf F n)
+totalsTo F D (suc n) = takeIn (totalsTo F D n) (getD (D .targets) n nan) (massIn (F .weights) (F .counts) n)
 
 abbrev pub RootByNumber : Type 0
 RootByNumber = (F : Frame) (D : Data) → root F D .totals ≡ totalsTo F D (F .rows)
@@ -77,7 +77,7 @@ ForestRoom =
 
 -- the rows after the first n, taken in one by one
 totals-from : (F : Frame) (D : Data) (n k : ℕ) → totals (totalsTo F D n) (map (element F D) (from n k)) ≡ totalsTo F D (n + k)
-unfolding totals from element totalsTo
+unfolding totals from element elementIn totalsTo
 totals-from F D n zero = ap (totalsTo F D) (sym (add-zero n))
 totals-from F D n (suc k) = totals-from F D (suc n) k ∙ ap (totalsTo F D) (shift n k)
   where

@@ -14,10 +14,10 @@ use lib.Ieee.Fits.{and-i}
 use Rattle.rules.specs.declared.ForestAnswer.{ForestAnswer}
 use Rattle.rules.specs.declared.Reply.{Reply}
 use Rattle.rules.specs.Words.{nought, from, putIf}
-use Rattle.rules.specs.Lent.{Waits, ForestRooms, Outcome, valuesAt, unweighted, countOf, kept}
+use Rattle.rules.specs.Lent.{Waits, ForestRooms, Outcome, valuesAt, unweighted, kept, countIn, keptIn}
 use Rattle.rules.specs.Checks.{firstFailed}
 use Rattle.rules.specs.Draws.{Out, bad, ok}
-use Rattle.rules.specs.Fit.{targetOf, valuesOf, listing, Tree, fit, entries}
+use Rattle.rules.specs.Fit.{listing, Tree, fit, entries}
 use Rattle.rules.specs.Table.{treesOf}
 use Rattle.rules.specs.Reading.{meanOf, reads}
 use Rattle.rules.specs.Forest.{ForestCall, frameAt, frames, startsFrom, fitForest}
@@ -88,13 +88,13 @@ module _ (C : ForestCall) (ys : List Float) (i : ℕ) (inside : i < C .shape .ro
 
   -- where it is 0, the row is left out
   out : (t : ℕ) → count t ≡ 0 → kept (frameAt C t) i ≡ false
-  unfolding kept countOf frameAt
+  unfolding kept keptIn countIn frameAt
   out t z =
       ap (λ n. ltb 0 n && (unweighted (C .given .weights) || lt nought (getD (C .given .weights) i nan)))
       (getD-take (C .shape .rows) (drop (t * C .shape .rows) (C .given .counts)) i 0 inside ∙ getD-drop (t * C .shape .rows) (C .given .counts) i 0 ∙ z)
 
   tree-same : (t : ℕ) → count t ≡ 0 → fit (frameAt C t) (C .given .inputs) ≡ fit (frameAt C t) (retarget C ys .given .inputs)
-  unfolding targetOf valuesOf listing frameAt
+  unfolding listing frameAt
   tree-same t z =
       fit-same (frameAt C t) (C .given .inputs) (retarget C ys .given .inputs)
       (accepted (C .shape) (C .trees) (C .given) p (frameAt C t) (forest-framed C p t))

@@ -18,7 +18,7 @@ use Rattle.rules.specs.Lent.{Given, Frame, Waits, TreeRooms, ForestRooms, value
 use Rattle.rules.specs.Checks.{Test, test, firstFailed, within, rowsIn, featuresIn, treesIn, shapeIn, lengths, goodWeight, numbersGood, countsGood, countsOne, roomFor, workEnough, reportsExact}
 use Rattle.rules.specs.Listing.{neverFalls, goodListing, listingsGood}
 use Rattle.rules.specs.Search.{at}
-use Rattle.rules.specs.Fit.{valuesOf, listing, element, paramsOf, TreeCall, frameOf, treeTests}
+use Rattle.rules.specs.Fit.{listing, elementIn, element, paramsOf, TreeCall, frameOf, treeTests}
 use Rattle.rules.specs.Forest.{ForestCall, frameAt, frames, cutsGood, roomsGood, forestTests}
 use Rattle.laws.specs.Lists.{or-other, Every, each, every-at, every-or, every-take, every-drop, every-from, Ordered, ordered-along}
 use Rattle.laws.specs.Once.{once-below}
@@ -158,7 +158,7 @@ Binary64 xs = Every (λ x. T (fits binary64 x)) xs
 
 module _ (S : Shape) (trees : ℕ) (G : Given) (p : Passed S trees G) (F : Frame) (f : Framed S G F) where
   cell-same : (i j : ℕ) → at j (element F (G .inputs) i) ≡ cell (S .features) (G .inputs .values) j i
-  unfolding at element valuesOf cell
+  unfolding at element elementIn cell
   cell-same i j = ap (λ n. getD (valuesAt n (G .inputs .values) i) j nan) (f .featuresSame)
 
   -- where it lies

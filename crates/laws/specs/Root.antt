@@ -11,12 +11,12 @@ use lib.Dec.{T, ltb, ltb→lt}
 use lib.Ieee.{nan, lt, le}
 use lib.Ieee.Fits.{and-l}
 use Rattle.rules.specs.Words.{nought, from, keep, total, eachOnce}
-use Rattle.rules.specs.Lent.{Data, Frame, unweighted, countOf, kept, keptRows}
+use Rattle.rules.specs.Lent.{Data, Frame, unweighted, countIn, keptIn, kept, keptRows}
 use Rattle.rules.specs.Checks.{roomFor}
 use Rattle.rules.specs.Draws.{tape}
 use Rattle.rules.specs.Search.{Element, at, tally, search}
 use Rattle.rules.specs.Growth.{fromRoot}
-use Rattle.rules.specs.Fit.{listing, element, column, root, treeOf, rooted, fit}
+use Rattle.rules.specs.Fit.{listing, elementIn, element, column, root, treeOf, rooted, fit}
 use Rattle.laws.specs.Lists.{Every, every-imp, every-keep, every-map, kept-pass, keep-map, keep-keep, total-map, length-total, getD-from, Ordered, ordered-keep, ordered-map}
 use Rattle.laws.specs.Once.{once-below, once-keep}
 use Rattle.laws.specs.Outs.{Then, then-then}
@@ -36,9 +36,9 @@ pub record Listed (F : Frame) (D : Data) : Type 0 where
   pub values : (i j : ℕ) → i < F .rows → j < F .params .features → Value (at j (element F D i))
 
 -- a kept row has a count
-kept-some : (F : Frame) (i : ℕ) → kept F i ≡ true → 1 ≤ countOf F i
-unfolding kept
-kept-some F i e = ltb→lt 0 (countOf F i) (and-l (ltb 0 (countOf F i)) (unweighted (F .weights) || lt nought (getD (F .weights) i nan)) (subst T (sym e) tt))
+kept-some : (F : Frame) (i : ℕ) → kept F i ≡ true → 1 ≤ countIn (F .counts) i
+unfolding kept keptIn
+kept-some F i e = ltb→lt 0 (countIn (F .counts) i) (and-l (ltb 0 (countIn (F .counts) i)) (unweighted (F .weights) || lt nought (getD (F .weights) i nan)) (subst T (sym e) tt))
 
 module _ (F : Frame) (D : Data) (ok : Listed F D) where
   pub column-at : (j : ℕ) → j < F .params .features → getD (root F D .columns) j [] ≡ column F D j
@@ -72,7 +72,7 @@ module _ (F : Frame) (D : Data) (ok : Listed F D) where
       subst (Ordered R) (sym (column-at j h)) (ordered-map R (element F D) (keep (kept F) (listing F D j)) (ordered-keep (λ a b. R (element F D a) (element F D b)) (kept F) (listing F D j) o))
 
   pub root-good : Good (F .params) (root F D)
-  unfolding root element
+  unfolding root element elementIn
   root-good =
       record {
         sound = λ j h.

@@ -18,13 +18,13 @@ use Rattle.rules.specs.declared.Reply.{Reply}
 use Rattle.rules.specs.Words.{nought, float, from, putIf, keep, every, alongFrom, along, total, member, fresh, eachOnce}
 use Rattle.rules.specs.Totals.{takeIn, less, valueOf, massless, gap, proxy, score}
 use Rattle.rules.specs.Threshold.{midpoint, threshold}
-use Rattle.rules.specs.Lent.{Given, Columns, Stack, stack, Work, TreeRooms, ForestRooms, Outcome, valuesAt, listingAt, unweighted, entriesAt, countOf, kept, keptRows, cell}
+use Rattle.rules.specs.Lent.{Given, Columns, Stack, stack, Work, TreeRooms, ForestRooms, Outcome, valuesAt, listingAt, unweighted, entriesAt, kept, keptRows, cell, countIn, massIn, keptIn}
 use Rattle.rules.specs.Checks.{firstFailed, within, lengths, goodCuts, goodWeight, numbersGood, countsGood, countsOne, roomFor, workEnough, reportsExact}
 use Rattle.rules.specs.Listing.{neverFalls, goodListing, listingsGood}
 use Rattle.rules.specs.Draws.{bind, takeWords, takeThreshold, nextThreshold, tape}
 use Rattle.rules.specs.Search.{at, totals, goesTrue, better, judge, candidateAt, step, walk, bestIn, final, drawn, drawIn, randomIn, tryOne, tryAll, search}
 use Rattle.rules.specs.Growth.{child, leafOf, splitting, splitOf, withChildren, searchable, joins, runs, searchIf, expand, grow, growAll, fromRoot}
-use Rattle.rules.specs.Fit.{massOf, targetOf, valuesOf, listing, element, column, root, treeOf, rooted, fit, entryOf, entries, limitOf, paramsOf, TreeCall, frameOf, grownTree, treeTests, treeDone, treeEnds, fitTree}
+use Rattle.rules.specs.Fit.{listing, elementIn, element, column, root, treeOf, rooted, fit, entryOf, entries, limitOf, paramsOf, TreeCall, frameOf, grownTree, treeTests, treeDone, treeEnds, fitTree}
 use Rattle.rules.specs.Table.{isLeaf, goodEntry, goodFrom, goodTree, treeIn, startsGood, treeAt, treesOf, goodForest}
 use Rattle.rules.specs.Reading.{onto, walked, leafValue, reads, addTrees, meanOf, scored, addScores, sumFrom, dividedIf, normalised, scoresOf, scaled, treeImportanceTests, treeImportances}
 use Rattle.rules.specs.Forest.{ForestCall, squares, triedOf, part, frameAt, frames, withTree, nextTree, growTrees, grownForest, startsFrom, forestEntries, cutsGood, roomsGood, forestTests, forestDone, forestEnds, fitForest}
@@ -44,7 +44,7 @@ pub data Seen : Type 0 where
   read : Outcome Reply (List Float) → Seen
 
 unfoldable pub run : Call → Seen
-unfolding from putIf keep every alongFrom along total member fresh eachOnce takeIn less valueOf massless gap proxy score midpoint threshold valuesAt cell listingAt unweighted entriesAt firstFailed within lengths goodCuts goodWeight numbersGood countsGood countsOne countOf kept keptRows roomFor workEnough reportsExact neverFalls goodListing listingsGood bind takeWords takeThreshold nextThreshold tape at totals goesTrue better judge candidateAt step walk bestIn final drawn drawIn randomIn tryOne tryAll search child leafOf splitting splitOf withChildren searchable joins runs searchIf expand grow growAll fromRoot massOf targetOf valuesOf listing element column root treeOf rooted fit entryOf entries limitOf paramsOf frameOf grownTree treeTests treeDone treeEnds fitTree isLeaf goodEntry goodFrom goodTree treeIn startsGood treeAt treesOf goodForest onto walked leafValue reads addTrees meanOf scored addScores sumFrom dividedIf normalised scoresOf scaled treeImportanceTests treeImportances squares triedOf part frameAt frames withTree nextTree growTrees grownForest startsFrom forestEntries cutsGood roomsGood forestTests forestDone forestEnds fitForest outTrees outOfBagMean outTests outOfBagMeans add sub mul div lt le eq isNan ofInt ofBits
+unfolding from putIf keep every alongFrom along total member fresh eachOnce takeIn less valueOf massless gap proxy score midpoint threshold valuesAt cell listingAt unweighted entriesAt firstFailed within lengths goodCuts goodWeight numbersGood countsGood countsOne countIn massIn keptIn kept keptRows roomFor workEnough reportsExact neverFalls goodListing listingsGood bind takeWords takeThreshold nextThreshold tape at totals goesTrue better judge candidateAt step walk bestIn final drawn drawIn randomIn tryOne tryAll search child leafOf splitting splitOf withChildren searchable joins runs searchIf expand grow growAll fromRoot listing elementIn element column root treeOf rooted fit entryOf entries limitOf paramsOf frameOf grownTree treeTests treeDone treeEnds fitTree isLeaf goodEntry goodFrom goodTree treeIn startsGood treeAt treesOf goodForest onto walked leafValue reads addTrees meanOf scored addScores sumFrom dividedIf normalised scoresOf scaled treeImportanceTests treeImportances squares triedOf part frameAt frames withTree nextTree growTrees grownForest startsFrom forestEntries cutsGood roomsGood forestTests forestDone forestEnds fitForest outTrees outOfBagMean outTests outOfBagMeans add sub mul div lt le eq isNan ofInt ofBits
 run (fits C R) = fitted (fitTree stack C R)
 run (weighs by C R out) = read (treeImportances (C .shape .features) by (fitTree stack C R .rooms .nodes) out)
 run (bags C R out) =

@@ -1,10 +1,10 @@
 -- The fit of one tree: from what is lent to its answer and the rooms after.
 use Prim.Native.Nat.{ℕ, zero, suc, _-_}
-use mathlib.Core.Bool.{_&&_, cond}
+use mathlib.Core.Bool.{_&&_}
 use mathlib.Core.List.{List, [], _∷_, map}
 use lib.ListN.{length, getD}
 use lib.Dec.{leb}
-use lib.Ieee.{Float, nan, binary64, mul}
+use lib.Ieee.{Float, nan}
 use Rattle.rules.specs.declared.Params.{Params}
 use Rattle.rules.specs.declared.Depth.{Depth}
 use Rattle.rules.specs.declared.Depth.the-variants.{Unlimited, AtMost}
@@ -14,9 +14,9 @@ use Rattle.rules.specs.declared.Kind.{Kind}
 use Rattle.rules.specs.declared.Kind.the-variants.{Leaf, Split}
 use Rattle.rules.specs.declared.Report.{Report}
 use Rattle.rules.specs.declared.TreeAnswer.{TreeAnswer}
-use Rattle.rules.specs.Words.{float, from, keep, total}
+use Rattle.rules.specs.Words.{from, keep, total}
 use Rattle.rules.specs.Totals.{empty, valueOf}
-use Rattle.rules.specs.Lent.{Data, Given, Frame, Entry, Waits, TreeRooms, Outcome, valuesAt, listingAt, unweighted, countOf, kept, keptRows, shortest, leafEntry, writeEntries, zeroColumns, zeroWork}
+use Rattle.rules.specs.Lent.{Data, Given, Frame, Entry, Waits, TreeRooms, Outcome, valuesAt, listingAt, countIn, massIn, kept, keptRows, shortest, leafEntry, writeEntries, zeroColumns, zeroWork}
 use Rattle.rules.specs.Checks.{Test, test, firstFailed, shapeIn, lengths, numbersGood, countsGood, roomFor, workEnough}
 use Rattle.rules.specs.Listing.{listingsGood}
 use Rattle.rules.specs.Draws.{Out, bad, ok, bind, Tapes, tape}
@@ -25,21 +25,16 @@ use Rattle.rules.specs.Growth.{TreeNode, State, fromRoot}
 
 -- ---- the root
 
--- without weights a row weighs its count
-unfoldable pub massOf : Frame → ℕ → Float
-massOf F i = cond (unweighted (F .weights)) (float (countOf F i)) (mul binary64 (float (countOf F i)) (getD (F .weights) i nan))
+-- a row as growth sees it
+unfoldable pub elementIn : ℕ → List Float → List Float → List Float → List ℕ → ℕ → Element
+elementIn features values targets weights counts i =
+    record { row = i; count = countIn counts i; mass = massIn weights counts i; target = getD targets i nan; values = valuesAt features values i }
 
-unfoldable pub targetOf : Data → ℕ → Float
-targetOf D i = getD (D .targets) i nan
-
-unfoldable pub valuesOf : Frame → Data → ℕ → List Float
-valuesOf F D i = valuesAt (F .params .features) (D .values) i
+unfoldable pub element : Frame → Data → ℕ → Element
+element F D i = elementIn (F .params .features) (D .values) (D .targets) (F .weights) (F .counts) i
 
 unfoldable pub listing : Frame → Data → ℕ → List ℕ
 listing F D j = listingAt (F .rows) (D .listings) j
-
-unfoldable pub element : Frame → Data → ℕ → Element
-element F D i = record { row = i; count = countOf F i; mass = massOf F i; target = targetOf D i; values = valuesOf F D i }
 
 -- feature j's column: what its listing has of kept rows
 unfoldable pub column : Frame → Data → ℕ → Column
@@ -51,7 +46,7 @@ root F D =
     record {
       columns = map (column F D) (from 0 (F .params .features));
       totals = totals empty (map (element F D) (from 0 (F .rows)));
-      count = total (countOf F) (keptRows F);
+      count = total (countIn (F .counts)) (keptRows F);
     }
 
 -- ---- a grown tree, and what is reported of it

@@ -1,13 +1,13 @@
 -- What is lent: tables to read, and rooms to write.
 use Prim.Native.Nat.{ℕ, _*_, min}
-use mathlib.Core.Bool.{Bool, true, false, _&&_, _||_}
+use mathlib.Core.Bool.{Bool, true, false, _&&_, _||_, cond}
 use mathlib.Core.List.{List, [], _∷_, map}
 use lib.ListN.{length, getD, replicate}
 use lib.Dec.{ltb}
-use lib.Ieee.{Float, nan, lt}
+use lib.Ieee.{Float, nan, binary64, mul, lt}
 use Rattle.rules.specs.declared.Params.{Params}
 use Rattle.rules.specs.declared.Report.{Report}
-use Rattle.rules.specs.Words.{nought, from, keep, stretch, front, filled}
+use Rattle.rules.specs.Words.{nought, float, from, keep, stretch, front, filled}
 
 -- ---- to read
 
@@ -47,12 +47,20 @@ unfoldable pub unweighted : List Float → Bool
 unweighted [] = true
 unweighted (w ∷ ws) = false
 
-unfoldable pub countOf : Frame → ℕ → ℕ
-countOf F i = getD (F .counts) i 0
+unfoldable pub countIn : List ℕ → ℕ → ℕ
+countIn counts i = getD counts i 0
 
--- whether the tree keeps row i
+-- without weights a row weighs its count
+unfoldable pub massIn : List Float → List ℕ → ℕ → Float
+massIn weights counts i =
+    cond (unweighted weights) (float (countIn counts i)) (mul binary64 (float (countIn counts i)) (getD weights i nan))
+
+-- whether a tree keeps row i
+unfoldable pub keptIn : List Float → List ℕ → ℕ → Bool
+keptIn weights counts i = ltb 0 (countIn counts i) && (unweighted weights || lt nought (getD weights i nan))
+
 unfoldable pub kept : Frame → ℕ → Bool
-kept F i = ltb 0 (countOf F i) && (unweighted (F .weights) || lt nought (getD (F .weights) i nan))
+kept F i = keptIn (F .weights) (F .counts) i
 
 unfoldable pub keptRows : Frame → List ℕ
 keptRows F = keep (kept F) (from 0 (F .rows))
