@@ -1,0 +1,4 @@
+-- What the work columns hold after each step of set-up and split, and the laws that growth needs of it. Nothing is assumed.
+
+-- a room that is filled with one value
+pub mod Filling
