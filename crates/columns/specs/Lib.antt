@@ -2,3 +2,7 @@
 
 -- a room that is filled with one value
 pub mod Filling
+-- the columns, and what each step promises of them
+pub mod Columns
+-- their laws
+pub mod Fronts

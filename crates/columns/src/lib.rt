@@ -1,8 +1,11 @@
 // What set-up and split do with the work room.
 ghost use mathlib.Core.Path.{_≡_};
+ghost use Prim.Native.Nat.{ℕ, _+_, _-_, _≤_};
 ghost use mathlib.Core.Bool.{false};
-ghost use lib.ListN.{replicate};
+ghost use lib.ListN.{length, replicate};
+ghost use lib.Seq.{paste};
 ghost use Rattle.rules.specs.Words.{nought, filled};
+ghost use Rattle.columns.specs.Columns.{flagged, Swept, Parted, PartAsks};
 
 // ---- rooms filled with zero, the whole of each
 
@@ -54,4 +57,53 @@ pub fn zero_reals(s: &mut [[f64; 3]])
         s[i] = [0.0; 3];
         i += 1;
     }
+}
+
+// ---- partition
+
+// One pass: the flagged rows to the front of the stretch, the others to the front of the scratch.
+fn sweep(col: &mut [u32], scratch: &mut [u32], flags: &[bool]) -> usize
+    requires { ⌜ PartAsks (now col) (length (now scratch)) (length (now flags)) ⌝ }
+    ensures { λ r. ⌜ Swept (flagged (now (flags .entry))) (now (col .entry)) (now (col .exit)) (now (scratch .exit)) r ⌝ }
+{
+    let mut w: usize = 0;
+    let mut f: usize = 0;
+    let mut i: usize = 0;
+    while i < col.len() {
+        let e = col[i];
+        let row = e as usize;
+        let t = flags[row];
+        col[w] = e;
+        scratch[f] = e;
+        if t {
+            w += 1;
+        } else {
+            f += 1;
+        }
+        i += 1;
+    }
+    w
+}
+
+// The first n of src, copied over dst from `at` on.
+fn copy_in(dst: &mut [u32], at: usize, src: &[u32], n: usize)
+    requires { ⌜ (at + n ≤ length (now dst)) × (n ≤ length (now src)) ⌝ }
+    ensures { λ _. ⌜ now (dst .exit) ≡ paste (now (dst .entry)) at (now (src .entry)) n ⌝ }
+{
+    let mut j: usize = 0;
+    while j < n {
+        dst[at + j] = src[j];
+        j += 1;
+    }
+}
+
+// The flagged rows of a stretch first, then the others, each in their order. Answers how many are flagged.
+pub fn stable_partition(col: &mut [u32], scratch: &mut [u32], flags: &[bool]) -> usize
+    requires { ⌜ PartAsks (now col) (length (now scratch)) (length (now flags)) ⌝ }
+    ensures { λ r. ⌜ Parted (flagged (now (flags .entry))) (now (col .entry)) (now (col .exit)) r ⌝ }
+{
+    let n = col.len();
+    let w = sweep(col, scratch, flags);
+    copy_in(col, w, scratch, n - w);
+    w
 }
