@@ -6,3 +6,4 @@ pub mod Filling
 pub mod Columns
 -- their laws
 pub mod Fronts
+pub mod Stretches
