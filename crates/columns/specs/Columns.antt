@@ -44,6 +44,10 @@ pub record Parted (p : ℕ → Bool) (before after : List ℕ) (r : ℕ) : Type 
   pub count : r ≡ length (keep p before)
   pub parts : after ≡ parted p before
 
+-- the rows from a to e of each of n columns partitioned
+abbrev pub partedColumns : ℕ → ℕ → ℕ → (ℕ → Bool) → ℕ → List ℕ → List ℕ
+partedColumns rows a e p n cols = inColumns rows a e (λ k. parted p) n cols
+
 -- what a partition of a stretch asks: scratch enough, and a flag for each row
 pub record PartAsks (col : List ℕ) (scratch flags : ℕ) : Type 0 where
   pub room : length col ≤ scratch

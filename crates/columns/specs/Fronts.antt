@@ -6,10 +6,11 @@ use native.Mathlib.Omega.{arith}
 use mathlib.Core.Path.{_≡_, refl, sym, ap, _∙_}
 use mathlib.Core.Bool.{Bool, true, false, not}
 use mathlib.Core.List.{List, [], _∷_, _++_, append-nil}
-use lib.ListN.{length, getD, set, take, drop}
+use lib.ListN.{length, getD, set, take, drop, length-append}
 use lib.Seq.{take-suc, take-suc-set, take-set-le, drop-set-lt, getD-drop, drop-drop}
 use Rattle.rules.specs.Words.{keep, putIf}
 use Rattle.laws.specs.Lists.{keep-append, total-sides, length-total}
+use Rattle.columns.specs.Columns.{fails, parted}
 
 -- one entry more, kept or not
 module _ {A : Type 0} (p : A → Bool) (l : List A) (i : ℕ) (d : A) (h : i < length l) where
@@ -29,6 +30,9 @@ module _ {A : Type 0} (p : A → Bool) (l : List A) (i : ℕ) (d : A) (h : i < l
 pub keep-both : {A : Type 0} (p : A → Bool) (l : List A) → length (keep p l) + length (keep (λ x. not (p x)) l) ≡ length l
 keep-both p l =
     (λ i. sym (length-total (keep p l)) i + sym (length-total (keep (λ x. not (p x)) l)) i) ∙ total-sides (λ x. 1) p l ∙ length-total l
+
+pub parted-long : (p : ℕ → Bool) (l : List ℕ) → length (parted p l) ≡ length l
+parted-long p l = length-append (keep p l) (keep (fails p) l) ∙ keep-both p l
 
 -- a write at w into a list whose first w are known
 module _ {A : Type 0} (l : List A) (w : ℕ) (x : A) where

@@ -1,6 +1,7 @@
 -- Stretches of the work columns: parts of parts, and what a change of the same places of every column leaves. Assumes nothing.
 use Prim.Native.Nat.{ℕ, zero, suc, _+_, _-_, _*_, _<_, _≤_}
-use native.Mathlib.Nat.{mul-le-mul-right, suc-mul, not-suc-le-zero}
+use native.Mathlib.Nat.{mul-le-mul-right, suc-mul, not-suc-le-zero, le-trans, lt-of-lt-of-le}
+use native.Mathlib.Numerals.{add-one}
 use native.Mathlib.Decide.{ℕ-discrete, decLt}
 use native.Mathlib.Omega.{arith}
 use mathlib.Core.Path.{_≡_, refl, sym, ap, _∙_, subst}
@@ -8,6 +9,7 @@ use mathlib.Core.Logic.{_⊎_, inl, inr, _≢_}
 use mathlib.Core.List.{List, [], _∷_, _++_, append-assoc}
 use lib.ListN.{length, take, drop, take-append-drop, length-append, length-take, length-drop}
 use lib.Seq.{take-at, drop-at, take-take, take-add, drop-drop, take-nil, length-take-le, take-append-le, drop-append-le}
+use borrow.Rule.Slice.PartMut.{putMid}
 use Rattle.rules.specs.Words.{stretch}
 use Rattle.laws.specs.Lists.{Every, every-append, every-take, every-drop}
 use Rattle.columns.specs.Columns.{part, changed, inColumns}
@@ -192,3 +194,41 @@ module _ (rows a e : ℕ) (g : ℕ → List ℕ → List ℕ) (cols : List ℕ) 
           ap (λ z. part rows z a e (inColumns rows a e g (suc n) cols)) q ∙ turn (in-long n (omega (arith, ends n (length cols) l)) (fewer n y))
           ∙ ap (g n) (in-later n (omega (arith, ends n (length cols) l)) (fewer n y) n a e (omega arith) order high) ∙ ap (λ z. g z (part rows z a e cols)) (sym q)
       go (no d) ih = past n l y k a e order high (inl d) ∙ ih d
+
+-- ---- a loop over the columns: the first k are changed
+
+pub record Going (rows a e : ℕ) (g : ℕ → List ℕ → List ℕ) (n : ℕ) (cols₀ cols : List ℕ) (k : ℕ) : Type 0 where
+  pub within : k ≤ n
+  pub so : cols ≡ inColumns rows a e g k cols₀
+
+module _ (rows a e : ℕ) (g : ℕ → List ℕ → List ℕ) (n : ℕ) (cols₀ : List ℕ) where
+  pub going-start : Going rows a e g n cols₀ cols₀ 0
+  unfolding inColumns
+  going-start = record { within = omega arith; so = refl }
+
+  -- column k was lent from `low` on, and is back
+  pub going-turn : (cols new : List ℕ) (k low w : ℕ) → Going rows a e g n cols₀ cols k → k < n → low ≡ k * rows + a → w ≡ e - a → new ≡ g k (stretch low w cols)
+      → Going rows a e g n cols₀ (putMid low w cols new) (k + 1)
+  unfolding inColumns changed
+  going-turn cols new k low w s h p q r =
+      record {
+        within = omega arith;
+        so =
+          ap (putMid low w cols) r ∙ (λ i. changed (p i) (q i) (g k) (s .so i)) ∙ ap (λ z. inColumns rows a e g z cols₀) (sym (add-one k));
+      }
+
+  pub going-done : (cols : List ℕ) (k : ℕ) → Going rows a e g n cols₀ cols k → n ≤ k → cols ≡ inColumns rows a e g n cols₀
+  going-done cols k s h = s .so ∙ ap (λ z. inColumns rows a e g z cols₀) (level (s .within) h)
+    where
+      level : k ≤ n → n ≤ k → k ≡ n
+      level u v = omega arith
+
+  module _ (order : a ≤ e) (high : e ≤ rows) (long : n * rows ≤ length cols₀) (y : Keeps g n (e - a)) (cols : List ℕ) (k : ℕ) (s : Going rows a e g n cols₀ cols k) where
+    shorter : k * rows ≤ length cols₀
+    shorter = le-trans (mul-le-mul-right rows (s .within)) long
+
+    pub going-long : length cols ≡ length cols₀
+    going-long = ap length (s .so) ∙ in-long rows a e g cols₀ order high k shorter (λ j h. y j (lt-of-lt-of-le h (s .within)))
+
+    pub going-rest : part rows k a e cols ≡ part rows k a e cols₀
+    going-rest = ap (part rows k a e) (s .so) ∙ in-later rows a e g cols₀ order high k shorter (λ j h. y j (lt-of-lt-of-le h (s .within))) k a e (omega arith) order high

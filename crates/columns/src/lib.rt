@@ -5,7 +5,7 @@ ghost use mathlib.Core.Bool.{false};
 ghost use lib.ListN.{length, replicate};
 ghost use lib.Seq.{paste};
 ghost use Rattle.rules.specs.Words.{nought, filled};
-ghost use Rattle.columns.specs.Columns.{flagged, Swept, Parted, PartAsks};
+ghost use Rattle.columns.specs.Columns.{flagged, partedColumns, Swept, Parted, PartAsks, ColumnsAsk};
 
 // ---- rooms filled with zero, the whole of each
 
@@ -106,4 +106,27 @@ pub fn stable_partition(col: &mut [u32], scratch: &mut [u32], flags: &[bool]) ->
     let w = sweep(col, scratch, flags);
     copy_in(col, w, scratch, n - w);
     w
+}
+
+// The rows from `start` to `end` of every column partitioned.
+pub fn partition_columns(
+    cols: &mut [u32],
+    rows: usize,
+    features: usize,
+    start: usize,
+    end: usize,
+    scratch: &mut [u32],
+    flags: &[bool],
+)
+    requires { ⌜ ColumnsAsk rows features start end (now cols) (length (now scratch)) (length (now flags)) ⌝ }
+    ensures { λ _. ⌜ now (cols .exit) ≡ partedColumns rows start end (flagged (now (flags .entry))) features (now (cols .entry)) ⌝ }
+{
+    let mut k: usize = 0;
+    while k < features {
+        let base = k * rows;
+        let low = base + start;
+        let high = base + end;
+        stable_partition(&mut cols[low..high], scratch, flags);
+        k += 1;
+    }
 }
