@@ -2,9 +2,14 @@
 use Prim.Native.Nat.{ℕ, zero, suc, _+_, _-_, _*_, _<_, _≤_}
 use mathlib.Core.Path.{_≡_}
 use mathlib.Core.Bool.{Bool, false, not}
-use mathlib.Core.List.{List, [], _∷_, _++_}
+use mathlib.Core.List.{List, [], _∷_, _++_, map}
 use lib.ListN.{length, getD, set, take, drop}
-use Rattle.rules.specs.Words.{keep, stretch}
+use lib.Dec.{T, leb}
+use lib.Ieee.{Float}
+use Rattle.rules.specs.Words.{from, keep, eachOnce, stretch, front}
+use Rattle.rules.specs.Lent.{listingAt}
+use Rattle.rules.specs.Search.{Element, Column}
+use Rattle.rules.specs.Fit.{elementIn}
 use Rattle.laws.specs.Lists.{Every}
 
 -- the rows from place a to place e of column k
@@ -19,6 +24,57 @@ changed a n g l = take a l ++ (g (stretch a n l) ++ drop n (drop a l))
 unfoldable pub inColumns : ℕ → ℕ → ℕ → (ℕ → List ℕ → List ℕ) → ℕ → List ℕ → List ℕ
 inColumns rows a e g zero cols = cols
 inColumns rows a e g (suc n) cols = changed (n * rows + a) (e - a) (g n) (inColumns rows a e g n cols)
+
+-- what rows stand for: their elements, column by column
+unfoldable pub columnsAt : (ℕ → Element) → ℕ → ℕ → ℕ → ℕ → List ℕ → List Column
+columnsAt el rows n a e cols = map (λ k. map el (part rows k a e cols)) (from 0 n)
+
+-- ---- set-up
+
+-- a row as totals and counts see it: of its values nothing is asked
+abbrev pub bare : List Float → List Float → List ℕ → ℕ → Element
+bare targets weights counts i = elementIn 0 [] targets weights counts i
+
+-- a count for each row, and a weight if there are weights
+pub record Counted (rows : ℕ) (weights : List Float) (counts : List ℕ) : Type 0 where
+  pub counted : length counts ≡ rows
+  pub weighed : 0 < length weights → length weights ≡ rows
+
+pub record RootAsks (rows : ℕ) (targets weights : List Float) (counts : List ℕ) : Type 0 where
+  pub tables : Counted rows weights counts
+  pub targeted : length targets ≡ rows
+
+pub record CountAsks (rows : ℕ) (weights : List Float) (counts : List ℕ) : Type 0 where
+  pub tables : Counted rows weights counts
+  pub few : rows ≤ 65535
+  pub low : Every (λ c. T (leb c 65535)) counts
+
+-- a listing's rows that pass, r of them, at the front of a column
+pub record KeptTo (p : ℕ → Bool) (listing before after : List ℕ) (r : ℕ) : Type 0 where
+  pub within : r ≤ length listing
+  pub count : r ≡ length (keep p listing)
+  pub written : after ≡ front (keep p listing) before
+
+pub record KeepAsks (listing : List ℕ) (weights : List Float) (counts : List ℕ) (column : ℕ) : Type 0 where
+  pub tables : Counted (length counts) weights counts
+  pub below : Every (λ i. i < length counts) listing
+  pub room : length listing ≤ column
+
+-- of each feature's listing
+abbrev pub keptColumns : ℕ → List ℕ → (ℕ → Bool) → ℕ → List ℕ → List ℕ
+keptColumns rows listings p n cols = inColumns rows 0 rows (λ j. front (keep p (listingAt rows listings j))) n cols
+
+pub record KeptAll (p : ℕ → Bool) (rows features : ℕ) (listings before after : List ℕ) (r : ℕ) : Type 0 where
+  pub within : r ≤ rows
+  pub count : r ≡ length (keep p (from 0 rows))
+  pub written : after ≡ keptColumns rows listings p features before
+
+pub record KeepAllAsks (rows features : ℕ) (listings : List ℕ) (weights : List Float) (counts : List ℕ) (order : ℕ) : Type 0 where
+  pub tables : Counted rows weights counts
+  pub some : 0 < features
+  pub listed : length listings ≡ features * rows
+  pub once : (j : ℕ) → j < features → T (eachOnce rows (listingAt rows listings j))
+  pub room : features * rows ≤ order
 
 -- ---- partition
 

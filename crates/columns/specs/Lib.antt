@@ -7,3 +7,4 @@ pub mod Columns
 -- their laws
 pub mod Fronts
 pub mod Stretches
+pub mod Setup

@@ -2,10 +2,15 @@
 ghost use mathlib.Core.Path.{_≡_};
 ghost use Prim.Native.Nat.{ℕ, _+_, _-_, _≤_};
 ghost use mathlib.Core.Bool.{false};
+ghost use mathlib.Core.List.{map};
 ghost use lib.ListN.{length, replicate};
 ghost use lib.Seq.{paste};
-ghost use Rattle.rules.specs.Words.{nought, filled};
-ghost use Rattle.columns.specs.Columns.{flagged, partedColumns, Swept, Parted, PartAsks, ColumnsAsk};
+ghost use Rattle.rules.specs.Words.{nought, from, keep, total, filled};
+ghost use Rattle.rules.specs.Lent.{countIn, keptIn};
+ghost use Rattle.rules.specs.Totals.{empty};
+ghost use Rattle.rules.specs.Search.{totals};
+ghost use Rattle.columns.specs.Columns.{bare, RootAsks, CountAsks, flagged, partedColumns, Swept, Parted, PartAsks, ColumnsAsk};
+use rules::Totals;
 
 // ---- rooms filled with zero, the whole of each
 
@@ -57,6 +62,39 @@ pub fn zero_reals(s: &mut [[f64; 3]])
         s[i] = [0.0; 3];
         i += 1;
     }
+}
+
+// ---- set-up
+
+// Over every row, kept or not, from row 0 on.
+pub fn root_totals(targets: &[f64], weights: &[f64], counts: &[u32], rows: usize) -> Totals
+    requires { ⌜ RootAsks rows (now targets) (now weights) (now counts) ⌝ }
+    ensures { λ r. ⌜ r ≡ totals empty (map (bare (now (targets .entry)) (now (weights .entry)) (now (counts .entry))) (from 0 rows)) ⌝ }
+{
+    let mut t = criterion::no_rows();
+    let mut i: usize = 0;
+    while i < rows {
+        let m = criterion::mass_of(weights, counts, i);
+        t = criterion::take_in(t, targets[i], m);
+        i += 1;
+    }
+    t
+}
+
+// The root's count.
+pub fn kept_count(weights: &[f64], counts: &[u32], rows: usize) -> u32
+    requires { ⌜ CountAsks rows (now weights) (now counts) ⌝ }
+    ensures { λ r. ⌜ r ≡ total (countIn (now (counts .entry))) (keep (keptIn (now (weights .entry)) (now (counts .entry))) (from 0 rows)) ⌝ }
+{
+    let mut n: u32 = 0;
+    let mut i: usize = 0;
+    while i < rows {
+        if criterion::is_kept(weights, counts, i) {
+            n += counts[i];
+        }
+        i += 1;
+    }
+    n
 }
 
 // ---- partition
