@@ -8,3 +8,4 @@ pub mod Columns
 pub mod Fronts
 pub mod Stretches
 pub mod Setup
+pub mod Kept

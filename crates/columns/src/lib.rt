@@ -9,7 +9,7 @@ ghost use Rattle.rules.specs.Words.{nought, from, keep, total, filled};
 ghost use Rattle.rules.specs.Lent.{countIn, keptIn};
 ghost use Rattle.rules.specs.Totals.{empty};
 ghost use Rattle.rules.specs.Search.{totals};
-ghost use Rattle.columns.specs.Columns.{bare, RootAsks, CountAsks, flagged, partedColumns, Swept, Parted, PartAsks, ColumnsAsk};
+ghost use Rattle.columns.specs.Columns.{bare, RootAsks, CountAsks, KeptTo, KeepAsks, KeptAll, KeepAllAsks, flagged, partedColumns, Swept, Parted, PartAsks, ColumnsAsk};
 use rules::Totals;
 
 // ---- rooms filled with zero, the whole of each
@@ -93,6 +93,48 @@ pub fn kept_count(weights: &[f64], counts: &[u32], rows: usize) -> u32
             n += counts[i];
         }
         i += 1;
+    }
+    n
+}
+
+// The kept rows of a listing, in its order, at the front of a column. Answers how many.
+pub fn kept_column(listing: &[u32], weights: &[f64], counts: &[u32], column: &mut [u32]) -> usize
+    requires { ⌜ KeepAsks (now listing) (now weights) (now counts) (length (now column)) ⌝ }
+    ensures { λ r. ⌜ KeptTo (keptIn (now (weights .entry)) (now (counts .entry))) (now (listing .entry)) (now (column .entry)) (now (column .exit)) r ⌝ }
+{
+    let mut n: usize = 0;
+    let mut i: usize = 0;
+    while i < listing.len() {
+        let e = listing[i];
+        let row = e as usize;
+        if criterion::is_kept(weights, counts, row) {
+            column[n] = e;
+            n += 1;
+        }
+        i += 1;
+    }
+    n
+}
+
+// Every feature's listing. Each has every row once, so each column gets as many.
+pub fn kept_columns(
+    listings: &[u32],
+    weights: &[f64],
+    counts: &[u32],
+    order: &mut [u32],
+    rows: usize,
+    features: usize,
+) -> usize
+    requires { ⌜ KeepAllAsks rows features (now listings) (now weights) (now counts) (length (now order)) ⌝ }
+    ensures { λ r. ⌜ KeptAll (keptIn (now (weights .entry)) (now (counts .entry))) rows features (now (listings .entry)) (now (order .entry)) (now (order .exit)) r ⌝ }
+{
+    let mut n: usize = 0;
+    let mut k: usize = 0;
+    while k < features {
+        let base = k * rows;
+        let end = base + rows;
+        n = kept_column(&listings[base..end], weights, counts, &mut order[base..end]);
+        k += 1;
     }
     n
 }
