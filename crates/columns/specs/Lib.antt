@@ -4,8 +4,10 @@
 pub mod Filling
 -- the columns, and what each step promises of them
 pub mod Columns
+pub mod Split
 -- their laws
 pub mod Fronts
 pub mod Stretches
 pub mod Setup
 pub mod Kept
+pub mod Pass

@@ -1,15 +1,16 @@
 // What set-up and split do with the work room.
 ghost use mathlib.Core.Path.{_≡_};
-ghost use Prim.Native.Nat.{ℕ, _+_, _-_, _≤_};
+ghost use Prim.Native.Nat.{ℕ, _+_, _≤_, _<_};
 ghost use mathlib.Core.Bool.{false};
 ghost use mathlib.Core.List.{map};
 ghost use lib.ListN.{length, replicate};
 ghost use lib.Seq.{paste};
 ghost use Rattle.rules.specs.Words.{nought, from, keep, total, filled};
-ghost use Rattle.rules.specs.Lent.{countIn, keptIn};
+ghost use Rattle.rules.specs.Lent.{countIn, keptIn, cell};
 ghost use Rattle.rules.specs.Totals.{empty};
 ghost use Rattle.rules.specs.Search.{totals};
 ghost use Rattle.columns.specs.Columns.{bare, RootAsks, CountAsks, KeptTo, KeepAsks, KeptAll, KeepAllAsks, flagged, partedColumns, Swept, Parted, PartAsks, ColumnsAsk};
+ghost use Rattle.columns.specs.Split.{CellAsks, joined, sided, SidedAsks};
 use rules::Totals;
 
 // ---- rooms filled with zero, the whole of each
@@ -208,5 +209,74 @@ pub fn partition_columns(
         let high = base + end;
         stable_partition(&mut cols[low..high], scratch, flags);
         k += 1;
+    }
+}
+
+// ---- the split pass
+
+// A side's totals and count.
+pub struct Side {
+    pub totals: Totals,
+    pub count: u32,
+}
+
+// The true side and the false one, the whole node's totals, and how many rows the true side has.
+pub struct Sides {
+    pub yes: Side,
+    pub no: Side,
+    pub all: Totals,
+    pub rows: u32,
+}
+
+fn wide(x: u32) -> usize
+    ensures { λ r. ⌜ r ≡ x ⌝ }
+{
+    x as usize
+}
+
+// Row i's value of feature j.
+pub fn value_at(values: &[f64], rows: usize, features: usize, j: usize, i: usize) -> f64
+    requires { ⌜ CellAsks rows features (now values) j i ⌝ }
+    ensures { λ r. ⌜ r ≡ cell features (now (values .entry)) j i ⌝ }
+{
+    let base = i * features;
+    values[base + j]
+}
+
+fn join(s: Side, y: f64, m: f64, k: u32) -> Side
+    requires { ⌜ s .count + k < 4294967296 ⌝ }
+    ensures { λ r. ⌜ r ≡ joined s y m k ⌝ }
+{
+    let t = s.totals;
+    let more = criterion::take_in(t, y, m);
+    Side {
+        totals: more,
+        count: s.count + k,
+    }
+}
+
+fn side_with(t: bool, s: Sides, y: f64, m: f64, k: u32) -> Sides
+    requires { ⌜ SidedAsks s k ⌝ }
+    ensures { λ r. ⌜ r ≡ sided t s y m k ⌝ }
+{
+    let yes = s.yes;
+    let no = s.no;
+    let all = s.all;
+    let more = criterion::take_in(all, y, m);
+    if t {
+        let next = join(yes, y, m, k);
+        return Sides {
+            yes: next,
+            no,
+            all: more,
+            rows: s.rows + 1,
+        };
+    }
+    let next = join(no, y, m, k);
+    Sides {
+        yes,
+        no: next,
+        all: more,
+        rows: s.rows,
     }
 }
