@@ -18,7 +18,7 @@ use Rattle.rules.specs.Search.{Element, Column, at, totals, tally, goesTrue, tr
 use Rattle.rules.specs.Fit.{elementIn}
 use Rattle.columns.specs.declared.Side.{Side}
 use Rattle.columns.specs.declared.Sides.{Sides}
-use Rattle.columns.specs.Split.{CellAsks, joined, sided, SidedAsks, goes, sidesOf, marked, PassDone}
+use Rattle.columns.specs.Split.{CellAsks, joined, none, sided, SidedAsks, goes, sidesOf, marked, PassDone}
 use Rattle.columns.specs.Fronts.{keep-both}
 
 -- ---- a row's value
@@ -58,9 +58,6 @@ sided-room true s y m k = (omega arith, omega arith)
 sided-room false s y m k = (omega arith, omega arith)
 
 -- ---- the rows from a place on
-
-abbrev pub none : Sides
-none = record { yes = record { totals = empty; count = 0 }; no = record { totals = empty; count = 0 }; all = empty; rows = 0 }
 
 module _ (el : ℕ → Element) (c : Cut) where
   -- with the rows of l onto what stands
@@ -134,10 +131,10 @@ module _ (el : ℕ → Element) (c : Cut) where
     unfolding total
     ahead-count = ap (λ z. tally (map el z)) ahead
 
-    pub pass-fits : tally (map el l) < 4294967296 → length l < 4294967296 → SidedAsks s (el (getD l i 0) .count)
+    pub pass-fits : tally (map el l) < 4294967296 → length l < 4294967296 → {k : ℕ} → k ≡ el (getD l i 0) .count → SidedAsks s k
     unfolding x
-    pass-fits small short =
-        record { yes = omega (arith, q .room, ahead-count, small); no = omega (arith, q .room, ahead-count, small); rows = omega (arith, q .few, short) }
+    pass-fits small short e =
+        record { yes = omega (arith, e, q .room, ahead-count, small); no = omega (arith, e, q .room, ahead-count, small); rows = omega (arith, q .few, short) }
 
     pub pass-turn : {s′ : Sides} {t : Bool} {r k : ℕ} {y m : Float} → r ≡ getD l i 0 → t ≡ goes el c (getD l i 0) → y ≡ el (getD l i 0) .target → m ≡ el (getD l i 0) .mass → k ≡ el (getD l i 0) .count
         → s′ ≡ sided t s y m k → Passing l before s′ (set flags r t) (i + 1)

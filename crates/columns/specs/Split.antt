@@ -28,6 +28,10 @@ pub record CellAsks (rows features : ℕ) (values : List Float) (j i : ℕ) : Ty
   pub row : i < rows
   pub known : j < features
 
+-- no row yet
+abbrev pub none : Sides
+none = record { yes = record { totals = empty; count = 0 }; no = record { totals = empty; count = 0 }; all = empty; rows = 0 }
+
 -- one row more, of target y, mass m and count k
 unfoldable pub joined : Side → Float → Float → ℕ → Side
 joined s y m k = record { totals = takeIn (s .totals) y m; count = s .count + k }

@@ -9,8 +9,10 @@ ghost use Rattle.rules.specs.Words.{nought, from, keep, total, filled};
 ghost use Rattle.rules.specs.Lent.{countIn, keptIn, cell};
 ghost use Rattle.rules.specs.Totals.{empty};
 ghost use Rattle.rules.specs.Search.{totals};
+ghost use Rattle.rules.specs.Fit.{elementIn};
 ghost use Rattle.columns.specs.Columns.{bare, RootAsks, CountAsks, KeptTo, KeepAsks, KeptAll, KeepAllAsks, flagged, partedColumns, Swept, Parted, PartAsks, ColumnsAsk};
-ghost use Rattle.columns.specs.Split.{CellAsks, joined, sided, SidedAsks};
+ghost use Rattle.columns.specs.Split.{CellAsks, joined, none, sided, SidedAsks, PassAsks, PassDone};
+use rules::Cut;
 use rules::Totals;
 
 // ---- rooms filled with zero, the whole of each
@@ -255,6 +257,22 @@ fn join(s: Side, y: f64, m: f64, k: u32) -> Side
     }
 }
 
+fn no_sides() -> Sides
+    ensures { λ r. ⌜ r ≡ none ⌝ }
+{
+    let t = criterion::no_rows();
+    let side = Side {
+        totals: t,
+        count: 0,
+    };
+    Sides {
+        yes: side,
+        no: side,
+        all: t,
+        rows: 0,
+    }
+}
+
 fn side_with(t: bool, s: Sides, y: f64, m: f64, k: u32) -> Sides
     requires { ⌜ SidedAsks s k ⌝ }
     ensures { λ r. ⌜ r ≡ sided t s y m k ⌝ }
@@ -279,4 +297,34 @@ fn side_with(t: bool, s: Sides, y: f64, m: f64, k: u32) -> Sides
         all: more,
         rows: s.rows,
     }
+}
+
+// Along the split column's stretch: each row gets its flag, and its side and the whole take it in.
+pub fn split_pass(
+    values: &[f64],
+    targets: &[f64],
+    weights: &[f64],
+    counts: &[u32],
+    col: &[u32],
+    flags: &mut [bool],
+    rows: usize,
+    features: usize,
+    cut: Cut,
+) -> Sides
+    requires { ⌜ PassAsks rows features (now values) (now targets) (now weights) (now counts) cut (now col) (length (now flags)) ⌝ }
+    ensures { λ r. ⌜ PassDone (elementIn features (now (values .entry)) (now (targets .entry)) (now (weights .entry)) (now (counts .entry))) cut (now (col .entry)) (now (flags .entry)) (now (flags .exit)) r ⌝ }
+{
+    let j = wide(cut.feature);
+    let mut s = no_sides();
+    let mut i: usize = 0;
+    while i < col.len() {
+        let row = wide(col[i]);
+        let x = value_at(values, rows, features, j, row);
+        let t = x <= cut.threshold;
+        let m = criterion::mass_of(weights, counts, row);
+        s = side_with(t, s, targets[row], m, counts[row]);
+        flags[row] = t;
+        i += 1;
+    }
+    s
 }
