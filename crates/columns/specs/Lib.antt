@@ -11,3 +11,4 @@ pub mod Stretches
 pub mod Setup
 pub mod Kept
 pub mod Pass
+pub mod Halves

@@ -1,5 +1,5 @@
 -- The split pass: what it makes of the rows of a stretch, and what it leaves in the flags.
-use Prim.Native.Nat.{ℕ, _+_, _*_, _<_, _≤_}
+use Prim.Native.Nat.{ℕ, _+_, _-_, _*_, _<_, _≤_}
 use mathlib.Core.Path.{_≡_}
 use mathlib.Core.Bool.{Bool, true, false}
 use mathlib.Core.List.{List, [], _∷_, map}
@@ -7,14 +7,14 @@ use lib.ListN.{length, set}
 use lib.Ieee.{Float}
 use Rattle.rules.specs.declared.Totals.{Totals}
 use Rattle.rules.specs.declared.Cut.{Cut}
-use Rattle.rules.specs.Words.{keep}
+use Rattle.rules.specs.Words.{keep, total}
 use Rattle.rules.specs.Totals.{empty, takeIn}
 use Rattle.rules.specs.Search.{Element, Column, totals, tally, goesTrue, trueSide, falseSide}
 use Rattle.rules.specs.Fit.{elementIn}
 use Rattle.laws.specs.Lists.{Every}
 use Rattle.columns.specs.declared.Side.{Side}
 use Rattle.columns.specs.declared.Sides.{Sides}
-use Rattle.columns.specs.Columns.{Counted}
+use Rattle.columns.specs.Columns.{part, partedColumns, Counted}
 
 -- the tables of a fit, by their lengths
 pub record Shaped (rows features : ℕ) (values targets weights : List Float) (counts : List ℕ) : Type 0 where
@@ -76,3 +76,28 @@ pub record PassDone (el : ℕ → Element) (c : Cut) (col : List ℕ) (before af
   pub within : s .rows ≤ length col
   pub sides : s ≡ sidesOf el c col
   pub flags : after ≡ marked (goes el c) before col
+
+-- ---- over every column
+
+-- the same rows in another order: every weight adds up to the same
+abbrev pub Alike : List ℕ → List ℕ → Type 0
+Alike l m = (g : ℕ → ℕ) → total g l ≡ total g m
+
+pub record SplitAsks (rows features a e : ℕ) (values targets weights : List Float) (counts : List ℕ) (c : Cut) (cols : List ℕ) (scratch flags : ℕ) : Type 0 where
+  pub shaped : Shaped rows features values targets weights counts
+  pub few : rows < 4294967296
+  pub known : c .feature < features
+  pub long : features * rows ≤ length cols
+  pub order : a ≤ e
+  pub high : e ≤ rows
+  pub scratchRoom : e - a ≤ scratch
+  pub flagRoom : rows ≤ flags
+  pub below : (k : ℕ) → k < features → Every (λ r. r < rows) (part rows k a e cols)
+  pub alike : (k : ℕ) → k < features → Alike (part rows (c .feature) a e cols) (part rows k a e cols)
+  pub count : tally (map (elementIn features values targets weights counts) (part rows (c .feature) a e cols)) < 4294967296
+
+pub record SplitDone (rows features a e : ℕ) (el : ℕ → Element) (c : Cut) (before after : List ℕ) (f f′ : List Bool) (s : Sides) : Type 0 where
+  pub within : s .rows ≤ e - a
+  pub sides : s ≡ sidesOf el c (part rows (c .feature) a e before)
+  pub flags : f′ ≡ marked (goes el c) f (part rows (c .feature) a e before)
+  pub columns : after ≡ partedColumns rows a e (goes el c) features before

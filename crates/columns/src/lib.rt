@@ -11,7 +11,7 @@ ghost use Rattle.rules.specs.Totals.{empty};
 ghost use Rattle.rules.specs.Search.{totals};
 ghost use Rattle.rules.specs.Fit.{elementIn};
 ghost use Rattle.columns.specs.Columns.{bare, RootAsks, CountAsks, KeptTo, KeepAsks, KeptAll, KeepAllAsks, flagged, partedColumns, Swept, Parted, PartAsks, ColumnsAsk};
-ghost use Rattle.columns.specs.Split.{CellAsks, joined, none, sided, SidedAsks, PassAsks, PassDone};
+ghost use Rattle.columns.specs.Split.{CellAsks, joined, none, sided, SidedAsks, PassAsks, PassDone, SplitAsks, SplitDone};
 use rules::Cut;
 use rules::Totals;
 
@@ -326,5 +326,32 @@ pub fn split_pass(
         flags[row] = t;
         i += 1;
     }
+    s
+}
+
+// A node split: its rows, from `start` to `end` of every column, to the side that the cut says.
+pub fn split_columns(
+    values: &[f64],
+    targets: &[f64],
+    weights: &[f64],
+    counts: &[u32],
+    cols: &mut [u32],
+    scratch: &mut [u32],
+    flags: &mut [bool],
+    rows: usize,
+    features: usize,
+    start: usize,
+    end: usize,
+    cut: Cut,
+) -> Sides
+    requires { ⌜ SplitAsks rows features start end (now values) (now targets) (now weights) (now counts) cut (now cols) (length (now scratch)) (length (now flags)) ⌝ }
+    ensures { λ r. ⌜ SplitDone rows features start end (elementIn features (now (values .entry)) (now (targets .entry)) (now (weights .entry)) (now (counts .entry))) cut (now (cols .entry)) (now (cols .exit)) (now (flags .entry)) (now (flags .exit)) r ⌝ }
+{
+    let j = wide(cut.feature);
+    let base = j * rows;
+    let low = base + start;
+    let high = base + end;
+    let s = split_pass(values, targets, weights, counts, &cols[low..high], flags, rows, features, cut);
+    partition_columns(cols, rows, features, start, end, scratch, flags);
     s
 }
