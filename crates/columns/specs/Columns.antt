@@ -2,8 +2,8 @@
 use Prim.Native.Nat.{ℕ, zero, suc, _+_, _-_, _*_, _<_, _≤_}
 use mathlib.Core.Path.{_≡_}
 use mathlib.Core.Bool.{Bool, false, not}
-use mathlib.Core.List.{List, [], _∷_, _++_, map}
-use lib.ListN.{length, getD, set, take, drop}
+use mathlib.Core.List.{List, [], _++_, map}
+use lib.ListN.{length, getD, take, drop}
 use lib.Dec.{T, leb}
 use lib.Ieee.{Float}
 use Rattle.rules.specs.Words.{from, keep, eachOnce, stretch, front}

@@ -8,16 +8,15 @@ use mathlib.Core.Logic.{_⊎_, inl, inr}
 use mathlib.Core.Bool.{Bool, true, false, not, cond}
 use mathlib.Core.List.{List, [], _∷_, _++_, map, map-map}
 use lib.Ieee.{Float}
-use lib.ListN.{length, getD, set, take, drop, length-set, List·getD-map}
+use lib.ListN.{length, getD, set, take, drop, length-set}
 use lib.Seq.{getD-set-same, getD-set-other, take-at, drop-at, take-all}
-use Rattle.rules.specs.declared.Totals.{Totals}
 use Rattle.rules.specs.declared.Cut.{Cut}
 use Rattle.rules.specs.Words.{from, keep, putIf, total, stretch}
 use Rattle.rules.specs.Totals.{empty}
-use Rattle.rules.specs.Search.{Element, Column, Task, totals, tally, goesTrue, same, sideOf}
+use Rattle.rules.specs.Search.{Element, totals, tally, goesTrue, same, sideOf}
 use Rattle.rules.specs.Fit.{elementIn}
 use Rattle.rules.specs.Growth.{Waiting, child}
-use Rattle.laws.specs.Lists.{Every, every-imp, every-all, every-append, every-keep, map-same, keep-map, total-keep, length-total, getD-from, from-below}
+use Rattle.laws.specs.Lists.{Every, every-imp, every-append, every-keep, map-same, keep-map, total-keep, length-total, getD-from, from-below}
 use Rattle.columns.specs.declared.Sides.{Sides}
 use Rattle.columns.specs.Columns.{part, changed, inColumns, columnsAt, flagged, fails, parted, partedColumns, ColumnsAsk}
 use Rattle.columns.specs.Split.{Alike, goes, sidesOf, marked, PassAsks, PassDone, SplitAsks, SplitDone}

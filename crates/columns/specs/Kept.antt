@@ -1,22 +1,20 @@
 -- The kept rows of a listing at the front of a column, and of every listing. Assumes nothing.
-use Prim.Native.Nat.{ℕ, zero, suc, _+_, _-_, _*_, _<_, _≤_}
-use native.Mathlib.Nat.{add-zero}
+use Prim.Native.Nat.{ℕ, suc, _+_, _-_, _*_, _<_, _≤_}
 use native.Mathlib.Numerals.{add-one}
 use native.Mathlib.Omega.{arith}
 use mathlib.Core.Path.{_≡_, refl, sym, ap, _∙_, subst}
-use mathlib.Core.Bool.{Bool, true, false, not}
+use mathlib.Core.Bool.{Bool, true, false}
 use mathlib.Core.List.{List, [], _∷_, _++_, map}
-use lib.ListN.{length, getD, set, take, drop, length-append, length-take, length-drop}
+use lib.ListN.{length, getD, set, take, drop, length-append}
 use lib.Seq.{drop-cons, set-at, append-snoc, take-all, take-at, length-take-le}
 use lib.Dec.{T}
-use Rattle.rules.specs.Words.{from, keep, total, eachOnce, stretch, front}
-use Rattle.rules.specs.Lent.{Data, Frame, listingAt, kept, keptIn, keptRows}
-use Rattle.rules.specs.Search.{Column}
+use Rattle.rules.specs.Words.{from, keep, eachOnce, stretch, front}
+use Rattle.rules.specs.Lent.{Data, Frame, listingAt, kept, keptIn}
 use Rattle.rules.specs.Fit.{element, listing, column, root}
-use Rattle.laws.specs.Lists.{Every, every-all, every-imp, every-keep, map-same, length-total, from-below}
+use Rattle.laws.specs.Lists.{Every, every-imp, every-keep, map-same, length-total, from-below}
 use Rattle.laws.specs.Once.{once-length, once-below, once-keep}
 use Rattle.laws.specs.Written.{front-length}
-use Rattle.columns.specs.Columns.{part, inColumns, columnsAt, KeptTo, keptColumns, KeptAll, KeepAllAsks}
+use Rattle.columns.specs.Columns.{part, columnsAt, KeptTo, KeptAll}
 use Rattle.columns.specs.Fronts.{keep-yes, keep-no, keep-both}
 use Rattle.columns.specs.Stretches.{Keeps, part-in, in-here}
 

@@ -1,12 +1,12 @@
 -- The split pass by its turns: each row joins its side, and the sides of the rows passed with those to come are the whole. Assumes nothing.
-use Prim.Native.Nat.{ℕ, zero, suc, _+_, _-_, _*_, _<_, _≤_}
+use Prim.Native.Nat.{ℕ, suc, _+_, _*_, _<_, _≤_}
 use native.Mathlib.Nat.{add-assoc, zero-add, add-zero, suc-mul, mul-le-mul-right}
 use native.Mathlib.Numerals.{add-one}
 use native.Mathlib.Omega.{arith}
 use mathlib.Core.Path.{_≡_, refl, sym, ap, _∙_, subst}
 use mathlib.Core.Bool.{Bool, true, false, not}
-use mathlib.Core.List.{List, [], _∷_, _++_, map}
-use lib.ListN.{length, getD, set, take, drop, drop-of-length-le, length-set}
+use mathlib.Core.List.{List, _∷_, map}
+use lib.ListN.{length, getD, set, drop, drop-of-length-le, length-set}
 use lib.Seq.{drop-cons, getD-take, getD-drop}
 use lib.Ieee.{Float, nan, le}
 use Rattle.rules.specs.declared.Totals.{Totals}
@@ -14,12 +14,11 @@ use Rattle.rules.specs.declared.Cut.{Cut}
 use Rattle.rules.specs.Words.{keep, putIf, total}
 use Rattle.rules.specs.Lent.{valuesAt, cell}
 use Rattle.rules.specs.Totals.{empty, takeIn}
-use Rattle.rules.specs.Search.{Element, Column, at, totals, tally, goesTrue, trueSide, falseSide}
+use Rattle.rules.specs.Search.{Element, at, totals, tally, goesTrue, trueSide, falseSide}
 use Rattle.rules.specs.Fit.{elementIn}
 use Rattle.columns.specs.declared.Side.{Side}
 use Rattle.columns.specs.declared.Sides.{Sides}
-use Rattle.columns.specs.Split.{CellAsks, joined, none, sided, SidedAsks, goes, sidesOf, marked, PassDone}
-use Rattle.columns.specs.Fronts.{keep-both}
+use Rattle.columns.specs.Split.{CellAsks, joined, none, sided, SidedAsks, goes, marked, PassDone}
 
 -- ---- a row's value
 

@@ -1,25 +1,24 @@
 -- Root totals and counts, and the kept rows of a listing, by the loops that make them. Assumes nothing.
-use Prim.Native.Nat.{ℕ, zero, suc, _+_, _-_, _*_, _<_, _≤_}
+use Prim.Native.Nat.{ℕ, suc, _+_, _-_, _*_, _<_, _≤_}
 use native.Mathlib.Nat.{zero-add, add-zero, add-comm, zero-mul, suc-mul}
 use native.Mathlib.Numerals.{add-one}
 use native.Mathlib.Omega.{arith}
 use mathlib.Core.Path.{_≡_, refl, sym, ap, _∙_, subst}
-use mathlib.Core.Bool.{Bool, true, false, not}
-use mathlib.Core.List.{List, [], _∷_, _++_, map}
-use lib.ListN.{length, getD, set, take, drop, length-append, length-take}
-use lib.Seq.{drop-cons, set-at, append-snoc, take-all, length-take-le}
+use mathlib.Core.Bool.{Bool, true, false}
+use mathlib.Core.List.{List, [], _∷_, map}
+use lib.ListN.{length}
 use lib.Dec.{T, leb, leb→le}
 use lib.Ieee.{Float}
 use Rattle.rules.specs.declared.Totals.{Totals}
-use Rattle.rules.specs.Words.{from, keep, putIf, total, front}
-use Rattle.rules.specs.Lent.{Data, Frame, unweighted, countIn, massIn, keptIn, keptRows}
+use Rattle.rules.specs.Words.{from, keep, putIf, total}
+use Rattle.rules.specs.Lent.{Data, Frame, unweighted, countIn}
 use Rattle.rules.specs.Totals.{empty, takeIn}
 use Rattle.rules.specs.Search.{Element, totals}
 use Rattle.rules.specs.Fit.{elementIn, element, root}
-use Rattle.laws.specs.Lists.{Every, every-all, every-or, every-keep, total-le, length-total, length-from}
+use Rattle.laws.specs.Lists.{Every, every-all, every-or, total-le, length-from}
 use Rattle.criterion.specs.Bounds.{Weighed}
-use Rattle.columns.specs.Columns.{bare, Counted, RootAsks, CountAsks, KeptTo}
-use Rattle.columns.specs.Fronts.{keep-yes, keep-no, keep-both}
+use Rattle.columns.specs.Columns.{bare, Counted}
+use Rattle.columns.specs.Fronts.{keep-both}
 
 -- what a row's mass asks
 pub weighed-row : (rows : ℕ) (weights : List Float) (counts : List ℕ) (i : ℕ) → Counted rows weights counts → i < rows → Weighed i weights counts

@@ -5,7 +5,6 @@ use mathlib.Core.Bool.{Bool, true, false}
 use mathlib.Core.List.{List, [], _∷_, map}
 use lib.ListN.{length, set}
 use lib.Ieee.{Float}
-use Rattle.rules.specs.declared.Totals.{Totals}
 use Rattle.rules.specs.declared.Cut.{Cut}
 use Rattle.rules.specs.Words.{keep, total}
 use Rattle.rules.specs.Totals.{empty, takeIn}

@@ -11,7 +11,7 @@ use lib.ListN.{length, take, drop, take-append-drop, length-append, length-take,
 use lib.Seq.{take-at, drop-at, take-take, take-add, drop-drop, take-nil, length-take-le, take-append-le, drop-append-le}
 use borrow.Rule.Slice.PartMut.{putMid}
 use Rattle.rules.specs.Words.{stretch}
-use Rattle.laws.specs.Lists.{Every, every-append, every-take, every-drop}
+use Rattle.laws.specs.Lists.{Every, every-take, every-drop}
 use Rattle.columns.specs.Columns.{part, changed, inColumns}
 
 -- ---- lists
@@ -214,7 +214,7 @@ module _ (rows a e : ℕ) (g : ℕ → List ℕ → List ℕ) (n : ℕ) (cols₀
       record {
         within = omega arith;
         so =
-          ap (putMid low w cols) r ∙ (λ i. changed (p i) (q i) (g k) (s .so i)) ∙ ap (λ z. inColumns rows a e g z cols₀) (sym (add-one k));
+            ap (putMid low w cols) r ∙ (λ i. changed (p i) (q i) (g k) (s .so i)) ∙ ap (λ z. inColumns rows a e g z cols₀) (sym (add-one k));
       }
 
   pub going-done : (cols : List ℕ) (k : ℕ) → Going rows a e g n cols₀ cols k → n ≤ k → cols ≡ inColumns rows a e g n cols₀

@@ -1,6 +1,6 @@
 // What set-up and split do with the work room.
 ghost use mathlib.Core.Path.{_≡_};
-ghost use Prim.Native.Nat.{ℕ, _+_, _≤_, _<_};
+ghost use Prim.Native.Nat.{_+_, _≤_, _<_};
 ghost use mathlib.Core.Bool.{false};
 ghost use mathlib.Core.List.{map};
 ghost use lib.ListN.{length, replicate};
@@ -351,7 +351,17 @@ pub fn split_columns(
     let base = j * rows;
     let low = base + start;
     let high = base + end;
-    let s = split_pass(values, targets, weights, counts, &cols[low..high], flags, rows, features, cut);
+    let s = split_pass(
+        values,
+        targets,
+        weights,
+        counts,
+        &cols[low..high],
+        flags,
+        rows,
+        features,
+        cut,
+    );
     partition_columns(cols, rows, features, start, end, scratch, flags);
     s
 }

@@ -1,12 +1,12 @@
 -- `columns::copy_in` meets its contract: after j turns the first j are pasted. Assumes nothing.
 use borrow.Author.Needs.{needs}
 use native.Mathlib.Omega.{arith}
-use mathlib.Core.Path.{_≡_, refl, ap, _∙_}
+use mathlib.Core.Path.{_≡_, refl, _∙_}
 use mathlib.Core.List.{List}
 use Prim.Native.Nat.{ℕ, _≤_, _<_, _-_, _+_}
 use native.Mathlib.Numerals.{add-one}
 use denote.Ref.{now}
-use lib.ListN.{length, length-set, getD, set}
+use lib.ListN.{length, getD, set}
 use lib.Seq.{paste, paste-zero, paste-suc}
 use Rattle.columns.proofs.copy_in.Statement.{statement}
 use Rattle.columns.proofs.copy_in.Tie as tie

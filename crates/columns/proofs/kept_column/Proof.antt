@@ -8,7 +8,6 @@ use mathlib.Core.List.{List}
 use mathlib.Core.Logic.{⊎-elim}
 use denote.Ref.{now}
 use lib.ListN.{length, getD, set, take, length-set}
-use lib.Seq.{length-take-le}
 use Rattle.rules.specs.Lent.{keptIn}
 use Rattle.laws.specs.Lists.{every-at}
 use Rattle.columns.specs.Columns.{KeptTo}

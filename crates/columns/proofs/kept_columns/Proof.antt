@@ -4,7 +4,6 @@ use native.Mathlib.Omega.{arith}
 use Prim.Native.Nat.{ℕ, _-_, _+_, _*_, _<_, _≤_}
 use native.Mathlib.Nat.{add-zero, lt-irrefl}
 use mathlib.Core.Path.{_≡_, refl, sym, ap, _∙_, subst}
-use mathlib.Core.Bool.{Bool}
 use mathlib.Core.List.{List}
 use borrow.Rule.Slice.PartMut.{putMid}
 use denote.Ref.{now}

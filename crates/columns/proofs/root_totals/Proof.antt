@@ -1,6 +1,5 @@
 -- `columns::root_totals` meets its contract: what it has, with the rows from i on taken in, is the whole. Assumes nothing.
 use borrow.Author.Needs.{needs}
-use native.Mathlib.Omega.{arith}
 use Prim.Native.Nat.{_-_}
 use mathlib.Core.Path.{ap, _∙_}
 use denote.Ref.{now}
