@@ -71,7 +71,20 @@ fn split() {
         feature: 0,
         threshold: 2.0,
     };
-    let s = columns::split_columns(&values, &targets, &spare[0..0], &counts, &mut cols, &mut scratch, &mut flags, 4, 2, 0, 4, cut);
+    let s = columns::split_columns(
+        &values,
+        &targets,
+        &spare[0..0],
+        &counts,
+        &mut cols,
+        &mut scratch,
+        &mut flags,
+        4,
+        2,
+        0,
+        4,
+        cut,
+    );
     let yes = s.yes;
     let no = s.no;
     let t = yes.totals;
