@@ -48,3 +48,81 @@ impl Fit {
         (2 * kept).max(2) - 1
     }
 }
+
+/// Node columns lent to a reader.
+#[derive(Clone, Debug, Default)]
+pub struct Table {
+    pub value: Vec<f64>,
+    pub feature: Vec<u32>,
+    pub threshold: Vec<f64>,
+    pub score: Vec<f64>,
+    pub true_child: Vec<u32>,
+    pub false_child: Vec<u32>,
+}
+
+impl Table {
+    /// The shortest column counts.
+    pub fn room(&self) -> usize {
+        let floats = self.value.len().min(self.threshold.len());
+        let numbers = self.feature.len().min(self.true_child.len());
+        floats
+            .min(numbers)
+            .min(self.score.len())
+            .min(self.false_child.len())
+    }
+}
+
+#[derive(Clone, Copy, Debug, Default, PartialEq)]
+pub enum Reader {
+    #[default]
+    Predictions,
+    ForestMeans,
+    OutOfBagMeans,
+    NormalisedImportances,
+    ImportancesByMass,
+    ForestImportances,
+    OutOfBagError,
+    CheckListings,
+    CheckTree,
+    CheckForest,
+    Node,
+}
+
+pub const READERS: [Reader; 11] = [
+    Reader::Predictions,
+    Reader::ForestMeans,
+    Reader::OutOfBagMeans,
+    Reader::NormalisedImportances,
+    Reader::ImportancesByMass,
+    Reader::ForestImportances,
+    Reader::OutOfBagError,
+    Reader::CheckListings,
+    Reader::CheckTree,
+    Reader::CheckForest,
+    Reader::Node,
+];
+
+/// A reader or a check. What a reader does not take stays empty.
+#[derive(Clone, Debug, Default)]
+pub struct Read {
+    pub reader: Reader,
+    pub rows: usize,
+    pub features: usize,
+    pub trees: usize,
+    pub x: Vec<f64>,
+    pub counts: Vec<u32>,
+    pub listings: Vec<u32>,
+    pub table: Table,
+    pub starts: Vec<u32>,
+    pub root_mass: f64,
+    pub targets: Vec<f64>,
+    pub means: Vec<f64>,
+    /// The result room's length.
+    pub out: usize,
+}
+
+#[derive(Clone, Debug)]
+pub enum Call {
+    Fit(Fit),
+    Read(Read),
+}

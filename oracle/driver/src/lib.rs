@@ -1,6 +1,20 @@
 //! The driver: makes inputs, runs both judges on them and holds the answers against each other.
 
 pub mod calls;
+pub mod case;
 pub mod chance;
-pub mod floats;
-pub mod make_fit;
+pub mod compare;
+mod damage_fit;
+mod damage_read;
+mod exhaustive;
+pub mod expect;
+mod floats;
+pub mod library;
+mod limits;
+mod make_fit;
+mod make_read;
+pub mod outcome;
+mod own;
+pub mod rehearsal;
+pub mod run;
+pub mod wire;

@@ -1,0 +1,146 @@
+//! Both judges against each other, on made inputs or on the fixed list.
+
+use crate::case::{self, Case};
+use crate::chance::Chance;
+use crate::library::{Library, Paper};
+use crate::make_fit::{self, SMALL, Size};
+use crate::{damage_fit, damage_read, exhaustive, limits, make_read, own, rehearsal};
+use std::process::ExitCode;
+use std::time::Instant;
+
+/// For the fixed list: a few numbers a case.
+pub const TINY: Size = Size {
+    rows: 6,
+    features: 2,
+    trees: 3,
+};
+
+const MIDDLING: Size = Size {
+    rows: 40,
+    features: 12,
+    trees: 6,
+};
+
+/// One random case: a fit, good, with bad draws or damaged; or a reader, good or damaged.
+pub fn make(chance: &mut Chance, size: Size) -> Case {
+    if chance.one_in(3) {
+        let mut read = make_read::read(chance);
+        let refusal = match chance.one_in(2) {
+            true => damage_read::damage(chance, &mut read),
+            false => 0,
+        };
+        return Case::read(read, refusal);
+    }
+    let forest = chance.one_in(3);
+    let mut fit = make_fit::fit(chance, forest, size);
+    let mut refusal = 0;
+    match chance.below(6) {
+        0 => refusal = damage_fit::damage(chance, &mut fit),
+        1 => damage_fit::draws(chance, &mut fit),
+        _ => {}
+    }
+    Case::fit(fit, refusal)
+}
+
+/// Counts cases, and keeps the shortest that differs.
+pub struct Tally {
+    pub inputs: usize,
+    differences: usize,
+    shortest: Option<String>,
+    refusals: [usize; 11],
+}
+
+impl Tally {
+    fn new() -> Self {
+        Tally {
+            inputs: 0,
+            differences: 0,
+            shortest: None,
+            refusals: [0; 11],
+        }
+    }
+
+    pub fn hold(&mut self, case: &Case, library: &dyn Library) {
+        self.answered(case, &case.expected(), &case.answer(library));
+    }
+
+    fn answered(&mut self, case: &Case, expected: &[u64], answer: &[u64]) {
+        self.inputs += 1;
+        let refusal = expected[0] as usize;
+        self.refusals[refusal.min(10)] += 1;
+        if expected != answer {
+            let told = format!("{}\n  answered {answer:?}", case.line());
+            self.differ(told);
+        }
+    }
+
+    pub fn differ(&mut self, told: String) {
+        self.differences += 1;
+        let shorter = |held: &String| told.len() < held.len();
+        if self.shortest.as_ref().is_none_or(shorter) {
+            self.shortest = Some(told);
+        }
+    }
+
+    fn end(&self, what: &str, since: Instant) -> ExitCode {
+        println!(
+            "{what}: {} inputs, {} differences, {:.1} s (by refusal, 0 to 10: {:?})",
+            self.inputs,
+            self.differences,
+            since.elapsed().as_secs_f64(),
+            self.refusals
+        );
+        match &self.shortest {
+            None => ExitCode::SUCCESS,
+            Some(told) => {
+                println!("the shortest: {told}");
+                ExitCode::FAILURE
+            }
+        }
+    }
+}
+
+pub fn compare(count: usize) -> ExitCode {
+    let since = Instant::now();
+    let mut tally = Tally::new();
+    let mut chance = Chance::new(1);
+    for case in rehearsal::cases() {
+        tally.hold(&case, &Paper);
+    }
+    exhaustive::best(|case| tally.hold(&case, &Paper));
+    exhaustive::random(|case| tally.hold(&case, &Paper));
+    exhaustive::words(|case| tally.hold(&case, &Paper));
+    exhaustive::tables(|case| tally.hold(&case, &Paper));
+    exhaustive::checks(|case| tally.hold(&case, &Paper));
+    limits::each(&mut chance, |case| tally.hold(&case, &Paper));
+    for i in 0..count {
+        let size = if i % 20 == 0 { MIDDLING } else { SMALL };
+        tally.hold(&make(&mut chance, size), &Paper);
+    }
+    own::hold(&mut chance, count / 100, &mut tally);
+    tally.end("compare", since)
+}
+
+/// Replays the list through the judges named; the copy answers what is marked as the Rust's.
+pub fn replay(file: &str, judges: &[&str]) -> ExitCode {
+    let since = Instant::now();
+    let mut tally = Tally::new();
+    let text = std::fs::read_to_string(file).expect("the list");
+    for (place, line) in text.lines().enumerate() {
+        let listed = case::parse(line);
+        let mut answers = Vec::new();
+        if judges.contains(&"paper") {
+            answers.push(listed.case.answer(&Paper));
+        }
+        if judges.contains(&"copy") && listed.judge == 1 {
+            answers.push(listed.case.expected());
+        }
+        for answer in answers {
+            if answer != listed.answer {
+                println!("differs {place}");
+            }
+            tally.answered(&listed.case, &listed.answer, &answer);
+        }
+    }
+    tally.end("replay", since)
+}
