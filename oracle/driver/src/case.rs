@@ -1,6 +1,6 @@
 //! A case: a call, the refusal that its maker knows of, and the answer that should come out.
 
-use crate::calls::{Call, Fit, Read};
+use crate::calls::{Call, Fit, Read, Reader};
 use crate::expect;
 use crate::library::Library;
 use crate::run;
@@ -34,6 +34,19 @@ impl Case {
 
     pub fn answer(&self, library: &dyn Library) -> Vec<u64> {
         run::run(library, &self.call).encode()
+    }
+
+    /// The refusal in an answer; a node read out has none.
+    pub fn told_refusal(&self, answer: &[u64]) -> usize {
+        match &self.call {
+            Call::Read(read) if read.reader == Reader::Node => 0,
+            _ => answer[0] as usize,
+        }
+    }
+
+    /// The call as numbers, its kind first.
+    pub fn call_line(&self) -> String {
+        format!("{} {:?}", wire::kind(&self.call), wire::down(&self.call))
     }
 
     /// A line of the list: kind, judge, how many numbers the call has, these, how many the answer has, these.

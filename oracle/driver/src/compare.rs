@@ -66,10 +66,12 @@ impl Tally {
 
     fn answered(&mut self, case: &Case, expected: &[u64], answer: &[u64]) {
         self.inputs += 1;
-        let refusal = expected[0] as usize;
-        self.refusals[refusal.min(10)] += 1;
+        self.refusals[case.told_refusal(expected)] += 1;
         if expected != answer {
-            let told = format!("{}\n  answered {answer:?}", case.line());
+            let told = format!(
+                "{}\n  expected {expected:?}\n  answered {answer:?}",
+                case.call_line()
+            );
             self.differ(told);
         }
     }
@@ -122,25 +124,40 @@ pub fn compare(count: usize) -> ExitCode {
 }
 
 /// Replays the list through the judges named; the copy answers what is marked as the Rust's.
-pub fn replay(file: &str, judges: &[&str]) -> ExitCode {
+/// With `each`, tells the place of every case that differs.
+pub fn replay(file: &str, judges: &[&str], each: bool) -> ExitCode {
     let since = Instant::now();
     let mut tally = Tally::new();
     let text = std::fs::read_to_string(file).expect("the list");
-    for (place, line) in text.lines().enumerate() {
+    let mut lines = text.lines();
+    let head = lines.next().expect("a first line");
+    let said: usize = head
+        .split(' ')
+        .next()
+        .and_then(|n| n.parse().ok())
+        .expect("a count");
+    assert_eq!(said, lines.clone().count(), "the list's own count");
+    for (place, line) in lines.enumerate() {
         let listed = case::parse(line);
-        let mut answers = Vec::new();
-        if judges.contains(&"paper") {
-            answers.push(listed.case.answer(&Paper));
-        }
-        if judges.contains(&"copy") && listed.judge == 1 {
-            answers.push(listed.case.expected());
-        }
-        for answer in answers {
-            if answer != listed.answer {
+        for judge in judges {
+            let answer = match *judge {
+                "paper" => caught(|| listed.case.answer(&Paper)),
+                _ if listed.judge == 1 => caught(|| listed.case.expected()),
+                _ => continue,
+            };
+            if each && answer != listed.answer {
                 println!("differs {place}");
             }
             tally.answered(&listed.case, &listed.answer, &answer);
         }
     }
     tally.end("replay", since)
+}
+
+/// A judge that panics has answered wrongly.
+fn caught(judge: impl Fn() -> Vec<u64>) -> Vec<u64> {
+    std::panic::set_hook(Box::new(|_| ()));
+    let answer = std::panic::catch_unwind(std::panic::AssertUnwindSafe(judge));
+    drop(std::panic::take_hook());
+    answer.unwrap_or_default()
 }

@@ -47,7 +47,7 @@ fn wrong_length<T: Clone + Default>(chance: &mut Chance, list: &mut Vec<T>) {
 }
 
 fn lengths(chance: &mut Chance, fit: &mut Fit) -> bool {
-    match chance.below(if fit.forest { 9 } else { 5 }) {
+    match chance.below(if fit.forest { 10 } else { 6 }) {
         0 => wrong_length(chance, &mut fit.x),
         1 => wrong_length(chance, &mut fit.y),
         2 => {
@@ -60,7 +60,13 @@ fn lengths(chance: &mut Chance, fit: &mut Fit) -> bool {
         }
         3 => wrong_length(chance, &mut fit.counts),
         4 => wrong_length(chance, &mut fit.listings),
-        5 | 6 => cut_table(chance, fit, true),
+        // the largest sizes there are, which the lists do not have
+        5 => match chance.below(if fit.forest { 3 } else { 2 }) {
+            0 => fit.rows = 65_535,
+            1 => fit.features = 1_024,
+            _ => fit.trees = 1_024,
+        },
+        6 | 7 => cut_table(chance, fit, true),
         _ => cut_table(chance, fit, false),
     }
     true

@@ -45,7 +45,11 @@ pub fn damage(chance: &mut Chance, read: &mut Read) -> u32 {
                 true
             }
             _ => {
-                wrong_length(chance, &mut read.counts, true);
+                match chance.below(4) {
+                    0 => read.rows = 65_535,
+                    1 => read.trees = 1_024,
+                    _ => wrong_length(chance, &mut read.counts, true),
+                }
                 true
             }
         };
@@ -86,6 +90,16 @@ fn sizes(chance: &mut Chance, read: &mut Read) -> bool {
 
 fn lengths(chance: &mut Chance, read: &mut Read) -> bool {
     let second = chance.one_in(2);
+    if chance.one_in(4) {
+        // the largest sizes there are, which the lists do not have
+        match read.reader {
+            Reader::OutOfBagMeans => read.features = 1_024,
+            Reader::OutOfBagError => read.rows = 65_535,
+            _ if second => read.features = 1_024,
+            _ => read.rows = 65_535,
+        }
+        return true;
+    }
     match read.reader {
         Reader::OutOfBagError if second => wrong_length(chance, &mut read.targets, false),
         Reader::OutOfBagError => wrong_length(chance, &mut read.means, false),
@@ -120,7 +134,10 @@ fn listing(chance: &mut Chance, read: &mut Read) -> bool {
 
 fn rooms(chance: &mut Chance, read: &mut Read) -> bool {
     let has_result = read.reader != Reader::CheckForest;
-    if is_forest(read.reader) && (chance.one_in(2) || !has_result) {
+    if is_forest(read.reader) && chance.one_in(4) && read.reader != Reader::OutOfBagMeans {
+        // the most trees there are, for which the starts are too short
+        read.trees = 1_024;
+    } else if is_forest(read.reader) && (chance.one_in(2) || !has_result) {
         let short = chance.pick(&[read.trees, read.trees, 0]);
         read.starts.truncate(short);
     } else {

@@ -56,7 +56,10 @@ fn error(chance: &mut Chance, read: &mut Read, rows: usize) {
 }
 
 fn over_table(chance: &mut Chance, read: &mut Read, rows: usize) {
-    let features = chance.within(1, 3);
+    let features = match read.reader {
+        Reader::CheckTree | Reader::CheckForest => chance.pick(&[1, 2, 3, 1_024]),
+        _ => chance.within(1, 3),
+    };
     let takes_x = matches!(
         read.reader,
         Reader::Predictions | Reader::ForestMeans | Reader::OutOfBagMeans
@@ -141,7 +144,7 @@ fn tree(chance: &mut Chance, nodes: usize, features: usize, longer: usize) -> Ta
             false => 0,
         };
         let feature = match splits {
-            true => chance.below(features) as u32,
+            true => chance.below(features).max(chance.below(features)) as u32,
             false => chance.pick(&[0, 1, u32::MAX]),
         };
         table.feature.push(feature);

@@ -66,9 +66,8 @@ fn listing_good(listing: &[u32], value: impl Fn(u32) -> f64) -> bool {
             _ => return false,
         }
     }
-    !listing
-        .windows(2)
-        .any(|pair| value(pair[1]) < value(pair[0]))
+    let falls = |pair: &[u32]| value(pair[1]) < value(pair[0]);
+    !listing.windows(2).any(falls)
 }
 
 pub fn listings_good(rows: usize, features: usize, x: &[f64], listings: &[u32]) -> bool {
