@@ -106,6 +106,7 @@ pub fn grow(
         seed: Some(seed),
         splitter: params.splitter(),
     };
+    tape::clear();
     if let Some(tape) = tape {
         tape::lay(tape);
     }
@@ -206,7 +207,7 @@ pub fn own_forest(
     trees: usize,
     tried: Option<usize>,
     seed: u64,
-) -> OwnFit {
+) -> Result<OwnFit, String> {
     let x = Matrix::new(data.rows, data.features, data.x);
     let parameters = BaseForestParameters {
         max_depth: params.limit,
@@ -221,8 +222,12 @@ pub fn own_forest(
     };
     let weights = (!data.weights.is_empty()).then_some(data.weights);
     let y = data.y.to_vec();
+    tape::clear();
     let forest = forest_window::Forest::fit(&x, &y, weights, &MSECriterion, parameters);
-    let forest = forest.expect("rows, features and weights that the crate takes");
+    let forest = match forest {
+        Ok(forest) => forest,
+        Err(failed) => return Err(failed.to_string()),
+    };
     // the trees' sources are dropped one by one, the forest's own last
     let mut told = tape::told();
     let bag = told.pop().expect("the forest's own source").bag;
@@ -230,7 +235,7 @@ pub fn own_forest(
     for (draw, row) in bag.iter().enumerate() {
         counts[draw / data.rows * data.rows + row] += 1;
     }
-    OwnFit {
+    Ok(OwnFit {
         means: base_forest::predict_mean(&forest, &x).expect("a mean for each row"),
         means_oob: base_forest::predict_mean_oob(&forest, &x).expect("samples are kept"),
         importances: forest.compute_feature_importances().expect("it stands"),
@@ -240,11 +245,18 @@ pub fn own_forest(
             .map(|(tree, told)| Grown::new(tree, told))
             .collect(),
         counts,
-    }
+    })
 }
 
-/// One tree by the regressor's own `fit` or `fit_with_weights`: its predictions and both importances.
-pub fn own_tree(data: &Data, params: &Params) -> (Vec<f64>, Vec<f64>, Vec<f64>, Tape) {
+/// What the regressor's own `fit` or `fit_with_weights` gives, and the draws that were made for it.
+pub struct OwnTree {
+    pub predictions: Vec<f64>,
+    pub normalised: Vec<f64>,
+    pub by_mass: Vec<f64>,
+    pub made: Tape,
+}
+
+pub fn own_tree(data: &Data, params: &Params) -> Result<OwnTree, String> {
     let x = Matrix::new(data.rows, data.features, data.x);
     let parameters = DecisionTreeRegressorParameters {
         max_depth: params.limit,
@@ -253,16 +265,16 @@ pub fn own_tree(data: &Data, params: &Params) -> (Vec<f64>, Vec<f64>, Vec<f64>, 
         seed: None,
     };
     let y = data.y.to_vec();
+    tape::clear();
     let tree = match data.weights {
         [] => DecisionTreeRegressor::fit(&x, &y, parameters),
         weights => DecisionTreeRegressor::fit_with_weights(&x, &y, weights, parameters),
     };
-    let tree = tree.expect("rows, features and weights that the crate takes");
-    let made = tape::told().remove(0).made;
-    (
-        tree.predict(&x).expect("it stands"),
-        tree.compute_feature_importances(true).expect("it stands"),
-        tree.compute_feature_importances(false).expect("it stands"),
-        made,
-    )
+    let tree = tree.map_err(|failed| failed.to_string())?;
+    Ok(OwnTree {
+        predictions: tree.predict(&x).expect("it stands"),
+        normalised: tree.compute_feature_importances(true).expect("it stands"),
+        by_mass: tree.compute_feature_importances(false).expect("it stands"),
+        made: tape::told().remove(0).made,
+    })
 }

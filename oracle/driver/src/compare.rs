@@ -4,7 +4,9 @@ use crate::case::{self, Case};
 use crate::chance::Chance;
 use crate::library::{Library, Paper};
 use crate::make_fit::{self, SMALL, Size};
-use crate::{damage_fit, damage_read, exhaustive, limits, make_read, own, rehearsal};
+use crate::{
+    crafted, damage_fit, damage_read, differences, exhaustive, limits, make_read, own, rehearsal,
+};
 use std::process::ExitCode;
 use std::time::Instant;
 
@@ -40,6 +42,13 @@ pub fn make(chance: &mut Chance, size: Size) -> Case {
         _ => {}
     }
     Case::fit(fit, refusal)
+}
+
+/// The cases that are not left to chance.
+pub fn fixed() -> Vec<Case> {
+    let mut cases = rehearsal::cases();
+    cases.extend(crafted::cases());
+    cases
 }
 
 /// Counts cases, and keeps the shortest that differs.
@@ -106,7 +115,7 @@ pub fn compare(count: usize) -> ExitCode {
     let since = Instant::now();
     let mut tally = Tally::new();
     let mut chance = Chance::new(1);
-    for case in rehearsal::cases() {
+    for case in fixed() {
         tally.hold(&case, &Paper);
     }
     exhaustive::best(|case| tally.hold(&case, &Paper));
@@ -120,7 +129,16 @@ pub fn compare(count: usize) -> ExitCode {
         tally.hold(&make(&mut chance, size), &Paper);
     }
     own::hold(&mut chance, count / 100, &mut tally);
+    differences::hold(&mut tally);
     tally.end("compare", since)
+}
+
+/// The deepest trees there are: some tens of seconds.
+pub fn longest() -> ExitCode {
+    let since = Instant::now();
+    let mut tally = Tally::new();
+    limits::longest(&mut Chance::new(3), |case| tally.hold(&case, &Paper));
+    tally.end("longest", since)
 }
 
 /// Replays the list through the judges named; the copy answers what is marked as the Rust's.

@@ -3,6 +3,7 @@
 use crate::calls::Fit;
 use crate::case::Case;
 use crate::chance::Chance;
+use crate::crafted;
 use crate::make_fit;
 
 fn finished(chance: &mut Chance, mut fit: Fit) -> Case {
@@ -29,7 +30,9 @@ pub fn each(chance: &mut Chance, mut hold: impl FnMut(Case)) {
         hold(chain(chance));
     }
     for features in 1..=1_024 {
-        tried_by_default(features, &mut hold);
+        crafted::default_tried(features)
+            .into_iter()
+            .for_each(&mut hold);
     }
 }
 
@@ -93,11 +96,22 @@ fn many_trees(chance: &mut Chance) -> Case {
     finished(chance, fit)
 }
 
-/// Each split takes one row off: as deep as rows allow.
 fn chain(chance: &mut Chance) -> Case {
     let rows = chance.within(200, 600);
     let limit = chance.pick(&[None, Some(65_535), Some(300), Some(rows as u16)]);
-    let fit = Fit {
+    chain_of(chance, rows, limit)
+}
+
+/// All rows in a chain: the greatest depth that there is.
+pub fn longest(chance: &mut Chance, mut hold: impl FnMut(Case)) {
+    for limit in [None, Some(65_535), Some(65_534)] {
+        hold(chain_of(chance, 65_535, limit));
+    }
+}
+
+/// Each split takes one row off: as deep as rows allow.
+fn chain_of(chance: &mut Chance, rows: usize, limit: Option<u16>) -> Case {
+    let mut fit = Fit {
         rows,
         features: 1,
         trees: 1,
@@ -114,34 +128,6 @@ fn chain(chance: &mut Chance) -> Case {
         thresholds: (0..rows).map(|row| row as f64).collect(),
         ..Fit::default()
     };
-    let mut fit = fit;
     make_fit::rooms(chance, &mut fit);
     Case::fit(fit, 0)
-}
-
-/// Only one feature can be cut: the last of those tried by default, or the first that is not tried.
-fn tried_by_default(features: usize, hold: &mut impl FnMut(Case)) {
-    let root = (1..=32).filter(|n| n * n <= features).count();
-    for place in [root - 1, root.min(features - 1)] {
-        let mut x = vec![0.0; 2 * features];
-        x[features + place] = 1.0;
-        let mut fit = Fit {
-            forest: true,
-            rows: 2,
-            features,
-            trees: 1,
-            least_leaf: 1,
-            least_split: 2,
-            x,
-            y: vec![0.0, 1.0],
-            counts: vec![1; 2],
-            listings: [0, 1].repeat(features),
-            words: (0..features as u32).collect(),
-            word_cuts: vec![0, features as u64],
-            threshold_cuts: vec![0, 0],
-            ..Fit::default()
-        };
-        make_fit::rooms(&mut Chance::new(0), &mut fit);
-        hold(Case::fit(fit, 0));
-    }
 }

@@ -1,9 +1,9 @@
 //! The command: compares both judges, replays the list, and what the list is made with.
 
-use driver::{case::Case, chance::Chance, compare, mutants, pick, rehearsal};
+use driver::{case::Case, chance::Chance, compare, mutants, pick};
 use std::process::ExitCode;
 
-const USE: &str = "compare [COUNT] | replay LIST | each LIST paper|copy | pool COUNT
+const USE: &str = "compare [COUNT] | longest | replay LIST | each LIST paper|copy | pool COUNT
 mutants FILE | mutant FILE NUMBER FROM TO | pick POOL FOUND";
 
 fn main() -> ExitCode {
@@ -12,6 +12,7 @@ fn main() -> ExitCode {
     match args.as_slice() {
         ["compare"] => return compare::compare(400_000),
         ["compare", count] => return compare::compare(number(count)),
+        ["longest"] => return compare::longest(),
         ["replay", list] => return compare::replay(list, &["paper", "copy"], false),
         ["each", list, judge] => return compare::replay(list, &[judge], true),
         ["pool", count] => pool(number(count)),
@@ -44,7 +45,7 @@ fn read(file: &str) -> String {
 fn pool(count: usize) {
     let mut chance = Chance::new(2);
     let random = (0..count).map(|_| compare::make(&mut chance, compare::TINY));
-    let lines: Vec<String> = rehearsal::cases().iter().map(Case::line).collect();
+    let lines: Vec<String> = compare::fixed().iter().map(Case::line).collect();
     let random: Vec<String> = random.map(|case| case.line()).collect();
     print(&[lines, random].concat());
 }

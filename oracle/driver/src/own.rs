@@ -32,7 +32,8 @@ fn base(chance: &mut Chance, forest: bool) -> Fit {
 fn forest(chance: &mut Chance, tally: &mut Tally) {
     let mut fit = base(chance, true);
     let tried = fit.tried.map(|tried| tried as usize);
-    let own = harness::own_forest(&data(&fit), &params(&fit), fit.trees, tried, chance.next());
+    let own = harness::own_forest(&data(&fit), &params(&fit), fit.trees, tried, chance.next())
+        .expect("what the crate takes");
     fit.counts = own.counts.clone();
     let tapes: Vec<_> = own.trees.iter().map(|tree| tree.made.clone()).collect();
     make_fit::lay(&mut fit, &tapes);
@@ -81,8 +82,8 @@ fn tree(chance: &mut Chance, tally: &mut Tally) {
     let mut fit = base(chance, false);
     (fit.random, fit.tried) = (false, Some(fit.features as u32));
     fit.counts.fill(1);
-    let (predicted, normalised, by_mass, made) = harness::own_tree(&data(&fit), &params(&fit));
-    make_fit::lay(&mut fit, &[made]);
+    let own = harness::own_tree(&data(&fit), &params(&fit)).expect("what the crate takes");
+    make_fit::lay(&mut fit, &[own.made]);
     make_fit::rooms(chance, &mut fit);
     let answered = run::run(&Paper, &Call::Fit(fit.clone()));
     let nodes = answered.told[3] as usize;
@@ -115,9 +116,9 @@ fn tree(chance: &mut Chance, tally: &mut Tally) {
         ..read.clone()
     };
     let same = answered.told[0] == 0
-        && reads(&read, Reader::Predictions, &predicted)
-        && reads(&by_feature, Reader::NormalisedImportances, &normalised)
-        && reads(&by_feature, Reader::ImportancesByMass, &by_mass);
+        && reads(&read, Reader::Predictions, &own.predictions)
+        && reads(&by_feature, Reader::NormalisedImportances, &own.normalised)
+        && reads(&by_feature, Reader::ImportancesByMass, &own.by_mass);
     told(tally, same, &fit);
 }
 

@@ -1,18 +1,18 @@
 //! Picks the fixed list out of a pool: cases that find each edit, and some of each kind and refusal.
 
-use crate::case;
+use crate::{case, compare};
 use std::collections::BTreeMap;
 
 /// How many cases should find an edit, where the pool has so many.
 const FINDERS: usize = 3;
 /// How many cases of a kind with one refusal are taken at least.
 const OF_A_KIND: usize = 6;
-/// The rehearsal table stands first in the pool, and is taken whole.
-const REHEARSAL: usize = 16;
 
 /// `found` holds, for each edit, the places in the pool of the cases that find it.
+/// The cases that are not left to chance stand first, and are all taken.
 pub fn pick(pool: &[&str], found: &[Vec<usize>]) -> Vec<usize> {
-    let mut taken: Vec<bool> = (0..pool.len()).map(|place| place < REHEARSAL).collect();
+    let fixed = compare::fixed().len();
+    let mut taken: Vec<bool> = (0..pool.len()).map(|place| place < fixed).collect();
     loop {
         let wanted: Vec<&Vec<usize>> = found
             .iter()

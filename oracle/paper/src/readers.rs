@@ -11,10 +11,11 @@ pub enum Divisor {
     RootMass(f64),
 }
 
-/// The value of the leaf that a row's values lead to.
+/// The value of the leaf that a row's values lead to. Children come after their parent, so a good tree's nodes
+/// are as many steps as a walk can take.
 fn leaf_value(table: &Table, values: &[f64]) -> f64 {
     let mut number = 0;
-    loop {
+    for _ in 0..table.room() {
         let here = node_at(table, number);
         match here.kind {
             Kind::Leaf => return here.value,
@@ -25,6 +26,7 @@ fn leaf_value(table: &Table, values: &[f64]) -> f64 {
             Kind::Split(cut) => number = cut.false_child as usize,
         }
     }
+    unreachable!("a table that was not good")
 }
 
 fn row_values(x: &[f64], features: usize, row: usize) -> &[f64] {

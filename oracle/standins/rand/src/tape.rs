@@ -31,6 +31,12 @@ thread_local! {
     static TOLD: RefCell<Vec<Told>> = const { RefCell::new(Vec::new()) };
 }
 
+/// Forget tapes laid ready and what was told: a judge that panicked may have left some.
+pub fn clear() {
+    READY.with(|ready| ready.borrow_mut().clear());
+    TOLD.with(|told| told.borrow_mut().clear());
+}
+
 /// Lay a tape ready for the next source.
 pub fn lay(tape: Tape) {
     READY.with(|ready| ready.borrow_mut().push_back(tape));
