@@ -200,6 +200,15 @@ pub struct OwnFit {
     pub importances: Vec<f64>,
 }
 
+/// Counts of the rows drawn, as many draws a tree as rows; with weights each row once.
+fn bag_counts(data: &Data, trees: usize, bag: &[usize]) -> Vec<u32> {
+    let mut counts = vec![u32::from(!data.weights.is_empty()); trees * data.rows];
+    for (draw, row) in bag.iter().enumerate() {
+        counts[draw / data.rows * data.rows + row] += 1;
+    }
+    counts
+}
+
 /// `tried` of none takes the crate's own default; with weights there is no bag, as the trees take them then.
 pub fn own_forest(
     data: &Data,
@@ -231,10 +240,7 @@ pub fn own_forest(
     // the trees' sources are dropped one by one, the forest's own last
     let mut told = tape::told();
     let bag = told.pop().expect("the forest's own source").bag;
-    let mut counts = vec![u32::from(!data.weights.is_empty()); trees * data.rows];
-    for (draw, row) in bag.iter().enumerate() {
-        counts[draw / data.rows * data.rows + row] += 1;
-    }
+    let counts = bag_counts(data, trees, &bag);
     Ok(OwnFit {
         means: base_forest::predict_mean(&forest, &x).expect("a mean for each row"),
         means_oob: base_forest::predict_mean_oob(&forest, &x).expect("samples are kept"),

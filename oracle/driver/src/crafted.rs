@@ -1,6 +1,6 @@
 //! Cases thought out for one clause each, which chance does not meet in small inputs.
 
-use crate::calls::{Fit, Read, Reader};
+use crate::calls::{Fit, Read, Reader, Table};
 use crate::case::Case;
 use crate::chance::Chance;
 use crate::make_fit;
@@ -23,6 +23,7 @@ pub fn cases() -> Vec<Case> {
         cases.extend(default_tried(features));
     }
     cases.extend(own_parts());
+    cases.extend(orders());
     cases
 }
 
@@ -154,4 +155,87 @@ fn own_parts() -> Vec<Case> {
         parts(1, 3),
         parts(4, 1),
     ]
+}
+
+/// 0.1 + 0.2 + 0.3 is not 0.3 + 0.2 + 0.1: sums of leaf values, scores and squares in their order.
+const THREE: [f64; 3] = [0.1, 0.2, 0.3];
+
+/// Three trees of one leaf each.
+fn leaves() -> Read {
+    Read {
+        rows: 1,
+        features: 1,
+        trees: 3,
+        x: vec![0.0],
+        counts: vec![0; 3],
+        table: Table {
+            value: THREE.to_vec(),
+            feature: vec![0; 3],
+            threshold: vec![0.0; 3],
+            score: vec![0.0; 3],
+            true_child: vec![0; 3],
+            false_child: vec![0; 3],
+        },
+        starts: vec![0, 1, 2, 3],
+        out: 1,
+        ..Read::default()
+    }
+}
+
+fn orders() -> Vec<Case> {
+    let error = Read {
+        reader: Reader::OutOfBagError,
+        rows: 3,
+        targets: THREE.to_vec(),
+        means: vec![1.0, 0.0, 0.5],
+        ..Read::default()
+    };
+    let by = |reader: Reader, read: &Read| Read {
+        reader,
+        ..read.clone()
+    };
+    let three = splits([0, 1, 2], 3);
+    let one = splits([0; 3], 1);
+    [
+        by(Reader::ForestMeans, &leaves()),
+        by(Reader::OutOfBagMeans, &leaves()),
+        error,
+        by(Reader::NormalisedImportances, &three),
+        by(Reader::ImportancesByMass, &three),
+        by(Reader::ForestImportances, &three),
+        by(Reader::NormalisedImportances, &one),
+        by(Reader::ImportancesByMass, &one),
+    ]
+    .into_iter()
+    .map(|read| Case::read(read, 0))
+    .collect()
+}
+
+/// Seven nodes, of which the first three split, by these features.
+fn splits(by: [u32; 3], features: usize) -> Read {
+    let mut table = Table {
+        value: vec![0.0; 7],
+        threshold: vec![0.0; 7],
+        score: THREE.to_vec(),
+        feature: by.to_vec(),
+        true_child: vec![1, 3, 5],
+        false_child: vec![2, 4, 6],
+    };
+    table.score.resize(7, 9.5);
+    for column in [
+        &mut table.feature,
+        &mut table.true_child,
+        &mut table.false_child,
+    ] {
+        column.resize(7, 0);
+    }
+    Read {
+        features,
+        trees: 1,
+        table,
+        starts: vec![0, 7],
+        root_mass: 3.0,
+        out: features,
+        ..Read::default()
+    }
 }

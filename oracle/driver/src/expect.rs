@@ -56,7 +56,7 @@ pub fn grow(fit: &Fit, tree: usize) -> Result<Grown, usize> {
 }
 
 /// The six columns of nodes.
-fn columns(nodes: &[NodeRecord]) -> [Vec<u64>; 6] {
+pub fn columns(nodes: &[NodeRecord]) -> [Vec<u64>; 6] {
     let of = |field: fn(&NodeRecord) -> u64| nodes.iter().map(field).collect();
     [
         of(|n| bits(n.value)),
@@ -197,34 +197,34 @@ fn readable(read: &Read, forest: bool) -> Readable {
 }
 
 fn expect_read(read: &Read, refusal: u32) -> Outcome {
-    let (rows, x) = (read.rows, &read.x);
-    let mut room = untouched(read.out, true);
     let mut told = vec![u64::from(refusal)];
-    if refusal == 0 {
-        let results = match read.reader {
-            Reader::Predictions => readable(read, false).predictions(rows, x),
-            Reader::ForestMeans => readable(read, true).means(rows, x),
-            Reader::OutOfBagMeans => readable(read, true).means_oob(rows, x, &read.counts),
-            Reader::NormalisedImportances => readable(read, false).tree_importances(true),
-            Reader::ImportancesByMass => readable(read, false).tree_importances(false),
-            Reader::ForestImportances => readable(read, true).forest_importances(),
-            _ => Vec::new(),
-        };
-        put(&mut room, &Room::floats(&results).entries);
-    }
+    let mut rooms = Vec::new();
     match read.reader {
         Reader::OutOfBagError => told.push(expect_error(read, refusal)),
         Reader::Node => told = expect_node(read),
+        Reader::CheckListings | Reader::CheckTree | Reader::CheckForest => (),
         _ => {
-            return Outcome {
-                told,
-                rooms: vec![room],
-            };
+            let mut room = untouched(read.out, true);
+            if refusal == 0 {
+                put(&mut room, &Room::floats(&results(read)).entries);
+            }
+            rooms.push(room);
         }
     }
-    Outcome {
-        told,
-        rooms: Vec::new(),
+    Outcome { told, rooms }
+}
+
+/// The copy's results over a good table.
+fn results(read: &Read) -> Vec<f64> {
+    let (rows, x) = (read.rows, &read.x);
+    match read.reader {
+        Reader::Predictions => readable(read, false).predictions(rows, x),
+        Reader::ForestMeans => readable(read, true).means(rows, x),
+        Reader::OutOfBagMeans => readable(read, true).means_oob(rows, x, &read.counts),
+        Reader::NormalisedImportances => readable(read, false).tree_importances(true),
+        Reader::ImportancesByMass => readable(read, false).tree_importances(false),
+        Reader::ForestImportances => readable(read, true).forest_importances(),
+        other => unreachable!("the Rust has no {other:?}"),
     }
 }
 

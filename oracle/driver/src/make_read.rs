@@ -71,18 +71,7 @@ fn over_table(chance: &mut Chance, read: &mut Read, rows: usize) {
         read.out = rows;
     }
     if is_forest(read.reader) {
-        read.trees = chance.within(1, 4);
-        read.starts.push(0);
-        for _ in 0..read.trees {
-            let nodes = chance.within(1, 7);
-            let tree = tree(chance, nodes, features, 0);
-            join(&mut read.table, tree);
-            read.starts.push(read.table.value.len() as u32);
-        }
-        let more = chance.pick(&[0, 0, 2]);
-        let beyond = tree(chance, more, features, 2);
-        join(&mut read.table, beyond);
-        read.starts.extend(chance.pick(&[&[][..], &[0], &[9, 9]]));
+        forest(chance, read);
     } else {
         let (nodes, longer) = (chance.within(1, 9), chance.pick(&[0, 0, 2]));
         read.table = tree(chance, nodes, features, longer);
@@ -100,6 +89,22 @@ fn over_table(chance: &mut Chance, read: &mut Read, rows: usize) {
     if read.reader == Reader::ImportancesByMass {
         read.root_mass = floats::anything(chance, 1)[0];
     }
+}
+
+/// Trees one after another; entries and starts may go on behind the last.
+fn forest(chance: &mut Chance, read: &mut Read) {
+    read.trees = chance.within(1, 4);
+    read.starts.push(0);
+    for _ in 0..read.trees {
+        let nodes = chance.within(1, 7);
+        let tree = tree(chance, nodes, read.features, 0);
+        join(&mut read.table, tree);
+        read.starts.push(read.table.value.len() as u32);
+    }
+    let more = chance.pick(&[0, 0, 2]);
+    let beyond = tree(chance, more, read.features, 2);
+    join(&mut read.table, beyond);
+    read.starts.extend(chance.pick(&[&[][..], &[0], &[9, 9]]));
 }
 
 pub fn is_forest(reader: Reader) -> bool {

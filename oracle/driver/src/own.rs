@@ -7,14 +7,23 @@ use crate::compare::Tally;
 use crate::floats;
 use crate::library::Paper;
 use crate::make_fit::{self, data, params};
-use crate::outcome::bits;
+use crate::outcome::{Outcome, bits};
 use crate::run;
-use copy::harness::{self, Grown, NodeRecord};
+use copy::harness::{self, Tape};
 
 pub fn hold(chance: &mut Chance, count: usize, tally: &mut Tally) {
     for _ in 0..count {
-        forest(chance, tally);
-        tree(chance, tally);
+        let (fit, same) = forest(chance);
+        told(tally, same, &fit);
+        let (fit, same) = tree(chance);
+        told(tally, same, &fit);
+    }
+}
+
+fn told(tally: &mut Tally, same: bool, fit: &Fit) {
+    tally.inputs += 1;
+    if !same {
+        tally.differ(format!("the crate's own fit of {fit:?}"));
     }
 }
 
@@ -29,124 +38,89 @@ fn base(chance: &mut Chance, forest: bool) -> Fit {
     fit
 }
 
-fn forest(chance: &mut Chance, tally: &mut Tally) {
+/// The second judge's fit over the draws that the crate made.
+fn played(chance: &mut Chance, fit: &mut Fit, tapes: &[Tape]) -> Outcome {
+    make_fit::lay(fit, tapes);
+    make_fit::rooms(chance, fit);
+    run::run(&Paper, &Call::Fit(fit.clone()))
+}
+
+/// The table that a fit left, for the readers.
+fn table(left: &Outcome, nodes: usize) -> Table {
+    let entries = |room: usize| left.rooms[room].entries[..nodes].iter();
+    let floats = |room: usize| entries(room).map(|e| f64::from_bits(*e)).collect();
+    let numbers = |room: usize| entries(room).map(|e| *e as u32).collect();
+    Table {
+        value: floats(0),
+        feature: numbers(1),
+        threshold: floats(2),
+        score: floats(3),
+        true_child: numbers(4),
+        false_child: numbers(5),
+    }
+}
+
+fn forest(chance: &mut Chance) -> (Fit, bool) {
     let mut fit = base(chance, true);
     let tried = fit.tried.map(|tried| tried as usize);
     let own = harness::own_forest(&data(&fit), &params(&fit), fit.trees, tried, chance.next())
         .expect("what the crate takes");
-    fit.counts = own.counts.clone();
-    let tapes: Vec<_> = own.trees.iter().map(|tree| tree.made.clone()).collect();
-    make_fit::lay(&mut fit, &tapes);
-    make_fit::rooms(chance, &mut fit);
-    let nodes: Vec<NodeRecord> = own.trees.iter().flat_map(Grown::nodes).collect();
-    let mut starts = vec![0];
-    for tree in &own.trees {
-        starts.push(starts[starts.len() - 1] + tree.nodes().len() as u32);
-    }
-    let answered = run::run(&Paper, &Call::Fit(fit.clone()));
-    let values: Vec<u64> = nodes.iter().map(|node| bits(node.value)).collect();
-    let thresholds: Vec<u64> = nodes.iter().map(|node| bits(node.threshold)).collect();
-    let scores: Vec<u64> = nodes.iter().map(|node| bits(node.score)).collect();
-    let same = answered.told == [0; 3]
-        && answered.rooms[0].entries.starts_with(&values)
-        && answered.rooms[2].entries.starts_with(&thresholds)
-        && answered.rooms[3].entries.starts_with(&scores)
-        && answered.rooms[6].entries[..starts.len()].iter().eq(starts
-            .iter()
-            .map(|start| u64::from(*start))
-            .collect::<Vec<_>>()
-            .iter());
+    fit.counts = own.counts;
+    let tapes: Vec<Tape> = own.trees.iter().map(|tree| tree.made.clone()).collect();
+    let left = played(chance, &mut fit, &tapes);
+    let nodes: Vec<_> = own.trees.iter().flat_map(|tree| tree.nodes()).collect();
+    let columns = crate::expect::columns(&nodes);
+    let starts = left.rooms[6].entries[..=fit.trees].iter();
     let read = Read {
         rows: fit.rows,
         features: fit.features,
         trees: fit.trees,
         x: fit.x.clone(),
         counts: fit.counts.clone(),
-        table: table(&nodes),
-        starts,
-        out: fit.rows,
+        table: table(&left, nodes.len()),
+        starts: starts.map(|start| *start as u32).collect(),
         ..Read::default()
     };
-    let by_feature = Read {
-        out: fit.features,
-        ..read.clone()
-    };
-    let same = same
+    let mut rooms = left.rooms.iter().zip(&columns);
+    let same = left.told == [0; 3]
+        && rooms.all(|(room, column)| room.entries.starts_with(column))
         && reads(&read, Reader::ForestMeans, &own.means)
         && reads(&read, Reader::OutOfBagMeans, &own.means_oob)
-        && reads(&by_feature, Reader::ForestImportances, &own.importances);
-    told(tally, same, &fit);
+        && reads(&read, Reader::ForestImportances, &own.importances);
+    (fit, same)
 }
 
-fn tree(chance: &mut Chance, tally: &mut Tally) {
+fn tree(chance: &mut Chance) -> (Fit, bool) {
     let mut fit = base(chance, false);
     (fit.random, fit.tried) = (false, Some(fit.features as u32));
     fit.counts.fill(1);
     let own = harness::own_tree(&data(&fit), &params(&fit)).expect("what the crate takes");
-    make_fit::lay(&mut fit, &[own.made]);
-    make_fit::rooms(chance, &mut fit);
-    let answered = run::run(&Paper, &Call::Fit(fit.clone()));
-    let nodes = answered.told[3] as usize;
-    let floats = |room: usize| -> Vec<f64> {
-        let entries = answered.rooms[room].entries[..nodes].iter();
-        entries.map(|entry| f64::from_bits(*entry)).collect()
-    };
-    let numbers = |room: usize| -> Vec<u32> {
-        let entries = answered.rooms[room].entries[..nodes].iter();
-        entries.map(|entry| *entry as u32).collect()
-    };
+    let left = played(chance, &mut fit, std::slice::from_ref(&own.made));
     let read = Read {
         rows: fit.rows,
         features: fit.features,
         x: fit.x.clone(),
-        table: Table {
-            value: floats(0),
-            feature: numbers(1),
-            threshold: floats(2),
-            score: floats(3),
-            true_child: numbers(4),
-            false_child: numbers(5),
-        },
-        root_mass: f64::from_bits(answered.told[5]),
-        out: fit.rows,
+        table: table(&left, left.told[3] as usize),
+        root_mass: f64::from_bits(left.told[5]),
         ..Read::default()
     };
-    let by_feature = Read {
-        out: fit.features,
-        ..read.clone()
-    };
-    let same = answered.told[0] == 0
+    let same = left.told[0] == 0
         && reads(&read, Reader::Predictions, &own.predictions)
-        && reads(&by_feature, Reader::NormalisedImportances, &own.normalised)
-        && reads(&by_feature, Reader::ImportancesByMass, &own.by_mass);
-    told(tally, same, &fit);
-}
-
-fn told(tally: &mut Tally, same: bool, fit: &Fit) {
-    tally.inputs += 1;
-    if !same {
-        tally.differ(format!("the crate's own fit of {fit:?}"));
-    }
-}
-
-fn table(nodes: &[NodeRecord]) -> Table {
-    Table {
-        value: nodes.iter().map(|n| n.value).collect(),
-        feature: nodes.iter().map(|n| n.feature).collect(),
-        threshold: nodes.iter().map(|n| n.threshold).collect(),
-        score: nodes.iter().map(|n| n.score).collect(),
-        true_child: nodes.iter().map(|n| n.true_child).collect(),
-        false_child: nodes.iter().map(|n| n.false_child).collect(),
-    }
+        && reads(&read, Reader::NormalisedImportances, &own.normalised)
+        && reads(&read, Reader::ImportancesByMass, &own.by_mass);
+    (fit, same)
 }
 
 /// Whether the second judge's reader gives these results.
 fn reads(read: &Read, reader: Reader, results: &[f64]) -> bool {
-    let call = Call::Read(Read {
-        reader,
-        ..read.clone()
-    });
-    let answered = run::run(&Paper, &call);
-    let entries = answered.rooms[0].entries.iter();
-    answered.told == [0] && entries.eq(results.iter().map(|f| bits(*f)).collect::<Vec<_>>().iter())
+    let left = run::run(
+        &Paper,
+        &Call::Read(Read {
+            reader,
+            out: results.len(),
+            ..read.clone()
+        }),
+    );
+    let results: Vec<u64> = results.iter().map(|f| bits(*f)).collect();
+    left.told == [0] && left.rooms[0].entries == results
 }

@@ -231,9 +231,15 @@ fn run_read(library: &dyn Library, read: &Read) -> Outcome {
             let (refusal, error) = library.out_of_bag_error(rows, &read.targets, &read.means);
             return told_only(vec![u64::from(refusal), bits(error)]);
         }
-        Reader::CheckListings => library.check_listings(rows, features, &read.x, &read.listings),
-        Reader::CheckTree => library.check_tree(features, &t),
-        Reader::CheckForest => library.check_forest(features, trees, &t, starts),
+        Reader::CheckListings => {
+            let refusal = library.check_listings(rows, features, &read.x, &read.listings);
+            return told_only(vec![u64::from(refusal)]);
+        }
+        Reader::CheckTree => return told_only(vec![u64::from(library.check_tree(features, &t))]),
+        Reader::CheckForest => {
+            let refusal = library.check_forest(features, trees, &t, starts);
+            return told_only(vec![u64::from(refusal)]);
+        }
         Reader::Node => return told_only(run_node(library, &read.table)),
     };
     Outcome {

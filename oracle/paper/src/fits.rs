@@ -97,16 +97,9 @@ fn asked(seed: &Seed) -> usize {
     }
 }
 
-pub fn fit_tree(call: &TreeCall, rooms: &mut TreeRooms) -> TreeAnswer {
-    let given = &call.given;
-    let seed = Seed {
-        given,
-        counts: given.counts,
-        settings: call.settings,
-        tried: call.tried,
-        draws: call.draws,
-    };
-    let refusal = checks::first_failed(&[
+fn tree_refusal(seed: &Seed, rooms: &TreeRooms) -> u32 {
+    let given = seed.given;
+    checks::first_failed(&[
         (1, &|| {
             checks::rows_in_range(given.rows) && checks::features_in_range(given.features)
         }),
@@ -115,9 +108,20 @@ pub fn fit_tree(call: &TreeCall, rooms: &mut TreeRooms) -> TreeAnswer {
         (4, &|| checks::counts_small(given)),
         (5, &|| listed(given)),
         (6, &|| {
-            rooms.nodes.room() >= asked(&seed) && rooms.work.enough(given.rows, given.features)
+            rooms.nodes.room() >= asked(seed) && rooms.work.enough(given.rows, given.features)
         }),
-    ]);
+    ])
+}
+
+pub fn fit_tree(call: &TreeCall, rooms: &mut TreeRooms) -> TreeAnswer {
+    let seed = Seed {
+        given: &call.given,
+        counts: call.given.counts,
+        settings: call.settings,
+        tried: call.tried,
+        draws: call.draws,
+    };
+    let refusal = tree_refusal(&seed, rooms);
     if refusal != 0 {
         return TreeAnswer {
             refusal,
