@@ -18,6 +18,7 @@ pub fn cases() -> Vec<Case> {
         finished(one_row(1)),
         finished(nothing_kept()),
         no_mean_at_all(),
+        falling_starts(),
     ];
     for features in [3, 4, 8, 9] {
         cases.extend(default_tried(features));
@@ -103,6 +104,17 @@ fn no_mean_at_all() -> Case {
         ..Read::default()
     };
     Case::read(read, 0)
+}
+
+/// The first tree would be good and the last start is within the columns: only the fall is wrong.
+fn falling_starts() -> Case {
+    let read = Read {
+        reader: Reader::ForestMeans,
+        trees: 2,
+        starts: vec![0, 2, 1],
+        ..leaves()
+    };
+    Case::read(read, 8)
 }
 
 /// Only one feature can be cut: the last of those tried by default, or the first that is not tried.

@@ -175,8 +175,13 @@ fn table(chance: &mut Chance, read: &mut Read) -> bool {
 fn starts(chance: &mut Chance, read: &mut Read) -> bool {
     let trees = read.trees;
     let room = read.table.room() as u32;
-    match chance.below(4) {
+    match chance.below(5) {
         0 => read.starts[0] = 1,
+        // a start above the next one
+        4 if trees > 1 => {
+            let tree = chance.within(1, trees - 1);
+            read.starts[tree] = read.starts[tree + 1] + 1;
+        }
         1 => {
             let tree = chance.below(trees);
             read.starts[tree + 1] = read.starts[tree];

@@ -233,14 +233,9 @@ fn expect_error(read: &Read, refusal: u32) -> u64 {
     if refusal != 0 {
         return 0;
     }
-    let mut sum = 0.0;
-    for row in 0..read.rows {
-        let off = read.targets[row] - read.means[row];
-        sum += if read.means[row] == read.means[row] {
-            off * off
-        } else {
-            0.0
-        };
+    let mut sum = 0.0f64;
+    for row in (0..read.rows).filter(|row| !read.means[*row].is_nan()) {
+        sum += (read.targets[row] - read.means[row]).powi(2);
     }
     bits(sum / read.rows as f64)
 }

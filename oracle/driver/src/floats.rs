@@ -14,7 +14,7 @@ fn up(from: f64, steps: usize) -> f64 {
 
 fn any_finite(chance: &mut Chance) -> f64 {
     loop {
-        let f = f64::from_bits(chance.next());
+        let f = f64::from_bits(chance.word());
         if f.is_finite() {
             return f;
         }
@@ -42,7 +42,7 @@ pub fn finite(chance: &mut Chance, n: usize) -> Vec<f64> {
             1.0,
         ]),
         9 => any_finite(chance),
-        10 => f64::from_bits(chance.next() & 0xF) * chance.pick(&[1.0, -1.0]),
+        10 => f64::from_bits(chance.word() & 0xF) * chance.pick(&[1.0, -1.0]),
         11 => base,
         12 => chance.pick(&[1.0, 2.0]) * 2f64.powi(chance.within(0, 1000) as i32 - 500),
         13 => chance.pick(&[0.1, 0.2, 0.3, 0.7, 1.1, -0.1, 1e16, 1.0, 3.3]),

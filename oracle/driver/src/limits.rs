@@ -8,7 +8,7 @@ use crate::make_fit;
 
 fn finished(chance: &mut Chance, mut fit: Fit) -> Case {
     fit.listings = make_fit::listings(chance, fit.rows, fit.features, &fit.x);
-    let seed = chance.next();
+    let seed = chance.word();
     make_fit::draws(chance, &mut fit, seed);
     make_fit::rooms(chance, &mut fit);
     Case::fit(fit, 0)

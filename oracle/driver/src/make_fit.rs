@@ -35,7 +35,7 @@ pub fn fit(chance: &mut Chance, forest: bool, size: Size) -> Fit {
     parameters(chance, &mut fit);
     values(chance, &mut fit);
     fit.listings = listings(chance, fit.rows, fit.features, &fit.x);
-    let seed = chance.next();
+    let seed = chance.word();
     draws(chance, &mut fit, seed);
     rooms(chance, &mut fit);
     fit
@@ -163,7 +163,7 @@ pub fn draws(chance: &mut Chance, fit: &mut Fit, seed: u64) {
         let grown = harness::grow(&data(fit), counts, &params(fit), None, seed);
         let mut tape = grown.expect("made draws are good").made;
         if chance.one_in(4) {
-            tape.words.push(chance.next() as u32);
+            tape.words.push(chance.word() as u32);
             tape.thresholds.push(f64::NAN);
         }
         tapes.push(tape);

@@ -63,7 +63,7 @@ fn table(left: &Outcome, nodes: usize) -> Table {
 fn forest(chance: &mut Chance) -> (Fit, bool) {
     let mut fit = base(chance, true);
     let tried = fit.tried.map(|tried| tried as usize);
-    let own = harness::own_forest(&data(&fit), &params(&fit), fit.trees, tried, chance.next())
+    let own = harness::own_forest(&data(&fit), &params(&fit), fit.trees, tried, chance.word())
         .expect("what the crate takes");
     fit.counts = own.counts;
     let tapes: Vec<Tape> = own.trees.iter().map(|tree| tree.made.clone()).collect();

@@ -46,7 +46,7 @@ pub fn cuts_fit(cuts: &Cuts, trees: usize, words: usize, thresholds: usize) -> b
 pub fn numbers_good(given: &Given) -> bool {
     given.x.iter().all(|value| value.is_finite())
         && given.y.iter().all(|target| target.is_finite())
-        && given.weights.iter().all(|w| w.is_finite() && !(*w < 0.0))
+        && given.weights.iter().all(|w| w.is_finite() && *w >= 0.0)
 }
 
 pub fn counts_small(given: &Given) -> bool {

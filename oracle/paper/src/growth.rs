@@ -178,12 +178,17 @@ impl<'a> Growth<'a> {
         }
     }
 
-    fn search_if_allowed(&mut self, stand: Stand) -> Result<(), BadDraw> {
+    fn allowed(&self, stand: &Stand) -> bool {
         let settings = &self.seed.settings;
-        if stand.level < self.seed.limit() && stand.count >= u64::from(settings.least_split) {
-            if let Some(held) = self.search(&stand)? {
-                self.waiting.push((stand, held));
-            }
+        stand.level < self.seed.limit() && stand.count >= u64::from(settings.least_split)
+    }
+
+    fn search_if_allowed(&mut self, stand: Stand) -> Result<(), BadDraw> {
+        if !self.allowed(&stand) {
+            return Ok(());
+        }
+        if let Some(held) = self.search(&stand)? {
+            self.waiting.push((stand, held));
         }
         Ok(())
     }

@@ -42,8 +42,8 @@ pub fn predictions(rows: usize, features: usize, x: &[f64], table: &Table, out: 
         (8, &|| tree_good(table, features)),
     ]);
     if refusal == 0 {
-        for row in 0..rows {
-            out[row] = leaf_value(table, row_values(x, features, row));
+        for (row, result) in out.iter_mut().enumerate() {
+            *result = leaf_value(table, row_values(x, features, row));
         }
     }
     refusal
@@ -78,9 +78,9 @@ pub fn forest_means(
         (8, &|| forest_good(table, starts, trees, features)),
     ]);
     if refusal == 0 {
-        for row in 0..rows {
+        for (row, result) in out.iter_mut().enumerate() {
             let values = row_values(x, features, row);
-            out[row] = mean((0..trees).map(|t| leaf_value(&tree_part(table, starts, t), values)));
+            *result = mean((0..trees).map(|t| leaf_value(&tree_part(table, starts, t), values)));
         }
     }
     refusal
@@ -109,10 +109,10 @@ pub fn out_of_bag_means(
         (8, &|| forest_good(table, starts, trees, features)),
     ]);
     if refusal == 0 {
-        for row in 0..rows {
+        for (row, result) in out.iter_mut().enumerate() {
             let values = row_values(x, features, row);
             let left_out = (0..trees).filter(|t| counts[t * rows + row] == 0);
-            out[row] = mean(left_out.map(|t| leaf_value(&tree_part(table, starts, t), values)));
+            *result = mean(left_out.map(|t| leaf_value(&tree_part(table, starts, t), values)));
         }
     }
     refusal

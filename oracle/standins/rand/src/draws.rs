@@ -54,7 +54,7 @@ impl fmt::Display for WeightedError {
 impl WeightedIndex<f64> {
     pub fn new(weights: &[f64]) -> Result<Self, WeightedError> {
         let total: f64 = weights.iter().sum();
-        let refused = weights.is_empty() || weights.iter().any(|w| !(*w >= 0.0));
+        let refused = weights.is_empty() || weights.iter().any(|w| w.is_nan() || *w < 0.0);
         if refused || total <= 0.0 {
             return Err(WeightedError);
         }
