@@ -2,10 +2,11 @@
 
 use crate::case::{self, Case};
 use crate::chance::Chance;
-use crate::library::{Library, Paper};
+use crate::library::Library;
 use crate::make_fit::{self, SMALL, Size};
 use crate::{
-    crafted, damage_fit, damage_read, differences, exhaustive, limits, make_read, own, rehearsal,
+    crafted, damage_fit, damage_read, differences, exhaustive, faults, limits, make_read, own,
+    rehearsal,
 };
 use std::process::ExitCode;
 use std::time::Instant;
@@ -48,6 +49,7 @@ pub fn make(chance: &mut Chance, size: Size) -> Case {
 pub fn fixed() -> Vec<Case> {
     let mut cases = rehearsal::cases();
     cases.extend(crafted::cases());
+    cases.extend(faults::cases());
     cases
 }
 
@@ -111,39 +113,40 @@ impl Tally {
     }
 }
 
-pub fn compare(count: usize) -> ExitCode {
+/// Holds a library against the first judge, and against what the makers of inputs know.
+pub fn compare(library: &dyn Library, count: usize) -> ExitCode {
     let since = Instant::now();
     let mut tally = Tally::new();
     let mut chance = Chance::new(1);
     for case in fixed() {
-        tally.hold(&case, &Paper);
+        tally.hold(&case, library);
     }
-    exhaustive::best(|case| tally.hold(&case, &Paper));
-    exhaustive::random(|case| tally.hold(&case, &Paper));
-    exhaustive::words(|case| tally.hold(&case, &Paper));
-    exhaustive::tables(|case| tally.hold(&case, &Paper));
-    exhaustive::checks(|case| tally.hold(&case, &Paper));
-    limits::each(&mut chance, |case| tally.hold(&case, &Paper));
+    exhaustive::best(|case| tally.hold(&case, library));
+    exhaustive::random(|case| tally.hold(&case, library));
+    exhaustive::words(|case| tally.hold(&case, library));
+    exhaustive::tables(|case| tally.hold(&case, library));
+    exhaustive::checks(|case| tally.hold(&case, library));
+    limits::each(&mut chance, |case| tally.hold(&case, library));
     for i in 0..count {
         let size = if i % 20 == 0 { MIDDLING } else { SMALL };
-        tally.hold(&make(&mut chance, size), &Paper);
+        tally.hold(&make(&mut chance, size), library);
     }
-    own::hold(&mut chance, count / 100, &mut tally);
-    differences::hold(&mut tally);
+    own::hold(library, &mut chance, count / 100, &mut tally);
+    differences::hold(library, &mut tally);
     tally.end("compare", since)
 }
 
 /// The deepest trees there are: some tens of seconds.
-pub fn longest() -> ExitCode {
+pub fn longest(library: &dyn Library) -> ExitCode {
     let since = Instant::now();
     let mut tally = Tally::new();
-    limits::longest(&mut Chance::new(3), |case| tally.hold(&case, &Paper));
+    limits::longest(&mut Chance::new(3), |case| tally.hold(&case, library));
     tally.end("longest", since)
 }
 
-/// Replays the list through the judges named; the copy answers what is marked as the Rust's.
+/// Replays the list through a library, the copy, or both; the copy answers what is marked as the Rust's.
 /// With `each`, tells the place of every case that differs.
-pub fn replay(file: &str, judges: &[&str], each: bool) -> ExitCode {
+pub fn replay(library: Option<&dyn Library>, copy: bool, file: &str, each: bool) -> ExitCode {
     let since = Instant::now();
     let mut tally = Tally::new();
     let text = std::fs::read_to_string(file).expect("the list");
@@ -157,16 +160,13 @@ pub fn replay(file: &str, judges: &[&str], each: bool) -> ExitCode {
     assert_eq!(said, lines.clone().count(), "the list's own count");
     for (place, line) in lines.enumerate() {
         let listed = case::parse(line);
-        for judge in judges {
-            let answer = match *judge {
-                "paper" => caught(|| listed.case.answer(&Paper)),
-                _ if listed.judge == 1 => caught(|| listed.case.expected()),
-                _ => continue,
-            };
-            if each && answer != listed.answer {
+        let by_library = library.map(|library| caught(|| listed.case.answer(library)));
+        let by_copy = (copy && listed.judge == 1).then(|| caught(|| listed.case.expected()));
+        for answer in by_library.iter().chain(&by_copy) {
+            if each && *answer != listed.answer {
                 println!("differs {place}");
             }
-            tally.answered(&listed.case, &listed.answer, &answer);
+            tally.answered(&listed.case, &listed.answer, answer);
         }
     }
     tally.end("replay", since)

@@ -144,10 +144,10 @@ pub fn default_tried(features: usize) -> Vec<Case> {
 }
 
 /// Two trees whose parts of the tapes are longer than they take, or a word or a threshold too short though the
-/// next tree's part would have it.
+/// next tree's part would have it; at last cut tables that fall.
 fn own_parts() -> Vec<Case> {
-    let parts = |words: u64, thresholds: u64| {
-        finished(Fit {
+    let parts = |words: u64, thresholds: u64, refusal: u32| {
+        let mut fit = Fit {
             forest: true,
             trees: 2,
             tried: None,
@@ -158,14 +158,18 @@ fn own_parts() -> Vec<Case> {
             word_cuts: vec![0, words, 4],
             threshold_cuts: vec![0, thresholds, 3],
             ..minus_zero_drawn()
-        })
+        };
+        make_fit::rooms(&mut Chance::new(0), &mut fit);
+        Case::fit(fit, refusal)
     };
     vec![
-        parts(3, 2),
-        parts(0, 1),
-        parts(1, 0),
-        parts(1, 3),
-        parts(4, 1),
+        parts(3, 2, 0),
+        parts(0, 1, 0),
+        parts(1, 0, 0),
+        parts(1, 3, 0),
+        parts(4, 1, 0),
+        parts(5, 1, 2),
+        parts(1, 4, 2),
     ]
 }
 

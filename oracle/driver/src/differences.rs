@@ -1,8 +1,8 @@
-//! What docs/DIFFERENCES.md says of its smallest inputs, held against both judges.
+//! What docs/DIFFERENCES.md says of its smallest inputs, held against the copy and a library.
 
 use crate::calls::{Call, Fit};
 use crate::compare::Tally;
-use crate::library::Paper;
+use crate::library::Library;
 use crate::make_fit::{self, data, params};
 use crate::{chance::Chance, expect, run};
 use copy::harness::{self, Grown, Readable};
@@ -26,11 +26,11 @@ fn rows(x: &[f64], y: &[f64]) -> Fit {
     }
 }
 
-/// The second judge's answer: refusal, nodes.
-fn paper(fit: &Fit) -> (u64, u64) {
+/// The library's answer: refusal, nodes.
+fn ours(library: &dyn Library, fit: &Fit) -> (u64, u64) {
     let mut fit = fit.clone();
     make_fit::rooms(&mut Chance::new(0), &mut fit);
-    let told = run::run(&Paper, &Call::Fit(fit)).told;
+    let told = run::run(library, &Call::Fit(fit)).told;
     (told[0], told[3])
 }
 
@@ -45,7 +45,8 @@ fn panics<T>(judge: impl Fn() -> T) -> bool {
     ended.is_err()
 }
 
-fn listings() -> Vec<(&'static str, bool)> {
+fn listings(library: &dyn Library) -> Vec<(&'static str, bool)> {
+    let paper = |fit: &Fit| ours(library, fit);
     let mut tenth = rows(&[1.0, 2.0, 3.0, 4.0], &[0.0, 0.0, 10.0, 10.0]);
     tenth.listings = vec![0, 1, 1, 3];
     let grown = copy(&tenth);
@@ -73,7 +74,8 @@ fn listings() -> Vec<(&'static str, bool)> {
     ]
 }
 
-fn weights() -> Vec<(&'static str, bool)> {
+fn weights(library: &dyn Library) -> Vec<(&'static str, bool)> {
+    let paper = |fit: &Fit| ours(library, fit);
     let weighted = |weight: f64| {
         let mut fit = rows(&[1.0], &[3.0]);
         fit.weights = vec![weight];
@@ -102,7 +104,8 @@ fn weights() -> Vec<(&'static str, bool)> {
     ]
 }
 
-fn numbers() -> Vec<(&'static str, bool)> {
+fn numbers(library: &dyn Library) -> Vec<(&'static str, bool)> {
+    let paper = |fit: &Fit| ours(library, fit);
     let ends = rows(&[f64::NEG_INFINITY, f64::INFINITY], &[0.0, 1.0]);
     let target = rows(&[1.0], &[f64::INFINITY]);
     let mut nan = rows(&[f64::NAN], &[5.0]);
@@ -138,8 +141,9 @@ fn numbers() -> Vec<(&'static str, bool)> {
     ]
 }
 
-pub fn hold(tally: &mut Tally) {
-    for (what, as_said) in [listings(), weights(), numbers()].concat() {
+pub fn hold(library: &dyn Library, tally: &mut Tally) {
+    let all = [listings(library), weights(library), numbers(library)];
+    for (what, as_said) in all.concat() {
         tally.inputs += 1;
         if !as_said {
             tally.differ(format!("docs/DIFFERENCES.md: {what}"));

@@ -10,6 +10,7 @@ mod damage_read;
 mod differences;
 mod exhaustive;
 pub mod expect;
+mod faults;
 mod floats;
 pub mod library;
 mod limits;

@@ -1,6 +1,6 @@
 //! The command: compares both judges, replays the list, and what the list is made with.
 
-use driver::{case::Case, chance::Chance, compare, mutants, pick};
+use driver::{case::Case, chance::Chance, compare, library::Paper, mutants, pick};
 use std::process::ExitCode;
 
 const USE: &str = "compare [COUNT] | longest | replay LIST | each LIST paper|copy | pool COUNT
@@ -10,11 +10,12 @@ fn main() -> ExitCode {
     let args: Vec<String> = std::env::args().skip(1).collect();
     let args: Vec<&str> = args.iter().map(String::as_str).collect();
     match args.as_slice() {
-        ["compare"] => return compare::compare(400_000),
-        ["compare", count] => return compare::compare(number(count)),
-        ["longest"] => return compare::longest(),
-        ["replay", list] => return compare::replay(list, &["paper", "copy"], false),
-        ["each", list, judge] => return compare::replay(list, &[judge], true),
+        ["compare"] => return compare::compare(&Paper, 400_000),
+        ["compare", count] => return compare::compare(&Paper, number(count)),
+        ["longest"] => return compare::longest(&Paper),
+        ["replay", list] => return compare::replay(Some(&Paper), true, list, false),
+        ["each", list, "paper"] => return compare::replay(Some(&Paper), false, list, true),
+        ["each", list, "copy"] => return compare::replay(None, true, list, true),
         ["pool", count] => pool(number(count)),
         // one line an edit, and whether it shows
         ["mutants", file] => mutants::parse(&read(file)).iter().for_each(|mutant| {

@@ -5,17 +5,17 @@ use crate::calls::{Call, Fit, Read, Reader, Table};
 use crate::chance::Chance;
 use crate::compare::Tally;
 use crate::floats;
-use crate::library::Paper;
+use crate::library::Library;
 use crate::make_fit::{self, data, params};
 use crate::outcome::{Outcome, bits};
 use crate::run;
 use copy::harness::{self, Tape};
 
-pub fn hold(chance: &mut Chance, count: usize, tally: &mut Tally) {
+pub fn hold(library: &dyn Library, chance: &mut Chance, count: usize, tally: &mut Tally) {
     for _ in 0..count {
-        let (fit, same) = forest(chance);
+        let (fit, same) = forest(library, chance);
         told(tally, same, &fit);
-        let (fit, same) = tree(chance);
+        let (fit, same) = tree(library, chance);
         told(tally, same, &fit);
     }
 }
@@ -38,11 +38,11 @@ fn base(chance: &mut Chance, forest: bool) -> Fit {
     fit
 }
 
-/// The second judge's fit over the draws that the crate made.
-fn played(chance: &mut Chance, fit: &mut Fit, tapes: &[Tape]) -> Outcome {
+/// The library's fit over the draws that the crate made.
+fn played(library: &dyn Library, chance: &mut Chance, fit: &mut Fit, tapes: &[Tape]) -> Outcome {
     make_fit::lay(fit, tapes);
     make_fit::rooms(chance, fit);
-    run::run(&Paper, &Call::Fit(fit.clone()))
+    run::run(library, &Call::Fit(fit.clone()))
 }
 
 /// The table that a fit left, for the readers.
@@ -60,14 +60,14 @@ fn table(left: &Outcome, nodes: usize) -> Table {
     }
 }
 
-fn forest(chance: &mut Chance) -> (Fit, bool) {
+fn forest(library: &dyn Library, chance: &mut Chance) -> (Fit, bool) {
     let mut fit = base(chance, true);
     let tried = fit.tried.map(|tried| tried as usize);
     let own = harness::own_forest(&data(&fit), &params(&fit), fit.trees, tried, chance.word())
         .expect("what the crate takes");
     fit.counts = own.counts;
     let tapes: Vec<Tape> = own.trees.iter().map(|tree| tree.made.clone()).collect();
-    let left = played(chance, &mut fit, &tapes);
+    let left = played(library, chance, &mut fit, &tapes);
     let nodes: Vec<_> = own.trees.iter().flat_map(|tree| tree.nodes()).collect();
     let columns = crate::expect::columns(&nodes);
     let starts = left.rooms[6].entries[..=fit.trees].iter();
@@ -84,18 +84,18 @@ fn forest(chance: &mut Chance) -> (Fit, bool) {
     let mut rooms = left.rooms.iter().zip(&columns);
     let same = left.told == [0; 3]
         && rooms.all(|(room, column)| room.entries.starts_with(column))
-        && reads(&read, Reader::ForestMeans, &own.means)
-        && reads(&read, Reader::OutOfBagMeans, &own.means_oob)
-        && reads(&read, Reader::ForestImportances, &own.importances);
+        && reads(library, &read, Reader::ForestMeans, &own.means)
+        && reads(library, &read, Reader::OutOfBagMeans, &own.means_oob)
+        && reads(library, &read, Reader::ForestImportances, &own.importances);
     (fit, same)
 }
 
-fn tree(chance: &mut Chance) -> (Fit, bool) {
+fn tree(library: &dyn Library, chance: &mut Chance) -> (Fit, bool) {
     let mut fit = base(chance, false);
     (fit.random, fit.tried) = (false, Some(fit.features as u32));
     fit.counts.fill(1);
     let own = harness::own_tree(&data(&fit), &params(&fit)).expect("what the crate takes");
-    let left = played(chance, &mut fit, std::slice::from_ref(&own.made));
+    let left = played(library, chance, &mut fit, std::slice::from_ref(&own.made));
     let read = Read {
         rows: fit.rows,
         features: fit.features,
@@ -105,16 +105,21 @@ fn tree(chance: &mut Chance) -> (Fit, bool) {
         ..Read::default()
     };
     let same = left.told[0] == 0
-        && reads(&read, Reader::Predictions, &own.predictions)
-        && reads(&read, Reader::NormalisedImportances, &own.normalised)
-        && reads(&read, Reader::ImportancesByMass, &own.by_mass);
+        && reads(library, &read, Reader::Predictions, &own.predictions)
+        && reads(
+            library,
+            &read,
+            Reader::NormalisedImportances,
+            &own.normalised,
+        )
+        && reads(library, &read, Reader::ImportancesByMass, &own.by_mass);
     (fit, same)
 }
 
-/// Whether the second judge's reader gives these results.
-fn reads(read: &Read, reader: Reader, results: &[f64]) -> bool {
+/// Whether the library's reader gives these results.
+fn reads(library: &dyn Library, read: &Read, reader: Reader, results: &[f64]) -> bool {
     let left = run::run(
-        &Paper,
+        library,
         &Call::Read(Read {
             reader,
             out: results.len(),
