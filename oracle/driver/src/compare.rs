@@ -1,5 +1,6 @@
 //! Both judges against each other, on made inputs or on the fixed list.
 
+use crate::calls::Call;
 use crate::case::{self, Case};
 use crate::chance::Chance;
 use crate::library::Library;
@@ -43,6 +44,21 @@ pub fn make(chance: &mut Chance, size: Size) -> Case {
         _ => {}
     }
     Case::fit(fit, refusal)
+}
+
+/// A case that is made again, up to three times, while no tree of it goes beyond its root's search.
+fn make_growing(chance: &mut Chance, size: Size) -> Case {
+    let bare = |case: &Case| match &case.call {
+        Call::Fit(fit) => case.refusal == 0 && fit.words.len() <= fit.trees * fit.features,
+        Call::Read(_) => false,
+    };
+    let mut case = make(chance, size);
+    for _ in 0..3 {
+        if bare(&case) {
+            case = make(chance, size);
+        }
+    }
+    case
 }
 
 /// The cases that are not left to chance.
@@ -129,7 +145,7 @@ pub fn compare(library: &dyn Library, count: usize) -> ExitCode {
     limits::each(&mut chance, |case| tally.hold(&case, library));
     for i in 0..count {
         let size = if i % 20 == 0 { MIDDLING } else { SMALL };
-        tally.hold(&make(&mut chance, size), library);
+        tally.hold(&make_growing(&mut chance, size), library);
     }
     own::hold(library, &mut chance, count / 100, &mut tally);
     differences::hold(library, &mut tally);

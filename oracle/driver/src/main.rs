@@ -10,7 +10,7 @@ fn main() -> ExitCode {
     let args: Vec<String> = std::env::args().skip(1).collect();
     let args: Vec<&str> = args.iter().map(String::as_str).collect();
     match args.as_slice() {
-        ["compare"] => return compare::compare(&Paper, 400_000),
+        ["compare"] => return compare::compare(&Paper, 600_000),
         ["compare", count] => return compare::compare(&Paper, number(count)),
         ["longest"] => return compare::longest(&Paper),
         ["replay", list] => return compare::replay(Some(&Paper), true, list, false),

@@ -1,12 +1,28 @@
 //! Picks the fixed list out of a pool: cases that find each edit, and some of each kind and refusal.
 
-use crate::{case, compare};
+use crate::calls::Call;
+use crate::{case, compare, wire};
 use std::collections::BTreeMap;
 
 /// How many cases should find an edit, where the pool has so many.
 const FINDERS: usize = 3;
-/// How many cases of a kind with one refusal are taken at least.
-const OF_A_KIND: usize = 6;
+/// How many cases of a kind with one refusal are taken at least: most of what the Rust answers.
+fn of_a_kind(kind: u64, refusal: usize) -> usize {
+    match (kind, refusal) {
+        (1, 0) => 190,
+        (2, 0) => 60,
+        (1 | 2, 7) => 25,
+        (3..=8, 0) => 15,
+        _ => 6,
+    }
+}
+
+/// A tree that never split tells little.
+fn bare(listed: &case::Listed) -> bool {
+    matches!(&listed.case.call, Call::Fit(fit) if !fit.forest)
+        && listed.answer[0] == 0
+        && listed.answer[3] == 1
+}
 
 /// `found` holds, for each edit, the places in the pool of the cases that find it.
 /// The cases that are not left to chance stand first, and are all taken.
@@ -42,21 +58,19 @@ pub fn pick(pool: &[&str], found: &[Vec<usize>]) -> Vec<usize> {
 }
 
 fn of_each_kind(pool: &[&str], taken: &mut [bool]) {
+    let pool: Vec<case::Listed> = pool.iter().map(|line| case::parse(line)).collect();
     let mut have: BTreeMap<(u64, usize), usize> = BTreeMap::new();
-    let kinds: Vec<(u64, usize)> = pool
-        .iter()
-        .map(|line| {
-            let listed = case::parse(line);
-            let kind = crate::wire::kind(&listed.case.call);
-            (kind, listed.case.told_refusal(&listed.answer))
-        })
-        .collect();
-    for (place, kind) in kinds.iter().enumerate() {
-        *have.entry(*kind).or_default() += usize::from(taken[place]);
+    let kind = |listed: &case::Listed| {
+        let refusal = listed.case.told_refusal(&listed.answer);
+        (wire::kind(&listed.case.call), refusal)
+    };
+    for (place, listed) in pool.iter().enumerate() {
+        *have.entry(kind(listed)).or_default() += usize::from(taken[place]);
     }
-    for (place, kind) in kinds.iter().enumerate() {
-        let count = have.entry(*kind).or_default();
-        if !taken[place] && *count < OF_A_KIND {
+    for (place, listed) in pool.iter().enumerate() {
+        let (kind, refusal) = kind(listed);
+        let count = have.entry((kind, refusal)).or_default();
+        if !taken[place] && !bare(listed) && *count < of_a_kind(kind, refusal) {
             *count += 1;
             taken[place] = true;
         }
