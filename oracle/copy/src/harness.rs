@@ -10,7 +10,7 @@ use crate::tree::decision_tree_regressor::{
 pub use rand::tape::Tape;
 use rand::tape::{self, Told};
 
-/// A node as document 01 writes it: a leaf's feature, threshold and score are 0.
+/// A node as the rules write it: a leaf's feature, threshold and score are 0.
 #[derive(Clone, Copy, Debug, Default)]
 pub struct NodeRecord {
     pub value: f64,

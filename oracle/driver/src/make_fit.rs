@@ -1,4 +1,4 @@
-//! Fits that document 01 accepts, by how they are built. Draws are made by the copy and kept as tapes.
+//! Fits that the rules accept, by how they are built. Draws are made by the copy and kept as tapes.
 
 use crate::calls::Fit;
 use crate::chance::Chance;
