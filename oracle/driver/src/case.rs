@@ -91,3 +91,17 @@ pub fn parse(line: &str) -> Listed {
         answer,
     }
 }
+
+/// All cases of a list, as many as its first line says.
+pub fn read_list(file: &str) -> Vec<Listed> {
+    let text = std::fs::read_to_string(file).expect("a list to read");
+    let mut lines = text.lines();
+    let head = lines.next().and_then(|line| line.split_once(' '));
+    let (count, longest) = head.expect("how many cases, and how long the longest is");
+    let lines: Vec<&str> = lines.collect();
+    let numbers = |line: &&str| line.split(' ').count();
+    let measured = lines.iter().map(numbers).max().unwrap_or(0);
+    assert_eq!(count.parse(), Ok(lines.len()), "cases");
+    assert_eq!(longest.parse(), Ok(measured), "numbers in the longest line");
+    lines.into_iter().map(parse).collect()
+}
