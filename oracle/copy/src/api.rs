@@ -1,4 +1,4 @@
-//! tailboardy: the two traits that `decision_tree_regressor.rs` implements: their file is not among the published ones at hand.
+//! tailboardy: the two traits that `decision_tree_regressor.rs` implements; their file is not at hand.
 
 use crate::error::Failed;
 

@@ -111,6 +111,8 @@ fn numbers(library: &dyn Library) -> Vec<(&'static str, bool)> {
     let mut nan = rows(&[f64::NAN], &[5.0]);
     (nan.least_leaf, nan.least_split, nan.limit) = (0, 1, Some(2));
     let nan_nodes = copy(&nan).nodes();
+    let mut endless = nan.clone();
+    (endless.limit, endless.words) = (None, vec![0; 65_535]);
     let mut count = rows(&[1.0], &[1.0]);
     count.counts = vec![65_536];
     let mut wide = rows(&[-1.7e308, 1.7e308], &[0.0, 1.0]);
@@ -128,6 +130,10 @@ fn numbers(library: &dyn Library) -> Vec<(&'static str, bool)> {
         (
             "a value of NaN",
             nan_nodes.len() == 3 && nan_nodes[0].threshold.is_nan() && paper(&nan) == (3, 0),
+        ),
+        (
+            "a value of NaN and no limit",
+            copy(&endless).depth() == 65_535 && paper(&endless) == (3, 0),
         ),
         (
             "a count of 65,536",
