@@ -1,0 +1,82 @@
+-- `search::true_side` meets its contract: the loop's invariant: the side so far, then the rest of the column, makes the whole side. Assumes nothing.
+use native.Mathlib.Omega.{arith}
+use mathlib.Core.Path.{_≡_, refl, sym, _∙_, subst}
+use Prim.Native.Nat.{_+_, _-_, _≤_, _<_}
+use mathlib.Core.List.{map}
+use lib.ListN.{length, getD, drop}
+use Rattle.search.specs.Flat.{elementOf}
+use Rattle.rules.specs.Search.{tally}
+use Rattle.rules.specs.Totals.{empty}
+use Rattle.search.specs.Laws.{cell-here, turn-fits, onto, turn-side, turn-most, side-end}
+use borrow.Author.Needs.{needs}
+use Rattle.search.proofs.true_side.Statement.{statement}
+use Rattle.search.proofs.true_side.Tie as tie
+
+abbrev Inv-loop : tie.InvT-loop
+Inv-loop x y weights counts col rows features j t most s₀ i₀ s i =
+    (i ≤ length col)
+    × (s .count + tally (map (elementOf features (record { x = x; y = y; weights = weights; counts = counts })) (drop i col)) ≤ most)
+    × (onto (record { feature = j; threshold = t }) s (map (elementOf features (record { x = x; y = y; weights = weights; counts = counts })) (drop i col)) ≡ onto (record { feature = j; threshold = t }) (record { totals = empty; count = 0 }) (map (elementOf features (record { x = x; y = y; weights = weights; counts = counts })) col))
+
+abbrev μ-loop : tie.MeasureT-loop
+μ-loop x y weights counts col rows features j t most s₀ i₀ s i = length col - i
+
+loop-holds : tie.Need-loop-holds Inv-loop μ-loop
+loop-holds c = (omega arith, omega (arith, c .before .before .before .before .before .pre .1 .1), refl)
+
+wide-requires : tie.Need-wide-requires Inv-loop μ-loop
+wide-requires c κs = search needs
+
+mul-wide : tie.Need-mul-wide Inv-loop μ-loop
+mul-wide c = search needs
+
+shared-slice-read-wide : tie.Need-shared-slice-read-wide Inv-loop μ-loop
+shared-slice-read-wide c = search needs
+
+wide-requires-2 : tie.Need-wide-requires-2 Inv-loop μ-loop
+wide-requires-2 c κs = search needs
+
+cell-of-requires : tie.Need-cell-of-requires Inv-loop μ-loop
+cell-of-requires c κs =
+    let s = c .before .before .before .before .before .before .before .before .before .before .pre in
+    (s .1 .0 .0, subst (λ n. n < c .before .before .before .before .before .before .before .before .before .before .args .rows) (sym (c .wide2 .ensures)) (s .0 (c .before .before .before .before .loop .i) (c .before .before .before .loop-test .taken)), subst (λ n. n < c .before .before .before .before .before .before .before .before .before .before .args .features) (sym (c .before .before .wide .ensures)) (s .1 .0 .1))
+
+joined-if-requires : tie.Need-joined-if-requires Inv-loop μ-loop
+joined-if-requires c κs = let a = c .before .before .before .before .before .before .before .before .before .before .before .args in let l = c .before .before .before .before .before .loop in omega (arith, turn-fits (elementOf (a .features) (record { x = a .x .now; y = a .y .now; weights = a .weights .now; counts = a .counts .now })) (a .col .now) (l .i) (c .before .before .before .before .loop-test .taken) (a .j) (l .s .count) (a .most) (cell-here (a .features) (record { x = a .x .now; y = a .y .now; weights = a .weights .now; counts = a .counts .now }) (a .j) (getD (a .col .now) (l .i) 0) (c .cell-of .ensures) (c .before .before .before .wide .ensures) (c .before .wide2 .ensures)) (l .inv .1), c .before .before .before .before .before .before .before .before .before .before .before .fits .most)
+
+add-i : tie.Need-add-i Inv-loop μ-loop
+add-i c = omega (arith, c .before .before .before .before .before .loop-test .taken, c .before .before .before .before .before .before .before .before .before .before .before .before .good .1 .1 .1 .1 .0 .0)
+
+loop-less : tie.Need-loop-less Inv-loop μ-loop
+loop-less c = search needs
+
+loop-again : tie.Need-loop-again Inv-loop μ-loop
+loop-again c =
+    let a = c .before .before .before .before .before .before .before .before .before .before .before .before .args in
+    let l = c .before .before .before .before .before .before .loop in
+    let e = cell-here (a .features) (record { x = a .x .now; y = a .y .now; weights = a .weights .now; counts = a .counts .now }) (a .j) (getD (a .col .now) (l .i) 0) (c .before .cell-of .ensures) (c .before .before .before .before .wide .ensures) (c .before .before .wide2 .ensures) in (
+      omega arith,
+      turn-most (elementOf (a .features) (record { x = a .x .now; y = a .y .now; weights = a .weights .now; counts = a .counts .now })) (a .col .now) (l .i) (c .before .before .before .before .before .loop-test .taken) (a .j) (a .t) (l .s) (a .most) e (c .joined-if .ensures) (l .inv .1),
+      turn-side (elementOf (a .features) (record { x = a .x .now; y = a .y .now; weights = a .weights .now; counts = a .counts .now })) (a .col .now) (l .i) (c .before .before .before .before .before .loop-test .taken) (a .j) (a .t) (l .s) e (c .joined-if .ensures) ∙ l .inv .2,
+    )
+
+returns : tie.Need-returns Inv-loop μ-loop
+returns c = let a = c .before .before .before .before .before .before .before .args in let l = c .before .loop in (side-end (elementOf (a .features) (record { x = a .x .now; y = a .y .now; weights = a .weights .now; counts = a .counts .now })) (a .col .now) (l .i) (c .loop-test .left) (record { feature = a .j; threshold = a .t }) (l .s) (l .inv .2), omega (arith, l .inv .1))
+
+pub true-side-spec : {M : Type 1} → statement M
+true-side-spec =
+    tie.close
+    (tie.spec
+    Inv-loop
+    μ-loop
+    loop-holds
+    wide-requires
+    mul-wide
+    shared-slice-read-wide
+    wide-requires-2
+    cell-of-requires
+    joined-if-requires
+    add-i
+    loop-less
+    loop-again
+    returns)

@@ -1,0 +1,130 @@
+-- The flat tables that the code is lent, and the elements that their rows stand for. Assumes nothing.
+use Prim.Native.Nat.{ℕ, _+_, _-_, _*_, _<_, _≤_}
+use mathlib.Core.Path.{_≡_, refl}
+use mathlib.Core.Bool.{cond}
+use mathlib.Core.List.{List, [], map}
+use lib.ListN.{length, getD, take, drop}
+use lib.Ieee.{Float, le, eq}
+use Rattle.rules.specs.declared.Params.{Params}
+use Rattle.rules.specs.declared.Held.{Held}
+use Rattle.rules.specs.declared.Held.the-variants.{Nothing, Holds}
+use Rattle.rules.specs.declared.Walk.{Walk}
+use Rattle.rules.specs.Search.{Element, Column, Task, at, candidateAt, step, tally, totals, Tries, drawn, search, Found, uncut, cut}
+use Rattle.rules.specs.Totals.{takeIn, empty}
+use Rattle.rules.specs.Words.{from}
+use Rattle.rules.specs.Draws.{Out, bad, ok, bind, Tapes, nextThreshold, tape}
+use Rattle.rules.specs.Fit.{elementIn}
+use Rattle.search.specs.declared.Asked.{Asked}
+use Rattle.search.specs.declared.Cell.{Cell}
+use Rattle.search.specs.declared.Drawn.{Drawn}
+use Rattle.search.specs.declared.Search.{Search}
+use Rattle.search.specs.declared.Search.the-variants as S
+use Rattle.search.specs.declared.Tried.{Tried}
+use Rattle.search.specs.declared.Tried.the-variants.{Refused, Goes}
+
+-- x lies row after row; no weights at all is an empty list
+pub record Tables : Type 0 where
+  pub x : List Float
+  pub y : List Float
+  pub weights : List Float
+  pub counts : List ℕ
+
+pub record Shaped (rows features : ℕ) (t : Tables) : Type 0 where
+  pub wide : length (t .x) ≡ rows * features
+  pub targets : length (t .y) ≡ rows
+  pub counted : length (t .counts) ≡ rows
+  pub weighed : 0 < length (t .weights) → length (t .weights) ≡ rows
+
+abbrev pub elementOf : ℕ → Tables → ℕ → Element
+elementOf f t i = elementIn f (t .x) (t .y) (t .weights) (t .counts) i
+
+unfoldable pub cellOf : ℕ → Element → Cell
+cellOf j e = record { count = e .count; mass = e .mass; target = e .target; value = at j e }
+
+-- each number of l is below n
+abbrev pub Below : ℕ → List ℕ → Type 0
+Below n l = (k : ℕ) → k < length l → getD l k 0 < n
+
+-- a task of which only totals and count are searchable
+abbrev pub bare : Asked → Task
+bare a = record { columns = []; totals = a .totals; count = a .count }
+
+unfoldable pub stepIn : Params → Asked → ℕ → Walk → Cell → Walk
+stepIn P a j w e =
+    record {
+      before = takeIn (w .before) (e .target) (e .mass);
+      count = w .count + e .count;
+      last = cond (eq (e .value) (w .last)) (w .last) (e .value);
+      best = candidateAt (eq (e .value) (w .last)) P (bare a) j (e .value) w;
+    }
+
+pub step-cell : (P : Params) (a : Asked) (j : ℕ) (w : Walk) (e : Element) → stepIn P a j w (cellOf j e) ≡ step P (bare a) j w e
+unfolding stepIn step cellOf
+step-cell P a j w e = refl
+
+unfoldable pub joinIn : Asked → Cell → Asked
+joinIn s e = record { totals = takeIn (s .totals) (e .target) (e .mass); count = s .count + e .count }
+
+unfoldable pub sideStep : Float → Asked → Cell → Asked
+sideStep t s e = cond (le (e .value) t) (joinIn s e) s
+
+-- what a side holds
+abbrev pub sideOn : Column → Asked
+sideOn es = record { totals = totals empty es; count = tally es }
+
+-- ---- what is left of the tapes
+abbrev pub left : List ℕ → List Float → ℕ → ℕ → Tapes
+left W M s m = record { words = W; thresholds = drop m M; searches = s }
+
+abbrev pub meantTries : List ℕ → List Float → ℕ → Tried → Out (Tries Tapes)
+meantTries W M s Refused = bad s
+meantTries W M s (Goes h m) = ok (record { best = h; left = left W M s m })
+
+-- a threshold is taken and judged
+unfoldable pub drawAt : Params → Task → ℕ → Held → Column → Tapes → Float → Float → Out (Tries Tapes)
+drawAt P task j h es d lo hi = bind (nextThreshold (d .thresholds) lo hi d) (λ m. ok (record { best = drawn P task j h es (m .0); left = m .1 }))
+
+-- ---- a node in the work columns, which lie one after another, each `rows` long: its rows from a to e of column k
+abbrev pub part : ℕ → List ℕ → ℕ → ℕ → ℕ → List ℕ
+part rows cols a e k = take (e - a) (drop (k * rows + a) cols)
+
+unfoldable pub columnsAt : (ℕ → Element) → ℕ → ℕ → List ℕ → ℕ → ℕ → List Column
+columnsAt el rows features cols a e = map (λ k. map el (part rows cols a e k)) (from 0 features)
+
+abbrev pub taskAt : ℕ → ℕ → ℕ → ℕ → Tables → List ℕ → Asked → Task
+taskAt rows features a e t cols q = record { columns = columnsAt (elementOf features t) rows features cols a e; totals = q .totals; count = q .count }
+
+-- what the search of a node asks
+pub record NodeAsks (rows features a e : ℕ) (t : Tables) (cols : List ℕ) (count : ℕ) : Type 0 where
+  pub shape : Shaped rows features t
+  pub long : length cols ≡ features * rows
+  pub order : a ≤ e
+  pub high : e ≤ rows
+  pub below : (k : ℕ) → k < features → Below rows (part rows cols a e k)
+  pub room : (k : ℕ) → k < features → tally (map (elementOf features t) (part rows cols a e k)) ≤ count
+
+-- ---- the tapes from where they are used to
+abbrev pub drawsAt : List ℕ → List Float → Drawn → Tapes
+drawsAt W M d = record { words = drop (d .words) W; thresholds = drop (d .thresholds) M; searches = d .searches }
+
+abbrev pub Fair : List ℕ → Drawn → Type 0
+Fair W d = (d .words ≤ length W) × (d .searches ≤ d .words)
+
+abbrev pub answerOf : Held → Drawn → Search
+answerOf Nothing d = S.Uncut d
+answerOf (Holds c q) d = S.Found c d
+
+-- the answer of a search that began with d as the definition has it
+abbrev pub meant : List ℕ → List Float → Drawn → Search → Out (Found × Tapes)
+meant W M d S.Refused = bad (d .searches)
+meant W M d (S.Uncut e) = ok (uncut, drawsAt W M e)
+meant W M d (S.Found c e) = ok (cut c, drawsAt W M e)
+
+abbrev pub FairAfter : List ℕ → Search → Type 0
+FairAfter W S.Refused = Unit {0}
+FairAfter W (S.Uncut d) = Fair W d
+FairAfter W (S.Found c d) = Fair W d
+
+pub record Searched (P : Params) (W : List ℕ) (M : List Float) (task : Task) (d : Drawn) (r : Search) : Type 0 where
+  pub same : meant W M d r ≡ search (tape (P .features)) P (drawsAt W M d) task
+  pub fair : FairAfter W r

@@ -1,0 +1,180 @@
+-- The definition by the code's branches. Each law takes what the tests and the calls on the way gave, in their order. Assumes nothing.
+use Prim.Native.Nat.{ℕ, suc, _+_, _-_, _*_, _<_, _≤_}
+use native.Mathlib.Nat.{mul-le-mul-right, suc-mul, add-assoc, zero-add}
+use native.Mathlib.Omega.{arith}
+use native.Mathlib.Numerals.{add-one}
+use mathlib.Core.Path.{_≡_, refl, sym, ap, _∙_}
+use mathlib.Core.Bool.{Bool, true, false, cond}
+use mathlib.Core.List.{List, [], _∷_, map}
+use lib.ListN.{length, getD, drop, drop-of-length-le}
+use lib.Seq.{drop-cons, getD-take, getD-drop}
+use lib.Dec.{ltb}
+use lib.Ieee.{Float, nan, le, eq}
+use Rattle.rules.specs.declared.Totals.{Totals}
+use Rattle.rules.specs.declared.Params.{Params}
+use Rattle.rules.specs.declared.Cut.{Cut}
+use Rattle.rules.specs.declared.Held.{Held}
+use Rattle.rules.specs.declared.Walk.{Walk}
+use Rattle.rules.specs.Search.{Element, Column, at, better, judge, candidateAt, walk, bestIn, tally, totals, trueSide, goesTrue}
+use Rattle.rules.specs.Words.{total, keep, putIf}
+use Rattle.rules.specs.Totals.{takeIn, less, proxy, empty}
+use Rattle.rules.specs.Lent.{valuesAt, countIn, massIn}
+use Rattle.rules.specs.Fit.{elementIn}
+use Rattle.rules.specs.Threshold.{threshold}
+use Rattle.search.specs.declared.Asked.{Asked}
+use Rattle.search.specs.declared.Cell.{Cell}
+use Rattle.search.specs.Flat.{Tables, elementOf, cellOf, bare, stepIn, step-cell, joinIn, sideStep, sideOn}
+
+pub judge-few : (P : Params) (a : Asked) (h : Held) (t : Totals) (k : ℕ) (c : Cut) → ltb k (P .leaf) ≡ true → h ≡ judge P (bare a) h t k c
+unfolding judge
+judge-few P a h t k c e = sym (ap (λ x. cond x h (cond (ltb (a .count - k) (P .leaf)) h (better h c (proxy t (less (a .totals) t))))) e)
+
+pub judge-left : (P : Params) (a : Asked) (h : Held) (t : Totals) (k : ℕ) (c : Cut) → ltb k (P .leaf) ≡ false → ltb (a .count - k) (P .leaf) ≡ true → h ≡ judge P (bare a) h t k c
+unfolding judge
+judge-left P a h t k c d e =
+    sym (ap (λ x. cond x h (cond (ltb (a .count - k) (P .leaf)) h (better h c (proxy t (less (a .totals) t))))) d
+    ∙ ap (λ x. cond x h (better h c (proxy t (less (a .totals) t)))) e)
+
+pub judge-goes : (P : Params) (a : Asked) (h : Held) (t : Totals) (k : ℕ) (c : Cut) {f : Totals} {q : Float} {r : Held} → ltb k (P .leaf) ≡ false → ltb (a .count - k) (P .leaf) ≡ false
+    → f ≡ less (a .totals) t → q ≡ proxy t f → r ≡ better h c q → r ≡ judge P (bare a) h t k c
+unfolding judge
+judge-goes P a h t k c d e ef eq′ er =
+    er ∙ ap (λ q. better h c q) (eq′ ∙ ap (proxy t) ef)
+    ∙ sym (ap (λ x. cond x h (cond (ltb (a .count - k) (P .leaf)) h (better h c (proxy t (less (a .totals) t))))) d
+    ∙ ap (λ x. cond x h (better h c (proxy t (less (a .totals) t)))) e)
+
+pub step-same : (P : Params) (a : Asked) (j : ℕ) (w : Walk) (e : Cell) {b : Totals} → b ≡ takeIn (w .before) (e .target) (e .mass) → eq (e .value) (w .last) ≡ true
+    → _≡_ {A = Walk} (record { before = b; count = w .count + e .count; last = w .last; best = w .best }) (stepIn P a j w e)
+unfolding stepIn candidateAt
+step-same P a j w e eb t = λ i.
+    record {
+      before = eb i;
+      count = w .count + e .count;
+      last = sym (ap (λ z. cond z (w .last) (e .value)) t) i;
+      best = sym (ap (λ z. candidateAt z P (bare a) j (e .value) w) t) i;
+    }
+
+pub step-new : (P : Params) (a : Asked) (j : ℕ) (w : Walk) (e : Cell) {b : Totals} {t : Float} {h : Held} → b ≡ takeIn (w .before) (e .target) (e .mass) → eq (e .value) (w .last) ≡ false
+    → t ≡ threshold (w .last) (e .value) → h ≡ judge P (bare a) (w .best) (w .before) (w .count) (record { feature = j; threshold = t })
+    → _≡_ {A = Walk} (record { before = b; count = w .count + e .count; last = e .value; best = h }) (stepIn P a j w e)
+unfolding stepIn candidateAt
+step-new P a j w e eb n et eh = λ i.
+    record {
+      before = eb i;
+      count = w .count + e .count;
+      last = sym (ap (λ z. cond z (w .last) (e .value)) n) i;
+      best =
+          (eh ∙ ap (λ t. judge P (bare a) (w .best) (w .before) (w .count) (record { feature = j; threshold = t })) et
+          ∙ sym (ap (λ z. candidateAt z P (bare a) j (e .value) w) n)) i;
+    }
+
+pub place : (r n f j : ℕ) {l : ℕ} → r < n → l ≡ n * f → j < f → r * f + j < l
+place r n f j hr hl hj =
+    let h : suc r * f ≤ n * f = mul-le-mul-right f hr in
+    omega (arith, h, hl, suc-mul r f)
+
+pub cell-is : (f : ℕ) (t : Tables) (j i : ℕ) {m v : Float} → j < f → m ≡ massIn (t .weights) (t .counts) i → v ≡ getD (t .x) (i * f + j) nan
+    → _≡_ {A = Cell} (record { count = getD (t .counts) i 0; mass = m; target = getD (t .y) i nan; value = v }) (cellOf j (elementOf f t i))
+unfolding cellOf elementIn valuesAt countIn at
+cell-is f t j i {m} {v} h em ev = λ k.
+    record {
+      count = getD (t .counts) i 0;
+      mass = em k;
+      target = getD (t .y) i nan;
+      value = (ev ∙ sym (getD-take f (drop (i * f) (t .x)) j nan h ∙ getD-drop (i * f) (t .x) j nan)) k;
+    }
+
+-- a cell that was read at numbers that are equal to these
+pub cell-here : (f : ℕ) (t : Tables) (j i : ℕ) {j′ i′ : ℕ} {e : Cell} → e ≡ cellOf j′ (elementOf f t i′) → j′ ≡ j → i′ ≡ i → e ≡ cellOf j (elementOf f t i)
+cell-here f t j i {j′} {i′} h a b = h ∙ ap (λ n. cellOf n (elementOf f t i′)) a ∙ ap (λ n. cellOf j (elementOf f t n)) b
+
+-- ---- a loop over a column is a fold: one turn at place i, by what is left of the column
+
+module _ (el : ℕ → Element) (l : List ℕ) (i : ℕ) (h : i < length l) where
+  pub ahead : map el (drop i l) ≡ el (getD l i 0) ∷ map el (drop (i + 1) l)
+  ahead = ap (map el) (drop-cons l i 0 h) ∙ ap (λ k. el (getD l i 0) ∷ map el (drop k l)) (sym (add-one i))
+
+  pub turn-walk : (P : Params) (a : Asked) (j : ℕ) (v : Walk) {e : Cell} {v′ : Walk} → e ≡ cellOf j (el (getD l i 0)) → v′ ≡ stepIn P a j v e
+      → walk P (bare a) j v′ (map el (drop (i + 1) l)) ≡ walk P (bare a) j v (map el (drop i l))
+  unfolding walk
+  turn-walk P a j v ee ev =
+      ap (λ u. walk P (bare a) j u (map el (drop (i + 1) l))) (ev ∙ ap (stepIn P a j v) ee ∙ step-cell P a j v (el (getD l i 0))) ∙ sym (ap (walk P (bare a) j v) ahead)
+
+  pub turn-fits : (j c n : ℕ) {e : Cell} → e ≡ cellOf j (el (getD l i 0)) → c + tally (map el (drop i l)) ≤ n → c + e .count ≤ n
+  unfolding total cellOf
+  turn-fits j c n {e} ee b = omega (arith, b, ap tally ahead, ap (λ (x : Cell). x .count) ee)
+
+  pub turn-room : (P : Params) (a : Asked) (j : ℕ) (v : Walk) (n : ℕ) {e : Cell} {v′ : Walk} → e ≡ cellOf j (el (getD l i 0)) → v′ ≡ stepIn P a j v e
+      → v .count + tally (map el (drop i l)) ≤ n → v′ .count + tally (map el (drop (i + 1) l)) ≤ n
+  unfolding total cellOf stepIn
+  turn-room P a j v n {e} {v′} ee ev b = omega (arith, b, ap tally ahead, ap (λ (x : Cell). x .count) ee, ap (λ (x : Walk). x .count) ev)
+
+pub turn-end : (el : ℕ → Element) (l : List ℕ) (i : ℕ) → length l ≤ i → (P : Params) (a : Asked) (j : ℕ) (v : Walk) → walk P (bare a) j v (map el (drop i l)) ≡ v
+unfolding walk
+turn-end el l i h P a j v = ap (λ r. walk P (bare a) j v (map el r)) (drop-of-length-le l h)
+
+-- ---- the true side, gathered row by row onto what stands
+
+abbrev pub onto : Cut → Asked → Column → Asked
+onto c s es = record { totals = totals (s .totals) (trueSide c es); count = s .count + tally (trueSide c es) }
+
+onto-step : (c : Cut) (s : Asked) (e : Element) (es : Column) → onto c (sideStep (c .threshold) s (cellOf (c .feature) e)) es ≡ onto c s (e ∷ es)
+unfolding sideStep cellOf keep goesTrue joinIn total totals putIf
+onto-step c s e es = go (le (at (c .feature) e) (c .threshold))
+  where
+    go : (b : Bool) → onto c (cond b (joinIn s (cellOf (c .feature) e)) s) es
+        ≡ record { totals = totals (s .totals) (putIf b e (trueSide c es)); count = s .count + tally (putIf b e (trueSide c es)) }
+    go true = λ i. record { totals = totals (takeIn (s .totals) (e .target) (e .mass)) (trueSide c es); count = add-assoc (s .count) (e .count) (tally (trueSide c es)) i }
+    go false = refl
+
+side-most : (t : Float) (s : Asked) (e : Cell) → sideStep t s e .count ≤ s .count + e .count
+unfolding sideStep joinIn
+side-most t s e = go (le (e .value) t)
+  where
+    go : (b : Bool) → cond b (joinIn s e) s .count ≤ s .count + e .count
+    go true = omega arith
+    go false = omega arith
+
+module _ (el : ℕ → Element) (l : List ℕ) (i : ℕ) (h : i < length l) where
+  pub turn-side : (j : ℕ) (t : Float) (s : Asked) {e : Cell} {s′ : Asked} → e ≡ cellOf j (el (getD l i 0)) → s′ ≡ sideStep t s e
+      → onto (record { feature = j; threshold = t }) s′ (map el (drop (i + 1) l)) ≡ onto (record { feature = j; threshold = t }) s (map el (drop i l))
+  turn-side j t s ee es =
+      ap (λ u. onto (record { feature = j; threshold = t }) u (map el (drop (i + 1) l))) (es ∙ ap (sideStep t s) ee)
+      ∙ onto-step (record { feature = j; threshold = t }) s (el (getD l i 0)) (map el (drop (i + 1) l))
+      ∙ sym (ap (onto (record { feature = j; threshold = t }) s) (ahead el l i h))
+
+  pub turn-most : (j : ℕ) (t : Float) (s : Asked) (n : ℕ) {e : Cell} {s′ : Asked} → e ≡ cellOf j (el (getD l i 0)) → s′ ≡ sideStep t s e
+      → s .count + tally (map el (drop i l)) ≤ n → s′ .count + tally (map el (drop (i + 1) l)) ≤ n
+  unfolding total cellOf
+  turn-most j t s n {e} {s′} ee es b = omega (arith, b, ap tally (ahead el l i h), ap (λ (x : Cell). x .count) ee, ap (λ (x : Asked). x .count) es, side-most t s e)
+
+pub side-end : (el : ℕ → Element) (l : List ℕ) (i : ℕ) → length l ≤ i → (c : Cut) (s : Asked) → onto c s (map el (drop i l)) ≡ onto c (record { totals = empty; count = 0 }) (map el l)
+    → s ≡ sideOn (trueSide c (map el l))
+unfolding keep totals total
+side-end el l i h c s e =
+    (λ k. record { totals = s .totals; count = sym (add-zero′ (s .count)) k })
+    ∙ sym (ap (λ r. onto c s (map el r)) (drop-of-length-le l h)) ∙ e
+    ∙ (λ k. record { totals = totals empty (trueSide c (map el l)); count = zero-add (tally (trueSide c (map el l))) k })
+  where
+    add-zero′ : (n : ℕ) → n + 0 ≡ n
+    add-zero′ n = omega arith
+
+-- ---- the first of a column
+
+pub value-is : (f : ℕ) (t : Tables) (j i : ℕ) {v : Float} {j′ i′ : ℕ} → j < f → v ≡ getD (t .x) (i′ * f + j′) nan → j′ ≡ j → i′ ≡ i → v ≡ at j (elementOf f t i)
+unfolding at elementIn valuesAt
+value-is f t j i {v} {j′} {i′} h ev ej ei =
+    ev ∙ ap (λ n. getD (t .x) (n * f + j′) nan) ei ∙ ap (λ n. getD (t .x) (i * f + n) nan) ej
+    ∙ sym (getD-take f (drop (i * f) (t .x)) j nan h ∙ getD-drop (i * f) (t .x) j nan)
+
+pub best-none : (el : ℕ → Element) (l : List ℕ) → length l ≡ 0 → (P : Params) (a : Asked) (j : ℕ) (h : Held) → h ≡ bestIn P (bare a) j h (map el l)
+unfolding bestIn
+best-none el [] e P a j h = refl
+best-none el (x ∷ l) e P a j h = absurd (omega arith)
+
+pub best-walk : (el : ℕ → Element) (l : List ℕ) → (length l ≡ 0 → ⊥) → (P : Params) (a : Asked) (j : ℕ) (h : Held) {first : Float} {v : Walk} → first ≡ at j (el (getD l 0 0))
+    → v ≡ walk P (bare a) j (record { before = empty; count = 0; last = first; best = h }) (map el l) → v .best ≡ bestIn P (bare a) j h (map el l)
+unfolding bestIn
+best-walk el [] n P a j h ef ev = absurd (n refl)
+best-walk el (x ∷ l) n P a j h ef ev =
+    ap (λ w. w .best) (ev ∙ ap (λ z. walk P (bare a) j (record { before = empty; count = 0; last = z; best = h }) (map el (x ∷ l))) ef)

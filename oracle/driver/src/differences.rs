@@ -1,0 +1,158 @@
+//! What docs/DIFFERENCES.md says of its smallest inputs, held against the copy and a library.
+
+use crate::calls::{Call, Fit};
+use crate::compare::Tally;
+use crate::library::Library;
+use crate::make_fit::{self, data, params};
+use crate::{chance::Chance, expect, run};
+use copy::harness::{self, Grown, Readable};
+
+/// One feature, rows in the order of the listing, one feature tried, draws that are enough.
+fn rows(x: &[f64], y: &[f64]) -> Fit {
+    let rows = x.len();
+    Fit {
+        rows,
+        features: 1,
+        trees: 1,
+        least_leaf: 1,
+        least_split: 2,
+        tried: Some(1),
+        x: x.to_vec(),
+        y: y.to_vec(),
+        counts: vec![1; rows],
+        listings: (0..rows as u32).collect(),
+        words: vec![0; 2 * rows],
+        ..Fit::default()
+    }
+}
+
+/// The library's answer: refusal, nodes.
+fn ours(library: &dyn Library, fit: &Fit) -> (u64, u64) {
+    let mut fit = fit.clone();
+    make_fit::rooms(&mut Chance::new(0), &mut fit);
+    let told = run::run(library, &Call::Fit(fit)).told;
+    (told[0], told[3])
+}
+
+fn copy(fit: &Fit) -> Grown {
+    expect::grow(fit, 0).expect("draws are enough")
+}
+
+fn panics<T>(judge: impl Fn() -> T) -> bool {
+    std::panic::set_hook(Box::new(|_| ()));
+    let ended = std::panic::catch_unwind(std::panic::AssertUnwindSafe(judge));
+    drop(std::panic::take_hook());
+    ended.is_err()
+}
+
+fn listings(library: &dyn Library) -> Vec<(&'static str, bool)> {
+    let paper = |fit: &Fit| ours(library, fit);
+    let mut tenth = rows(&[1.0, 2.0, 3.0, 4.0], &[0.0, 0.0, 10.0, 10.0]);
+    tenth.listings = vec![0, 1, 1, 3];
+    let grown = copy(&tenth);
+    let as_said = grown.nodes().len() == 5 && grown.nodes()[0].threshold == 3.0;
+    let mut twice = rows(&[1.0, 2.0], &[0.0, 1.0]);
+    twice.listings = vec![0, 0];
+    let mut falls = twice.clone();
+    falls.listings = vec![1, 0];
+    let mut outside = rows(&[1.0], &[0.0]);
+    outside.listings = vec![1];
+    vec![
+        ("P10's listing", as_said && paper(&tenth) == (5, 0)),
+        (
+            "a row twice",
+            copy(&twice).nodes().len() == 1 && paper(&twice) == (5, 0),
+        ),
+        (
+            "a value that falls",
+            copy(&falls).nodes().len() == 1 && paper(&falls) == (5, 0),
+        ),
+        (
+            "a row that is not there",
+            panics(|| copy(&outside)) && paper(&outside) == (5, 0),
+        ),
+    ]
+}
+
+fn weights(library: &dyn Library) -> Vec<(&'static str, bool)> {
+    let paper = |fit: &Fit| ours(library, fit);
+    let weighted = |weight: f64| {
+        let mut fit = rows(&[1.0], &[3.0]);
+        fit.weights = vec![weight];
+        fit
+    };
+    let none = weighted(0.0);
+    let own_forest = harness::own_forest(&data(&none), &params(&none), 1, None, 0);
+    let leaf = copy(&none).nodes();
+    vec![
+        (
+            "all weights 0",
+            harness::own_tree(&data(&none), &params(&none)).is_err()
+                && own_forest.is_err()
+                && leaf.len() == 1
+                && leaf[0].value == 0.0
+                && paper(&none) == (0, 1),
+        ),
+        (
+            "a weight below 0",
+            copy(&weighted(-1.0)).root_mass() == -1.0 && paper(&weighted(-1.0)) == (3, 0),
+        ),
+        (
+            "a weight of NaN",
+            copy(&weighted(f64::NAN)).root_mass().is_nan() && paper(&weighted(f64::NAN)) == (3, 0),
+        ),
+    ]
+}
+
+fn numbers(library: &dyn Library) -> Vec<(&'static str, bool)> {
+    let paper = |fit: &Fit| ours(library, fit);
+    let ends = rows(&[f64::NEG_INFINITY, f64::INFINITY], &[0.0, 1.0]);
+    let target = rows(&[1.0], &[f64::INFINITY]);
+    let mut nan = rows(&[f64::NAN], &[5.0]);
+    (nan.least_leaf, nan.least_split, nan.limit) = (0, 1, Some(2));
+    let nan_nodes = copy(&nan).nodes();
+    let mut endless = nan.clone();
+    (endless.limit, endless.words) = (None, vec![0; 65_535]);
+    let mut count = rows(&[1.0], &[1.0]);
+    count.counts = vec![65_536];
+    let mut wide = rows(&[-1.7e308, 1.7e308], &[0.0, 1.0]);
+    (wide.random, wide.thresholds) = (true, vec![0.0]);
+    let no_trees = Readable::from_tables(&[], 1, 0.0).means(1, &[0.0]);
+    vec![
+        (
+            "infinite values",
+            copy(&ends).nodes()[0].threshold == f64::NEG_INFINITY && paper(&ends) == (3, 0),
+        ),
+        (
+            "an infinite target",
+            copy(&target).nodes()[0].value == f64::INFINITY && paper(&target) == (3, 0),
+        ),
+        (
+            "a value of NaN",
+            nan_nodes.len() == 3 && nan_nodes[0].threshold.is_nan() && paper(&nan) == (3, 0),
+        ),
+        (
+            "a value of NaN and no limit",
+            copy(&endless).depth() == 65_535 && paper(&endless) == (3, 0),
+        ),
+        (
+            "a count of 65,536",
+            copy(&count).root_mass() == 65_536.0 && paper(&count) == (4, 0),
+        ),
+        (
+            "a range of infinite width",
+            copy(&wide).nodes()[0].threshold == 0.0 && paper(&wide) == (0, 3),
+        ),
+        ("a forest of no trees", no_trees[0].is_nan()),
+    ]
+}
+
+pub fn hold(library: &dyn Library, tally: &mut Tally) {
+    let all = [listings(library), weights(library), numbers(library)];
+    for (what, as_said) in all.concat() {
+        tally.inputs += 1;
+        if !as_said {
+            tally.differ(format!("docs/DIFFERENCES.md: {what}"));
+        }
+    }
+}

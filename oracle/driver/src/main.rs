@@ -1,0 +1,72 @@
+//! The command: compares both judges, replays the list, and what the list is made with.
+
+use driver::{case::Case, chance::Chance, compare, library::Paper, mutants, pick};
+use std::process::ExitCode;
+
+const USE: &str = "compare [COUNT] | longest | replay LIST | each LIST paper|copy | pool COUNT
+mutants FILE | mutant FILE NUMBER FROM TO | pick POOL FOUND";
+
+fn main() -> ExitCode {
+    let args: Vec<String> = std::env::args().skip(1).collect();
+    let args: Vec<&str> = args.iter().map(String::as_str).collect();
+    match args.as_slice() {
+        ["compare"] => return compare::compare(&Paper, 600_000),
+        ["compare", count] => return compare::compare(&Paper, number(count)),
+        ["longest"] => return compare::longest(&Paper),
+        ["replay", list] => return compare::replay(Some(&Paper), true, list, false),
+        ["each", list, "paper"] => return compare::replay(Some(&Paper), false, list, true),
+        ["each", list, "copy"] => return compare::replay(None, true, list, true),
+        ["pool", count] => pool(number(count)),
+        // one line an edit, and whether it shows
+        ["mutants", file] => mutants::parse(&read(file)).iter().for_each(|mutant| {
+            let shows = if mutant.same { "same" } else { "shows" };
+            let edit = format!("{} ==> {}", mutant.old, mutant.new).replace('\n', "\\n");
+            println!("{shows} {} :: {edit}", mutant.file);
+        }),
+        ["mutant", file, at, from, to] => {
+            mutants::apply(&mutants::parse(&read(file)), number(at), from, to);
+        }
+        ["pick", pool, found] => picked(&read(pool), &read(found)),
+        _ => {
+            eprintln!("{USE}");
+            return ExitCode::from(2);
+        }
+    }
+    ExitCode::SUCCESS
+}
+
+fn number(word: &str) -> usize {
+    word.parse().expect("a number")
+}
+
+fn read(file: &str) -> String {
+    std::fs::read_to_string(file).expect("a file to read")
+}
+
+fn pool(count: usize) {
+    let mut chance = Chance::new(2);
+    let random = (0..count).map(|_| compare::make(&mut chance, compare::TINY));
+    let lines: Vec<String> = compare::fixed().iter().map(Case::line).collect();
+    let random: Vec<String> = random.map(|case| case.line()).collect();
+    print(&[lines, random].concat());
+}
+
+/// The first line says how many cases follow, and how many numbers the longest has.
+fn print(lines: &[String]) {
+    let longest = lines.iter().map(|line| line.split(' ').count()).max();
+    println!("{} {}", lines.len(), longest.unwrap_or(0));
+    lines.iter().for_each(|line| println!("{line}"));
+}
+
+/// `found` has a line for each edit: the places of the cases that find it.
+fn picked(pool: &str, found: &str) {
+    let lines: Vec<&str> = pool.lines().skip(1).collect();
+    let places = |line: &str| line.split_whitespace().map(number).collect();
+    let found: Vec<Vec<usize>> = found.lines().map(places).collect();
+    let taken = pick::pick(&lines, &found);
+    let taken: Vec<String> = taken
+        .iter()
+        .map(|place| lines[*place].to_string())
+        .collect();
+    print(&taken);
+}

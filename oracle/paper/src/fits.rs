@@ -1,0 +1,262 @@
+//! The fit of one tree and the fit of a forest: checks in order, growth, and what is left in each lent room.
+
+use crate::checks;
+use crate::growth::{Grown, Record, Seed};
+use crate::rooms::{Columns, ForestRooms, TreeRooms};
+
+#[derive(Clone, Copy, Debug, PartialEq)]
+pub enum Splitter {
+    Best,
+    Random,
+}
+
+#[derive(Clone, Copy, Debug)]
+pub struct Settings {
+    /// The greatest depth; none acts as 65,535.
+    pub limit: Option<u16>,
+    pub least_leaf: u32,
+    pub least_split: u32,
+    pub splitter: Splitter,
+}
+
+/// What both fits are given: feature values row by row, counts tree by tree, listings feature by feature.
+#[derive(Clone, Copy)]
+pub struct Given<'a> {
+    pub rows: usize,
+    pub features: usize,
+    pub x: &'a [f64],
+    pub y: &'a [f64],
+    /// One a row, or empty for none.
+    pub weights: &'a [f64],
+    pub counts: &'a [u32],
+    pub listings: &'a [u32],
+}
+
+#[derive(Clone, Copy)]
+pub struct Draws<'a> {
+    pub words: &'a [u32],
+    pub thresholds: &'a [f64],
+}
+
+/// Where each tree's part of the two tapes begins, and where the last ends.
+#[derive(Clone, Copy)]
+pub struct Cuts<'a> {
+    pub words: &'a [u64],
+    pub thresholds: &'a [u64],
+}
+
+pub struct TreeCall<'a> {
+    pub given: Given<'a>,
+    pub settings: Settings,
+    pub tried: u32,
+    pub draws: Draws<'a>,
+}
+
+pub struct ForestCall<'a> {
+    pub given: Given<'a>,
+    pub trees: usize,
+    pub settings: Settings,
+    /// None: the floor of the root of the feature count.
+    pub tried: Option<u32>,
+    pub draws: Draws<'a>,
+    pub cuts: Cuts<'a>,
+}
+
+/// What a fit reports of a tree.
+#[derive(Clone, Copy, Debug, Default)]
+pub struct Numbers {
+    pub nodes: u32,
+    pub depth: u32,
+    pub root_mass: f64,
+    pub searches: u32,
+    pub words_used: u32,
+    pub thresholds_used: u32,
+}
+
+/// Tree and search are told with refusal 7 alone, and are 0 otherwise.
+#[derive(Clone, Copy, Debug, Default)]
+pub struct TreeAnswer {
+    pub refusal: u32,
+    pub tree: u32,
+    pub search: u32,
+    pub numbers: Numbers,
+}
+
+#[derive(Clone, Copy, Debug, Default, PartialEq)]
+pub struct ForestAnswer {
+    pub refusal: u32,
+    pub tree: u32,
+    pub search: u32,
+}
+
+/// Node room that a tree asks: max(1, 2 x kept rows - 1).
+fn asked(seed: &Seed) -> usize {
+    match seed.kept_rows() {
+        0 => 1,
+        kept => 2 * kept - 1,
+    }
+}
+
+fn tree_refusal(seed: &Seed, rooms: &TreeRooms) -> u32 {
+    let given = seed.given;
+    checks::first_failed(&[
+        (1, &|| {
+            checks::rows_in_range(given.rows) && checks::features_in_range(given.features)
+        }),
+        (2, &|| checks::lengths_fit(given, 1)),
+        (3, &|| checks::numbers_good(given)),
+        (4, &|| checks::counts_small(given)),
+        (5, &|| listed(given)),
+        (6, &|| {
+            rooms.nodes.room() >= asked(seed) && rooms.work.enough(given.rows, given.features)
+        }),
+    ])
+}
+
+pub fn fit_tree(call: &TreeCall, rooms: &mut TreeRooms) -> TreeAnswer {
+    let seed = Seed {
+        given: &call.given,
+        counts: call.given.counts,
+        settings: call.settings,
+        tried: call.tried,
+        draws: call.draws,
+    };
+    let refusal = tree_refusal(&seed, rooms);
+    if refusal != 0 {
+        return TreeAnswer {
+            refusal,
+            ..TreeAnswer::default()
+        };
+    }
+    rooms.work.zero();
+    match seed.grow() {
+        Ok(grown) => {
+            write(&grown.nodes, &mut rooms.nodes, 0);
+            TreeAnswer {
+                numbers: grown.numbers,
+                ..TreeAnswer::default()
+            }
+        }
+        Err(bad) => {
+            rooms.nodes.zero();
+            TreeAnswer {
+                refusal: 7,
+                search: bad.search,
+                ..TreeAnswer::default()
+            }
+        }
+    }
+}
+
+fn listed(given: &Given) -> bool {
+    checks::listings_good(given.rows, given.features, given.x, given.listings)
+}
+
+fn write(nodes: &[Record], columns: &mut Columns, from: usize) {
+    for (place, node) in nodes.iter().enumerate() {
+        columns.value[from + place] = node.value;
+        columns.feature[from + place] = node.feature;
+        columns.threshold[from + place] = node.threshold;
+        columns.score[from + place] = node.score;
+        columns.true_child[from + place] = node.true_child;
+        columns.false_child[from + place] = node.false_child;
+    }
+}
+
+fn root_floor(features: usize) -> u32 {
+    (0..=32)
+        .rev()
+        .find(|root| root * root <= features)
+        .unwrap_or(0) as u32
+}
+
+/// A tree's own counts and its own part of both tapes.
+fn seed_of<'a>(call: &'a ForestCall<'a>, tree: usize) -> Seed<'a> {
+    let rows = call.given.rows;
+    let words = call.cuts.words[tree] as usize..call.cuts.words[tree + 1] as usize;
+    let thresholds = call.cuts.thresholds[tree] as usize..call.cuts.thresholds[tree + 1] as usize;
+    Seed {
+        given: &call.given,
+        counts: &call.given.counts[tree * rows..(tree + 1) * rows],
+        settings: call.settings,
+        tried: call.tried.unwrap_or(root_floor(call.given.features)),
+        draws: Draws {
+            words: &call.draws.words[words],
+            thresholds: &call.draws.thresholds[thresholds],
+        },
+    }
+}
+
+fn forest_refusal(call: &ForestCall, rooms: &ForestRooms) -> u32 {
+    let (given, trees) = (&call.given, call.trees);
+    let (words, thresholds) = (call.draws.words.len(), call.draws.thresholds.len());
+    checks::first_failed(&[
+        (1, &|| {
+            checks::rows_in_range(given.rows)
+                && checks::features_in_range(given.features)
+                && checks::trees_in_range(trees)
+        }),
+        (2, &|| {
+            checks::lengths_fit(given, trees)
+                && checks::cuts_fit(&call.cuts, trees, words, thresholds)
+        }),
+        (3, &|| checks::numbers_good(given)),
+        (4, &|| {
+            checks::counts_small(given) && checks::counts_one_if_weighted(given)
+        }),
+        (5, &|| listed(given)),
+        (6, &|| {
+            let asked: usize = (0..trees).map(|tree| asked(&seed_of(call, tree))).sum();
+            rooms.nodes.room() >= asked
+                && rooms.starts.len() > trees
+                && rooms.reports.lengths() == [trees; 6]
+                && rooms.work.enough(given.rows, given.features)
+        }),
+    ])
+}
+
+pub fn fit_forest(call: &ForestCall, rooms: &mut ForestRooms) -> ForestAnswer {
+    let refusal = forest_refusal(call, rooms);
+    if refusal != 0 {
+        return ForestAnswer {
+            refusal,
+            ..ForestAnswer::default()
+        };
+    }
+    rooms.work.zero();
+    let mut grown: Vec<Grown> = Vec::new();
+    for tree in 0..call.trees {
+        match seed_of(call, tree).grow() {
+            Ok(next) => grown.push(next),
+            Err(bad) => {
+                rooms.nodes.zero();
+                rooms.starts.fill(0);
+                rooms.reports.zero();
+                return ForestAnswer {
+                    refusal: 7,
+                    tree: tree as u32,
+                    search: bad.search,
+                };
+            }
+        }
+    }
+    lay_out(&grown, rooms);
+    ForestAnswer::default()
+}
+
+/// Trees one after another, where each starts, and what is reported of each.
+fn lay_out(grown: &[Grown], rooms: &mut ForestRooms) {
+    let mut start = 0;
+    rooms.starts[0] = 0;
+    for (tree, one) in grown.iter().enumerate() {
+        write(&one.nodes, &mut rooms.nodes, start);
+        start += one.nodes.len();
+        rooms.starts[tree + 1] = start as u32;
+        rooms.reports.nodes[tree] = one.numbers.nodes;
+        rooms.reports.depth[tree] = one.numbers.depth;
+        rooms.reports.root_mass[tree] = one.numbers.root_mass;
+        rooms.reports.searches[tree] = one.numbers.searches;
+        rooms.reports.words_used[tree] = one.numbers.words_used;
+        rooms.reports.thresholds_used[tree] = one.numbers.thresholds_used;
+    }
+}

@@ -1,0 +1,69 @@
+//! Totals of rows, and what is reckoned from them.
+
+#[derive(Clone, Copy, Debug)]
+pub struct Totals {
+    pub sum: f64,
+    pub mass: f64,
+}
+
+impl Totals {
+    pub fn none() -> Self {
+        Totals {
+            sum: 0.0,
+            mass: 0.0,
+        }
+    }
+
+    pub fn with(self, target: f64, mass: f64) -> Self {
+        Totals {
+            sum: self.sum + target * mass,
+            mass: self.mass + mass,
+        }
+    }
+
+    pub fn less(self, side: Totals) -> Self {
+        Totals {
+            sum: self.sum - side.sum,
+            mass: self.mass - side.mass,
+        }
+    }
+
+    pub fn value(self) -> f64 {
+        if self.mass > 0.0 {
+            self.sum / self.mass
+        } else {
+            0.0
+        }
+    }
+}
+
+/// Either mass at most 0; a NaN mass is not.
+fn massless(on_true: Totals, on_false: Totals) -> bool {
+    on_true.mass <= 0.0 || on_false.mass <= 0.0
+}
+
+fn distance(on_true: Totals, on_false: Totals) -> f64 {
+    on_true.sum * on_false.mass - on_false.sum * on_true.mass
+}
+
+pub fn proxy(on_true: Totals, on_false: Totals) -> f64 {
+    if massless(on_true, on_false) {
+        return 0.0;
+    }
+    let d = distance(on_true, on_false);
+    d * d / (on_true.mass * on_false.mass)
+}
+
+pub fn score(whole: Totals, on_true: Totals, on_false: Totals) -> f64 {
+    if massless(on_true, on_false) {
+        return 0.0;
+    }
+    let d = distance(on_true, on_false);
+    d * d / (on_true.mass * on_false.mass * whole.mass)
+}
+
+/// The cut between a value and the next one above it.
+pub fn threshold(before: f64, after: f64) -> f64 {
+    let mid = before + (after - before) / 2.0;
+    if mid < after { mid } else { before }
+}

@@ -1,0 +1,169 @@
+//! Tapes: the next source made plays the tape that was laid ready first; with none, it makes its draws.
+//! What a source did is told when it is dropped, in the order of the drops.
+
+use crate::{Rng, SeedableRng};
+use std::cell::RefCell;
+use std::collections::VecDeque;
+
+/// The draws of one tree: orders one after another, and thresholds.
+#[derive(Clone, Debug, Default, PartialEq)]
+pub struct Tape {
+    pub words: Vec<u32>,
+    pub thresholds: Vec<f64>,
+}
+
+/// What a source did.
+#[derive(Clone, Debug, Default)]
+pub struct Told {
+    /// The draws it gave; for a played tape they are not copied out.
+    pub made: Tape,
+    /// Numbers below a bound, and rows by weight: the crate's own bagging.
+    pub bag: Vec<usize>,
+    pub searches: usize,
+    pub words_used: usize,
+    pub thresholds_used: usize,
+    /// The search of the first draw that could not be taken.
+    pub bad_draw: Option<usize>,
+}
+
+thread_local! {
+    static READY: RefCell<VecDeque<Tape>> = const { RefCell::new(VecDeque::new()) };
+    static TOLD: RefCell<Vec<Told>> = const { RefCell::new(Vec::new()) };
+}
+
+/// Forget tapes laid ready and what was told: a judge that panicked may have left some.
+pub fn clear() {
+    READY.with(|ready| ready.borrow_mut().clear());
+    TOLD.with(|told| told.borrow_mut().clear());
+}
+
+/// Lay a tape ready for the next source.
+pub fn lay(tape: Tape) {
+    READY.with(|ready| ready.borrow_mut().push_back(tape));
+}
+
+/// What the dropped sources did since the last call.
+pub fn told() -> Vec<Told> {
+    TOLD.with(|told| std::mem::take(&mut *told.borrow_mut()))
+}
+
+/// The source that the copied files make by its name.
+pub struct SmallRng {
+    tape: Option<Tape>,
+    state: u64,
+    told: Told,
+}
+
+impl SeedableRng for SmallRng {
+    fn seed_from_u64(seed: u64) -> Self {
+        SmallRng {
+            tape: READY.with(|ready| ready.borrow_mut().pop_front()),
+            state: seed,
+            told: Told::default(),
+        }
+    }
+}
+
+impl Drop for SmallRng {
+    fn drop(&mut self) {
+        let told = std::mem::take(&mut self.told);
+        TOLD.with(|all| all.borrow_mut().push(told));
+    }
+}
+
+impl SmallRng {
+    // SplitMix64: any generator would do here, as every draw is kept
+    fn next(&mut self) -> u64 {
+        self.state = self.state.wrapping_add(0x9E37_79B9_7F4A_7C15);
+        let mut z = self.state;
+        z = (z ^ (z >> 30)).wrapping_mul(0xBF58_476D_1CE4_E5B9);
+        z = (z ^ (z >> 27)).wrapping_mul(0x94D0_49BB_1331_11EB);
+        z ^ (z >> 31)
+    }
+
+    // growth goes on with a harmless draw; the harness answers with the first bad one
+    fn bad(&mut self) {
+        let search = self.told.searches - 1;
+        self.told.bad_draw.get_or_insert(search);
+    }
+
+    fn make_order(&mut self, places: &mut [usize]) {
+        for i in (1..places.len()).rev() {
+            let j = (self.next() % (i as u64 + 1)) as usize;
+            places.swap(i, j);
+        }
+        self.told
+            .made
+            .words
+            .extend(places.iter().map(|&p| p as u32));
+    }
+
+    // both ends of the range, and the other zero, as often as a place between
+    fn make_threshold(&mut self, low: f64, high: f64) -> f64 {
+        let drawn = match self.next() % 8 {
+            0 => low,
+            1 => high.next_down(),
+            2 if low == 0.0 => -low,
+            _ => low + (high - low) * self.unit(),
+        };
+        let kept = if low <= drawn && drawn < high {
+            drawn
+        } else {
+            low
+        };
+        self.told.made.thresholds.push(kept);
+        kept
+    }
+}
+
+fn permutation(words: &[u32]) -> bool {
+    let mut met = vec![false; words.len()];
+    words
+        .iter()
+        .all(|&w| (w as usize) < words.len() && !std::mem::replace(&mut met[w as usize], true))
+}
+
+impl Rng for SmallRng {
+    fn order(&mut self, places: &mut [usize]) {
+        let from = self.told.words_used;
+        let to = from + places.len();
+        self.told.searches += 1;
+        self.told.words_used = to;
+        let Some(tape) = &self.tape else {
+            return self.make_order(places);
+        };
+        match tape.words.get(from..to) {
+            Some(words) if permutation(words) => {
+                for (place, word) in places.iter_mut().zip(words) {
+                    *place = *word as usize;
+                }
+            }
+            _ => self.bad(),
+        }
+    }
+
+    fn threshold(&mut self, low: f64, high: f64) -> f64 {
+        let at = self.told.thresholds_used;
+        self.told.thresholds_used += 1;
+        let Some(tape) = &self.tape else {
+            return self.make_threshold(low, high);
+        };
+        match tape.thresholds.get(at) {
+            Some(&t) if low <= t && t < high => t,
+            _ => {
+                self.bad();
+                low
+            }
+        }
+    }
+
+    fn below(&mut self, n: usize) -> usize {
+        let drawn = (self.next() % n as u64) as usize;
+        self.told.bag.push(drawn);
+        drawn
+    }
+
+    fn unit(&mut self) -> f64 {
+        (self.next() >> 11) as f64 / (1u64 << 53) as f64
+    }
+}
