@@ -1,0 +1,136 @@
+-- `columns::partition_columns` meets its contract: after k turns the rows of the first k columns are partitioned, and column k is as it was. Assumes nothing.
+use borrow.Author.Needs.{needs}
+use native.Mathlib.Omega.{arith}
+use mathlib.Core.Path.{_≡_, refl, sym, ap, _∙_, subst}
+use mathlib.Core.Bool.{Bool}
+use mathlib.Core.List.{List}
+use Prim.Native.Nat.{ℕ, _≤_, _<_, _-_, _+_, _*_}
+use denote.Ref.{now}
+use lib.ListN.{length}
+use Rattle.rules.specs.Words.{stretch}
+use Rattle.laws.specs.Lists.{Every}
+use Rattle.columns.specs.Columns.{part, flagged, parted, ColumnsAsk, PartAsks}
+use Rattle.columns.specs.Fronts.{parted-long}
+use Rattle.columns.specs.Stretches.{column-end, part-long, Keeps, Going, going-start, going-turn, going-done, going-long, going-rest}
+use Rattle.columns.proofs.partition_columns.Statement.{statement}
+use Rattle.columns.proofs.partition_columns.Tie as tie
+
+abbrev way : List Bool → ℕ → List ℕ → List ℕ
+way flags k = parted (flagged flags)
+
+keeps : (flags : List Bool) (n m : ℕ) → Keeps (way flags) n m
+keeps flags n m k h l e = parted-long (flagged flags) l ∙ e
+
+-- in a turn
+module _ (rows features a e : ℕ) (flags : List Bool) (cols₀ cols : List ℕ) (scratch k : ℕ) (q : ColumnsAsk rows features a e cols₀ scratch (length flags))
+    (s : Going rows a e (way flags) features cols₀ cols k) where
+  long : length cols ≡ length cols₀
+  long = going-long rows a e (way flags) features cols₀ (q .order) (q .high) (q .long) (keeps flags features (e - a)) cols k s
+
+  ends : k < features → (k * rows + rows ≤ length cols₀) × (length cols ≡ length cols₀)
+  ends h = (omega (arith, column-end rows features k h, q .long), long)
+
+  wide : k * rows + e - (k * rows + a) ≡ e - a
+  wide = omega arith
+
+  asks : k < features → {n : ℕ} → n ≡ scratch → PartAsks (stretch (k * rows + a) (k * rows + e - (k * rows + a)) cols) n (length flags)
+  asks h {n} m =
+      let same : stretch (k * rows + a) (k * rows + e - (k * rows + a)) cols ≡ part rows k a e cols₀ =
+      ap (λ w. stretch (k * rows + a) w cols) wide ∙ going-rest rows a e (way flags) features cols₀ (q .order) (q .high) (q .long) (keeps flags features (e - a)) cols k s in
+      record {
+        room = omega (arith, m, ap length same, part-long rows features k a e cols₀ (q .long) h (q .order) (q .high), q .room);
+        below = subst (Every (λ r. r < length flags)) (sym same) (q .below k h);
+      }
+
+abbrev Inv-loop : tie.InvT-loop
+Inv-loop cols₀ rows features start end scratch₀ flags k₀ cols scratch k = Going rows start end (way flags) features cols₀ cols k × (length scratch ≡ length scratch₀)
+
+abbrev μ-loop : tie.MeasureT-loop
+μ-loop cols₀ rows features start end scratch₀ flags k₀ cols scratch k = features - k
+
+abbrev from : tie.In-loop Inv-loop μ-loop → tie.Start Inv-loop μ-loop
+from c = c .before .before .before .before .before
+
+room : (c : tie.In-loop Inv-loop μ-loop) → (c .before .loop .k * from c .args .rows + from c .args .rows ≤ length (now (from c .args .cols))) × (length (c .before .loop .cols) ≡ length (now (from c .args .cols)))
+room c =
+    let a = from c .args in
+    ends (a .rows) (a .features) (a .start) (a .end) (now (a .flags)) (now (a .cols)) _ _ (c .before .loop .k) (from c .pre) (c .before .loop .inv .0) (c .loop-test .taken)
+
+loop-holds : tie.Need-loop-holds Inv-loop μ-loop
+loop-holds c = (going-start _ _ _ _ _ _, refl)
+
+mul-base : tie.Need-mul-base Inv-loop μ-loop
+mul-base c = omega (arith, room c .0, room c .1, from c .good .0 .0, from c .good .0 .1, from c .pre .order, from c .pre .high)
+
+add-low : tie.Need-add-low Inv-loop μ-loop
+add-low c = omega (arith, room c .0, room c .1, from c .good .0 .0, from c .good .0 .1, from c .pre .order, from c .pre .high)
+
+add-high : tie.Need-add-high Inv-loop μ-loop
+add-high c = omega (arith, room c .0, room c .1, from c .good .0 .0, from c .good .0 .1, from c .pre .order, from c .pre .high)
+
+mul-stable-partition : tie.Need-mul-stable-partition Inv-loop μ-loop
+mul-stable-partition c = omega (arith, room c .0, room c .1, from c .good .0 .0, from c .good .0 .1, from c .pre .order, from c .pre .high)
+
+sub-stable-partition : tie.Need-sub-stable-partition Inv-loop μ-loop
+sub-stable-partition c = omega (arith, room c .0, room c .1, from c .good .0 .0, from c .good .0 .1, from c .pre .order, from c .pre .high)
+
+part-stable-partition-start : tie.Need-part-stable-partition-start Inv-loop μ-loop
+part-stable-partition-start c = omega (arith, room c .0, room c .1, from c .good .0 .0, from c .good .0 .1, from c .pre .order, from c .pre .high)
+
+part-stable-partition-end : tie.Need-part-stable-partition-end Inv-loop μ-loop
+part-stable-partition-end c = omega (arith, room c .0, room c .1, from c .good .0 .0, from c .good .0 .1, from c .pre .order, from c .pre .high)
+
+stable-partition-requires : tie.Need-stable-partition-requires Inv-loop μ-loop
+stable-partition-requires c κs =
+    let b = c .before .before in
+    let a = from b .args in
+    asks (a .rows) (a .features) (a .start) (a .end) (now (a .flags)) (now (a .cols)) _ _ (b .before .loop .k) (from b .pre) (b .before .loop .inv .0) (b .loop-test .taken) (b .before .loop .inv .1)
+
+add-k : tie.Need-add-k Inv-loop μ-loop
+add-k c = search needs
+
+loop-less : tie.Need-loop-less Inv-loop μ-loop
+loop-less c = search needs
+
+loop-again : tie.Need-loop-again Inv-loop μ-loop
+loop-again c =
+    let p = c .before .before .before .before .stable-partition in
+    let b = c .before .before .before .before .before .before .before in
+    let a = from b .args in
+    let low = b .before .loop .k * a .rows + a .start in (
+      going-turn (a .rows) (a .start) (a .end) (way (now (a .flags))) (a .features) (now (a .cols)) (b .before .loop .cols) (p .last .0) (b .before .loop .k) low (b .before .loop .k * a .rows + a .end - low) (b .before .loop .inv .0) (b .loop-test .taken) refl (omega arith) (p .ensures .parts),
+      p .kept .1 .0 ∙ b .before .loop .inv .1,
+    )
+
+same-length : tie.Need-same-length Inv-loop μ-loop
+same-length c =
+    let a = c .before .before .before .before .before .args in
+    long (a .rows) (a .features) (a .start) (a .end) (now (a .flags)) (now (a .cols)) _ _ (c .before .loop .k) (c .before .before .before .before .before .pre) (c .before .loop .inv .0)
+
+same-length-2 : tie.Need-same-length-2 Inv-loop μ-loop
+same-length-2 c = search needs
+
+returns : tie.Need-returns Inv-loop μ-loop
+returns c = going-done _ _ _ _ _ _ _ _ (c .before .loop .inv .0) (omega arith)
+
+pub partition-columns-spec : {M : Type 1} → statement M
+partition-columns-spec =
+    tie.close
+    (tie.spec
+    Inv-loop
+    μ-loop
+    loop-holds
+    mul-base
+    add-low
+    add-high
+    mul-stable-partition
+    sub-stable-partition
+    part-stable-partition-start
+    part-stable-partition-end
+    stable-partition-requires
+    add-k
+    loop-less
+    loop-again
+    same-length
+    same-length-2
+    returns)

@@ -1,0 +1,162 @@
+-- `columns::sweep` meets its contract: what it says of a whole stretch holds of the i rows passed, and from i on the stretch is as it was. Assumes nothing.
+use borrow.Author.Needs.{needs}
+use native.Mathlib.Omega.{arith}
+use mathlib.Core.Path.{_≡_, refl, sym, ap, _∙_}
+use mathlib.Core.Bool.{Bool, true, false, not}
+use mathlib.Core.List.{List}
+use mathlib.Core.Logic.{⊎-elim}
+use Prim.Native.Nat.{ℕ, _≤_, _<_, _-_, _+_}
+use denote.Ref.{now}
+use lib.ListN.{length, length-set, getD, set, take, drop}
+use lib.Seq.{take-length, length-take-le}
+use Rattle.rules.specs.Words.{keep}
+use Rattle.laws.specs.Lists.{every-at}
+use Rattle.columns.specs.Columns.{flagged, fails, Swept}
+use Rattle.columns.specs.Fronts.{keep-yes, keep-no, front-more, front-same, rest-more, head-same}
+use Rattle.columns.proofs.sweep.Statement.{statement}
+use Rattle.columns.proofs.sweep.Tie as tie
+
+record Passed (col₀ scratch₀ : List ℕ) (flags : List Bool) (col scratch : List ℕ) (w f i : ℕ) : Type 0 where
+  within : i ≤ length col₀
+  sum : w + f ≡ i
+  long : length col ≡ length col₀
+  long-s : length scratch ≡ length scratch₀
+  front : take w col ≡ keep (flagged flags) (take i col₀)
+  front-s : take f scratch ≡ keep (fails (flagged flags)) (take i col₀)
+  rest : drop i col ≡ drop i col₀
+
+module _ (col₀ scratch₀ : List ℕ) (flags : List Bool) (col scratch : List ℕ) (w f i : ℕ) (s : Passed col₀ scratch₀ flags col scratch w f i)
+    (h : i < length col₀) (r : length col₀ ≤ length scratch₀) where
+  same : getD col i 0 ≡ getD col₀ i 0
+  same = head-same col col₀ i 0 (s .rest)
+
+  yes-turn : getD flags (getD col i 0) false ≡ true
+      → Passed col₀ scratch₀ flags (set col w (getD col i 0)) (set scratch f (getD col i 0)) (w + 1) f (i + 1)
+  yes-turn t =
+      let t₀ : getD flags (getD col₀ i 0) false ≡ true = rw same at t in
+      record {
+        within = omega arith;
+        sum = omega arith;
+        long = length-set col w _ ∙ s .long;
+        long-s = length-set scratch f _ ∙ s .long-s;
+        front = rw same (front-more col w _ _ (s .front) (omega arith) ∙ sym (keep-yes (flagged flags) col₀ i 0 h t₀));
+        front-s = front-same scratch f _ _ (s .front-s) ∙ sym (keep-no (fails (flagged flags)) col₀ i 0 h (ap not t₀));
+        rest = rest-more col w _ col₀ i (omega arith) (s .rest);
+      }
+
+  no-turn : getD flags (getD col i 0) false ≡ false
+      → Passed col₀ scratch₀ flags (set col w (getD col i 0)) (set scratch f (getD col i 0)) w (f + 1) (i + 1)
+  no-turn t =
+      let t₀ : getD flags (getD col₀ i 0) false ≡ false = rw same at t in
+      record {
+        within = omega arith;
+        sum = omega arith;
+        long = length-set col w _ ∙ s .long;
+        long-s = length-set scratch f _ ∙ s .long-s;
+        front = front-same col w _ _ (s .front) ∙ sym (keep-no (flagged flags) col₀ i 0 h t₀);
+        front-s = rw same (front-more scratch f _ _ (s .front-s) (omega arith) ∙ sym (keep-yes (fails (flagged flags)) col₀ i 0 h (ap not t₀)));
+        rest = rest-more col w _ col₀ i (omega arith) (s .rest);
+      }
+
+-- at the end
+done : (col₀ scratch₀ : List ℕ) (flags : List Bool) (col scratch : List ℕ) (w f i : ℕ) → Passed col₀ scratch₀ flags col scratch w f i → length col₀ ≤ i
+    → Swept (flagged flags) col₀ col scratch w
+done col₀ scratch₀ flags col scratch w f i s h =
+    let e : i ≡ length col₀ = omega arith in
+    let all : take i col₀ ≡ col₀ = rw (e, take-length) in
+    let front : take w col ≡ keep (flagged flags) col₀ = rw all at (s .front) in
+    let e-f : length col₀ - w ≡ f = omega arith in
+    record { within = omega arith; count = sym (length-take-le w col (omega arith)) ∙ ap length front; passed = front; others = rw e-f (rw all at (s .front-s)) }
+
+abbrev Inv-loop : tie.InvT-loop
+Inv-loop col₀ scratch₀ flags w₀ f₀ i₀ col scratch w f i = Passed col₀ scratch₀ flags col scratch w f i
+
+abbrev μ-loop : tie.MeasureT-loop
+μ-loop col₀ scratch₀ flags w₀ f₀ i₀ col scratch w f i = length col₀ - i
+
+loop-holds : tie.Need-loop-holds Inv-loop μ-loop
+unfolding keep
+loop-holds c = record { within = omega arith; sum = refl; long = refl; long-s = refl; front = refl; front-s = refl; rest = refl }
+
+mul-e : tie.Need-mul-e Inv-loop μ-loop
+mul-e c = search needs
+
+slice-read-e : tie.Need-slice-read-e Inv-loop μ-loop
+slice-read-e c = search needs
+
+cast-row : tie.Need-cast-row Inv-loop μ-loop
+cast-row c = omega (arith, c .slice-known .given (c .before .before .loop .i))
+
+shared-slice-read-t : tie.Need-shared-slice-read-t Inv-loop μ-loop
+shared-slice-read-t c =
+    let at = c .before .before .before in
+    let s = at .loop .inv in
+    let e = head-same (at .loop .col) (now (at .before .args .col)) (at .loop .i) 0 (s .rest) in
+    omega (arith, e, every-at _ (now (at .before .args .col)) 0 (at .loop .i) (at .before .pre .below) (omega arith))
+
+mul-col : tie.Need-mul-col Inv-loop μ-loop
+mul-col c = search needs
+
+slice-write-col : tie.Need-slice-write-col Inv-loop μ-loop
+slice-write-col c = search needs
+
+mul-scratch : tie.Need-mul-scratch Inv-loop μ-loop
+mul-scratch c = search needs
+
+slice-write-scratch : tie.Need-slice-write-scratch Inv-loop μ-loop
+slice-write-scratch c = search needs
+
+add-w : tie.Need-add-w Inv-loop μ-loop
+add-w c = search needs
+
+add-f : tie.Need-add-f Inv-loop μ-loop
+add-f c = search needs
+
+add-i : tie.Need-add-i Inv-loop μ-loop
+add-i c = search needs
+
+loop-less : tie.Need-loop-less Inv-loop μ-loop
+loop-less c = search needs
+
+loop-again : tie.Need-loop-again Inv-loop μ-loop
+loop-again c =
+    let at = c .before .before .before .before in
+    let s = at .loop .inv in
+    let h : at .loop .i < length (now (at .before .args .col)) = omega arith in
+    ⊎-elim
+    (λ u. rw (u .1, u .2) (yes-turn _ _ _ _ _ _ _ _ s h (at .before .pre .room) (u .0 .taken)))
+    (λ u. rw (u .1, u .2) (no-turn _ _ _ _ _ _ _ _ s h (at .before .pre .room) (u .0 .left)))
+    (c .if1 .came)
+
+same-length : tie.Need-same-length Inv-loop μ-loop
+same-length c = search needs
+
+same-length-2 : tie.Need-same-length-2 Inv-loop μ-loop
+same-length-2 c = search needs
+
+returns : tie.Need-returns Inv-loop μ-loop
+returns c = done _ _ _ _ _ _ _ _ (c .before .loop .inv) (omega arith)
+
+pub sweep-spec : {M : Type 1} → statement M
+sweep-spec =
+    tie.close
+    (tie.spec
+    Inv-loop
+    μ-loop
+    loop-holds
+    mul-e
+    slice-read-e
+    cast-row
+    shared-slice-read-t
+    mul-col
+    slice-write-col
+    mul-scratch
+    slice-write-scratch
+    add-w
+    add-f
+    add-i
+    loop-less
+    loop-again
+    same-length
+    same-length-2
+    returns)

@@ -1,0 +1,118 @@
+-- The work columns: one a feature, each `rows` long, one after another at the front of the order room. A node's rows lie in the same stretch of each.
+use Prim.Native.Nat.{ℕ, zero, suc, _+_, _-_, _*_, _<_, _≤_}
+use mathlib.Core.Path.{_≡_}
+use mathlib.Core.Bool.{Bool, false, not}
+use mathlib.Core.List.{List, [], _++_, map}
+use lib.ListN.{length, getD, take, drop}
+use lib.Dec.{T, leb}
+use lib.Ieee.{Float}
+use Rattle.rules.specs.Words.{from, keep, eachOnce, stretch, front}
+use Rattle.rules.specs.Lent.{listingAt}
+use Rattle.rules.specs.Search.{Element, Column}
+use Rattle.rules.specs.Fit.{elementIn}
+use Rattle.laws.specs.Lists.{Every}
+
+-- the rows from place a to place e of column k
+abbrev pub part : ℕ → ℕ → ℕ → ℕ → List ℕ → List ℕ
+part rows k a e cols = stretch (k * rows + a) (e - a) cols
+
+-- n entries from place a on, changed where they lie
+unfoldable pub changed : ℕ → ℕ → (List ℕ → List ℕ) → List ℕ → List ℕ
+changed a n g l = take a l ++ (g (stretch a n l) ++ drop n (drop a l))
+
+-- the same places of the first n columns, each changed in its own way
+unfoldable pub inColumns : ℕ → ℕ → ℕ → (ℕ → List ℕ → List ℕ) → ℕ → List ℕ → List ℕ
+inColumns rows a e g zero cols = cols
+inColumns rows a e g (suc n) cols = changed (n * rows + a) (e - a) (g n) (inColumns rows a e g n cols)
+
+-- what rows stand for: their elements, column by column
+unfoldable pub columnsAt : (ℕ → Element) → ℕ → ℕ → ℕ → ℕ → List ℕ → List Column
+columnsAt el rows n a e cols = map (λ k. map el (part rows k a e cols)) (from 0 n)
+
+-- ---- set-up
+
+-- a row as totals and counts see it: of its values nothing is asked
+abbrev pub bare : List Float → List Float → List ℕ → ℕ → Element
+bare targets weights counts i = elementIn 0 [] targets weights counts i
+
+-- a count for each row, and a weight if there are weights
+pub record Counted (rows : ℕ) (weights : List Float) (counts : List ℕ) : Type 0 where
+  pub counted : length counts ≡ rows
+  pub weighed : 0 < length weights → length weights ≡ rows
+
+pub record RootAsks (rows : ℕ) (targets weights : List Float) (counts : List ℕ) : Type 0 where
+  pub tables : Counted rows weights counts
+  pub targeted : length targets ≡ rows
+
+pub record CountAsks (rows : ℕ) (weights : List Float) (counts : List ℕ) : Type 0 where
+  pub tables : Counted rows weights counts
+  pub few : rows ≤ 65535
+  pub low : Every (λ c. T (leb c 65535)) counts
+
+-- a listing's rows that pass, r of them, at the front of a column
+pub record KeptTo (p : ℕ → Bool) (listing before after : List ℕ) (r : ℕ) : Type 0 where
+  pub within : r ≤ length listing
+  pub count : r ≡ length (keep p listing)
+  pub written : after ≡ front (keep p listing) before
+
+pub record KeepAsks (listing : List ℕ) (weights : List Float) (counts : List ℕ) (column : ℕ) : Type 0 where
+  pub tables : Counted (length counts) weights counts
+  pub below : Every (λ i. i < length counts) listing
+  pub room : length listing ≤ column
+
+-- of each feature's listing
+abbrev pub keptColumns : ℕ → List ℕ → (ℕ → Bool) → ℕ → List ℕ → List ℕ
+keptColumns rows listings p n cols = inColumns rows 0 rows (λ j. front (keep p (listingAt rows listings j))) n cols
+
+pub record KeptAll (p : ℕ → Bool) (rows features : ℕ) (listings before after : List ℕ) (r : ℕ) : Type 0 where
+  pub within : r ≤ rows
+  pub count : r ≡ length (keep p (from 0 rows))
+  pub written : after ≡ keptColumns rows listings p features before
+
+pub record KeepAllAsks (rows features : ℕ) (listings : List ℕ) (weights : List Float) (counts : List ℕ) (order : ℕ) : Type 0 where
+  pub tables : Counted rows weights counts
+  pub some : 0 < features
+  pub listed : length listings ≡ features * rows
+  pub once : (j : ℕ) → j < features → T (eachOnce rows (listingAt rows listings j))
+  pub room : features * rows ≤ order
+
+-- ---- partition
+
+abbrev pub flagged : List Bool → ℕ → Bool
+flagged flags r = getD flags r false
+
+abbrev pub fails : (ℕ → Bool) → ℕ → Bool
+fails p r = not (p r)
+
+-- those that pass, then the others, each in their order
+abbrev pub parted : (ℕ → Bool) → List ℕ → List ℕ
+parted p l = keep p l ++ keep (fails p) l
+
+-- after one pass over a stretch: those that pass at its front, the others at the front of the scratch
+pub record Swept (p : ℕ → Bool) (before col scratch : List ℕ) (r : ℕ) : Type 0 where
+  pub within : r ≤ length before
+  pub count : r ≡ length (keep p before)
+  pub passed : take r col ≡ keep p before
+  pub others : take (length before - r) scratch ≡ keep (fails p) before
+
+pub record Parted (p : ℕ → Bool) (before after : List ℕ) (r : ℕ) : Type 0 where
+  pub within : r ≤ length before
+  pub count : r ≡ length (keep p before)
+  pub parts : after ≡ parted p before
+
+-- the rows from a to e of each of n columns partitioned
+abbrev pub partedColumns : ℕ → ℕ → ℕ → (ℕ → Bool) → ℕ → List ℕ → List ℕ
+partedColumns rows a e p n cols = inColumns rows a e (λ k. parted p) n cols
+
+-- what a partition of a stretch asks: scratch enough, and a flag for each row
+pub record PartAsks (col : List ℕ) (scratch flags : ℕ) : Type 0 where
+  pub room : length col ≤ scratch
+  pub below : Every (λ r. r < flags) col
+
+-- of the stretch from a to e of every column
+pub record ColumnsAsk (rows features a e : ℕ) (cols : List ℕ) (scratch flags : ℕ) : Type 0 where
+  pub long : features * rows ≤ length cols
+  pub order : a ≤ e
+  pub high : e ≤ rows
+  pub room : e - a ≤ scratch
+  pub below : (k : ℕ) → k < features → Every (λ r. r < flags) (part rows k a e cols)

@@ -1,0 +1,14 @@
+-- What the work columns hold after each step of set-up and split, and the laws that growth needs of it. Nothing is assumed.
+
+-- a room that is filled with one value
+pub mod Filling
+-- the columns, and what each step promises of them
+pub mod Columns
+pub mod Split
+-- their laws
+pub mod Fronts
+pub mod Stretches
+pub mod Setup
+pub mod Kept
+pub mod Pass
+pub mod Halves

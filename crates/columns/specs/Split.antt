@@ -1,0 +1,102 @@
+-- The split pass: what it makes of the rows of a stretch, and what it leaves in the flags.
+use Prim.Native.Nat.{ℕ, _+_, _-_, _*_, _<_, _≤_}
+use mathlib.Core.Path.{_≡_}
+use mathlib.Core.Bool.{Bool, true, false}
+use mathlib.Core.List.{List, [], _∷_, map}
+use lib.ListN.{length, set}
+use lib.Ieee.{Float}
+use Rattle.rules.specs.declared.Cut.{Cut}
+use Rattle.rules.specs.Words.{keep, total}
+use Rattle.rules.specs.Totals.{empty, takeIn}
+use Rattle.rules.specs.Search.{Element, Column, totals, tally, goesTrue, trueSide, falseSide}
+use Rattle.rules.specs.Fit.{elementIn}
+use Rattle.laws.specs.Lists.{Every}
+use Rattle.columns.specs.declared.Side.{Side}
+use Rattle.columns.specs.declared.Sides.{Sides}
+use Rattle.columns.specs.Columns.{part, partedColumns, Counted}
+
+-- the tables of a fit, by their lengths
+pub record Shaped (rows features : ℕ) (values targets weights : List Float) (counts : List ℕ) : Type 0 where
+  pub tables : Counted rows weights counts
+  pub wide : length values ≡ rows * features
+  pub targeted : length targets ≡ rows
+
+-- a row has a value of feature j
+pub record CellAsks (rows features : ℕ) (values : List Float) (j i : ℕ) : Type 0 where
+  pub wide : length values ≡ rows * features
+  pub row : i < rows
+  pub known : j < features
+
+-- no row yet
+abbrev pub none : Sides
+none = record { yes = record { totals = empty; count = 0 }; no = record { totals = empty; count = 0 }; all = empty; rows = 0 }
+
+-- one row more, of target y, mass m and count k
+unfoldable pub joined : Side → Float → Float → ℕ → Side
+joined s y m k = record { totals = takeIn (s .totals) y m; count = s .count + k }
+
+-- on the side that the test says
+unfoldable pub sided : Bool → Sides → Float → Float → ℕ → Sides
+sided true s y m k = record { yes = joined (s .yes) y m k; no = s .no; all = takeIn (s .all) y m; rows = s .rows + 1 }
+sided false s y m k = record { yes = s .yes; no = joined (s .no) y m k; all = takeIn (s .all) y m; rows = s .rows }
+
+pub record SidedAsks (s : Sides) (k : ℕ) : Type 0 where
+  pub yes : s .yes .count + k < 4294967296
+  pub no : s .no .count + k < 4294967296
+  pub rows : s .rows + 1 < 4294967296
+
+-- ---- over a stretch
+
+-- whether row r goes to the true side
+abbrev pub goes : (ℕ → Element) → Cut → ℕ → Bool
+goes el c r = goesTrue c (el r)
+
+abbrev pub sideOn : Column → Side
+sideOn es = record { totals = totals empty es; count = tally es }
+
+abbrev pub sidesOf : (ℕ → Element) → Cut → List ℕ → Sides
+sidesOf el c l =
+    record { yes = sideOn (trueSide c (map el l)); no = sideOn (falseSide c (map el l)); all = totals empty (map el l); rows = length (keep (goes el c) l) }
+
+-- flags, each row of the list set to its test
+unfoldable pub marked : (ℕ → Bool) → List Bool → List ℕ → List Bool
+marked p flags [] = flags
+marked p flags (r ∷ l) = marked p (set flags r (p r)) l
+
+pub record PassAsks (rows features : ℕ) (values targets weights : List Float) (counts : List ℕ) (c : Cut) (col : List ℕ) (flags : ℕ) : Type 0 where
+  pub shaped : Shaped rows features values targets weights counts
+  pub known : c .feature < features
+  pub below : Every (λ r. r < rows) col
+  pub short : length col < 4294967296
+  pub count : tally (map (elementIn features values targets weights counts) col) < 4294967296
+  pub room : rows ≤ flags
+
+pub record PassDone (el : ℕ → Element) (c : Cut) (col : List ℕ) (before after : List Bool) (s : Sides) : Type 0 where
+  pub within : s .rows ≤ length col
+  pub sides : s ≡ sidesOf el c col
+  pub flags : after ≡ marked (goes el c) before col
+
+-- ---- over every column
+
+-- the same rows in another order: every weight adds up to the same
+abbrev pub Alike : List ℕ → List ℕ → Type 0
+Alike l m = (g : ℕ → ℕ) → total g l ≡ total g m
+
+pub record SplitAsks (rows features a e : ℕ) (values targets weights : List Float) (counts : List ℕ) (c : Cut) (cols : List ℕ) (scratch flags : ℕ) : Type 0 where
+  pub shaped : Shaped rows features values targets weights counts
+  pub few : rows < 4294967296
+  pub known : c .feature < features
+  pub long : features * rows ≤ length cols
+  pub order : a ≤ e
+  pub high : e ≤ rows
+  pub scratchRoom : e - a ≤ scratch
+  pub flagRoom : rows ≤ flags
+  pub below : (k : ℕ) → k < features → Every (λ r. r < rows) (part rows k a e cols)
+  pub alike : (k : ℕ) → k < features → Alike (part rows (c .feature) a e cols) (part rows k a e cols)
+  pub count : tally (map (elementIn features values targets weights counts) (part rows (c .feature) a e cols)) < 4294967296
+
+pub record SplitDone (rows features a e : ℕ) (el : ℕ → Element) (c : Cut) (before after : List ℕ) (f f′ : List Bool) (s : Sides) : Type 0 where
+  pub within : s .rows ≤ e - a
+  pub sides : s ≡ sidesOf el c (part rows (c .feature) a e before)
+  pub flags : f′ ≡ marked (goes el c) f (part rows (c .feature) a e before)
+  pub columns : after ≡ partedColumns rows a e (goes el c) features before
