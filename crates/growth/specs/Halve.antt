@@ -66,6 +66,11 @@ module _ (rows features a e : ℕ) (t : Tables) (cols : List ℕ) (c : Cut) (mos
         count = lt-of-le-of-lt (q .room) m;
       }
 
+  pub split-fits : most < 4294967296 → (f f′ : List Bool) (after : List ℕ) (s : Sides) → length f ≡ fl → SplitDone rows features a e (elementOf features t) c cols after f f′ s → a + s .rows ≤ e
+  split-fits m f f′ after s lf d =
+      split-inside rows features a e (t .x) (t .y) (t .weights) (t .counts) c cols after sc f f′ s
+      (subst (SplitAsks rows features a e (t .x) (t .y) (t .weights) (t .counts) c cols sc) (sym lf) (split-asks m)) d
+
   abbrev asked : Side → Asked
   asked s = record { totals = s .totals; count = s .count }
 

@@ -1,15 +1,20 @@
+-- `growth::halve` meets its contract: the columns are split by the cut, and the score is taken from the sides and the whole. Assumes nothing.
 use native.Mathlib.Omega.{arith}
 use borrow.Author.Needs.{needs}
+use Prim.Native.Nat.{_<_}
+use mathlib.Core.Path.{refl}
+use Rattle.growth.specs.Halve.{split-asks, split-fits, halved}
 use Rattle.growth.proofs.halve.Statement.{statement}
 use Rattle.growth.proofs.halve.Tie as tie
-use Rattle.growth.proofs.halve.Reads as reads
-use Rattle.growth.proofs.halve.Lts as lts
-use Rattle.columns.proofs.split_columns.Reads as split-columns-reads
-use Rattle.criterion.proofs.score_of.Reads as score-of-reads
-use Rattle.search.proofs.wide.Reads as wide-reads
+
+abbrev start : tie.After-wide → tie.Start
+start c = c .before .before .before .before .before .before .before .before .before .before .before .before .before .before .before .before .before .before .before .before .before .before .before .before
+
+few : (c : tie.Start) → c .args .most < 4294967296
+few c = omega arith
 
 split-columns-requires : tie.Need-split-columns-requires
-split-columns-requires c κs = search needs
+split-columns-requires c κs = split-asks _ _ _ _ _ _ _ _ _ _ (c .before .before .before .before .before .before .before .before .before .before .pre) (omega arith)
 
 score-of-requires : tie.Need-score-of-requires
 score-of-requires c κs = search needs
@@ -18,7 +23,7 @@ wide-requires : tie.Need-wide-requires
 wide-requires c κs = search needs
 
 add-mid : tie.Need-add-mid
-add-mid c = search needs
+add-mid c = omega (arith, split-fits _ _ _ _ _ _ _ _ _ _ (start c .pre) (few (start c)) _ _ _ _ refl (c .before .before .before .before .before .before .before .before .before .before .before .before .before .split-columns .ensures), c .wide .ensures, start c .pre .high, start c .pre .small)
 
 same-length : tie.Need-same-length
 same-length c = search needs
@@ -30,7 +35,7 @@ same-length-3 : tie.Need-same-length-3
 same-length-3 c = search needs
 
 returns : tie.Need-returns
-returns c = search needs
+returns c = halved _ _ _ _ _ _ _ _ _ _ (start c .pre) (few (start c)) _ _ _ _ refl (c .before .before .before .before .before .before .before .before .before .before .before .before .before .split-columns .ensures) (c .wide .ensures) (c .before .score-of .ensures)
 
 pub halve-spec : {M : Type 1} → statement M
 halve-spec =
