@@ -4,3 +4,4 @@ pub mod Halve
 pub mod Rooms
 pub mod Steps
 pub mod Both
+pub mod Turns

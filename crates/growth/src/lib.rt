@@ -4,7 +4,7 @@ ghost use Prim.Native.Nat.{_+_, _≤_, _<_, max};
 ghost use lib.ListN.{length, set};
 ghost use Rattle.rules.specs.Lent.{Columns};
 ghost use Rattle.growth.specs.Halve.{HalveAsks, Halved};
-ghost use Rattle.growth.specs.Rooms.{wholesOf, realsOf, waitAt, putRow, LongAll, PushDone, ChildAsks, ChildDone, leafRow, wroteSplit, BothAsks, BothDone};
+ghost use Rattle.growth.specs.Rooms.{wholesOf, realsOf, waitAt, putRow, LongAll, PushDone, ChildAsks, ChildDone, leafRow, wroteSplit, BothAsks, BothDone, TurnAsks, TurnDone};
 use rules::Cut;
 use rules::Params;
 use rules::Totals;
@@ -304,5 +304,52 @@ pub fn greater(a: u32, b: u32) -> u32
         return b;
     }
     a
+}
+
+// One turn: the last to join is split, and its children are asked.
+pub fn turn(
+    x: &[f64],
+    y: &[f64],
+    weights: &[f64],
+    counts: &[u32],
+    words: &[u32],
+    thresholds: &[f64],
+    cols: &mut [u32],
+    scratch: &mut [u32],
+    flags: &mut [bool],
+    value: &mut [f64],
+    feature: &mut [u32],
+    threshold: &mut [f64],
+    score: &mut [f64],
+    yes: &mut [u32],
+    no: &mut [u32],
+    wholes: &mut [[u32; 6]],
+    reals: &mut [[f64; 3]],
+    rows: usize,
+    features: usize,
+    p: Params,
+    at: At,
+) -> Turned
+    requires { ⌜ TurnAsks (record { rows = rows; features = features; tables = (record { x = now x; y = now y; weights = now weights; counts = now counts }); cols = now cols }) p (now words) (length (now scratch)) (length (now flags)) (record { value = now (value); feature = now (feature); threshold = now (threshold); score = now (score); trueChild = now (yes); falseChild = now (no) }) (now wholes) (now reals) at ⌝ }
+    ensures { λ r. ⌜ TurnDone (record { rows = rows; features = features; tables = (record { x = now (x .entry); y = now (y .entry); weights = now (weights .entry); counts = now (counts .entry) }); cols = now (cols .entry) }) (record { rows = rows; features = features; tables = (record { x = now (x .entry); y = now (y .entry); weights = now (weights .entry); counts = now (counts .entry) }); cols = now (cols .exit) }) p (now (words .entry)) (now (thresholds .entry)) (record { value = now (value .entry); feature = now (feature .entry); threshold = now (threshold .entry); score = now (score .entry); trueChild = now (yes .entry); falseChild = now (no .entry) }) (record { value = now (value .exit); feature = now (feature .exit); threshold = now (threshold .exit); score = now (score .exit); trueChild = now (yes .exit); falseChild = now (no .exit) }) (now (wholes .entry)) (now (reals .entry)) (now (wholes .exit)) (now (reals .exit)) at r ⌝ }
+{
+    let m = at.waiting - 1;
+    let n = at.nodes;
+    let d = at.drawn;
+    let w = top(wholes, reals, m);
+    let h = split_node(x, y, weights, counts, cols, scratch, flags, value, feature, threshold, score, yes, no, rows, features, w, n);
+    let mid = narrow(h.mid);
+    let l = w.level + 1;
+    let a = h.yes;
+    let b = h.no;
+    let r = search_both(x, y, weights, counts, cols, words, thresholds, wholes, reals, rows, features, p, n, l, w.start, mid, w.end, a, b, Stand { waiting: m, drawn: d });
+    match r {
+        Step::Refused(k) => Turned::Refused(k),
+        Step::Goes(s) => {
+            let deep = greater(at.depth, l);
+            let e = s.drawn;
+            Turned::Goes(At { nodes: n + 2, depth: deep, waiting: s.waiting, drawn: e })
+        }
+    }
 }
 
