@@ -5,3 +5,5 @@ pub mod Rooms
 pub mod Steps
 pub mod Both
 pub mod Turns
+pub mod Loop
+pub mod Tree

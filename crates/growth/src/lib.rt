@@ -5,6 +5,8 @@ ghost use lib.ListN.{length, set};
 ghost use Rattle.rules.specs.Lent.{Columns};
 ghost use Rattle.growth.specs.Halve.{HalveAsks, Halved};
 ghost use Rattle.growth.specs.Rooms.{wholesOf, realsOf, waitAt, putRow, LongAll, PushDone, ChildAsks, ChildDone, leafRow, wroteSplit, BothAsks, BothDone, TurnAsks, TurnDone};
+ghost use Rattle.growth.specs.Loop.{GrowAsks, GrowDone};
+ghost use Rattle.growth.specs.Tree.{TreeAsks, StartDone, TreeDone};
 use rules::Cut;
 use rules::Params;
 use rules::Totals;
@@ -353,3 +355,116 @@ pub fn turn(
     }
 }
 
+// The growth: turns until nothing waits. `most` is how many nodes there may be.
+pub fn grow(
+    x: &[f64],
+    y: &[f64],
+    weights: &[f64],
+    counts: &[u32],
+    words: &[u32],
+    thresholds: &[f64],
+    cols: &mut [u32],
+    scratch: &mut [u32],
+    flags: &mut [bool],
+    value: &mut [f64],
+    feature: &mut [u32],
+    threshold: &mut [f64],
+    score: &mut [f64],
+    yes: &mut [u32],
+    no: &mut [u32],
+    wholes: &mut [[u32; 6]],
+    reals: &mut [[f64; 3]],
+    rows: usize,
+    features: usize,
+    most: usize,
+    p: Params,
+    start: At,
+) -> Turned
+    requires { ⌜ GrowAsks (record { rows = rows; features = features; tables = (record { x = now x; y = now y; weights = now weights; counts = now counts }); cols = now cols }) p (now words) most (length (now scratch)) (length (now flags)) (record { value = now (value); feature = now (feature); threshold = now (threshold); score = now (score); trueChild = now (yes); falseChild = now (no) }) (now wholes) (now reals) start ⌝ }
+    ensures { λ r. ⌜ GrowDone (record { rows = rows; features = features; tables = (record { x = now (x .entry); y = now (y .entry); weights = now (weights .entry); counts = now (counts .entry) }); cols = now (cols .entry) }) p (now (words .entry)) (now (thresholds .entry)) most (record { value = now (value .entry); feature = now (feature .entry); threshold = now (threshold .entry); score = now (score .entry); trueChild = now (yes .entry); falseChild = now (no .entry) }) (record { value = now (value .exit); feature = now (feature .exit); threshold = now (threshold .exit); score = now (score .exit); trueChild = now (yes .exit); falseChild = now (no .exit) }) (now (wholes .entry)) (now (reals .entry)) start r ⌝ }
+{
+    let mut at = start;
+    while 0 < at.waiting {
+        let r = turn(x, y, weights, counts, words, thresholds, cols, scratch, flags, value, feature, threshold, score, yes, no, wholes, reals, rows, features, p, at);
+        match r {
+            Turned::Refused(k) => {
+                return Turned::Refused(k);
+            }
+            Turned::Goes(next) => {
+                at = next;
+            }
+        }
+    }
+    Turned::Goes(at)
+}
+
+// The root is searched if something is kept, the limit is above 1 and its count reaches the least split.
+pub fn start_tree(
+    x: &[f64],
+    y: &[f64],
+    weights: &[f64],
+    counts: &[u32],
+    cols: &[u32],
+    words: &[u32],
+    thresholds: &[f64],
+    wholes: &mut [[u32; 6]],
+    reals: &mut [[f64; 3]],
+    rows: usize,
+    features: usize,
+    most: usize,
+    p: Params,
+    kept: u32,
+    root: Asked,
+) -> Step
+    requires { ⌜ TreeAsks (record { rows = rows; features = features; tables = (record { x = now x; y = now y; weights = now weights; counts = now counts }); cols = now cols }) p most kept root (length (now wholes)) (length (now reals)) ⌝ }
+    ensures { λ r. ⌜ StartDone (record { rows = rows; features = features; tables = (record { x = now (x .entry); y = now (y .entry); weights = now (weights .entry); counts = now (counts .entry) }); cols = now (cols .entry) }) p (now (words .entry)) (now (thresholds .entry)) (now (wholes .exit)) (now (reals .exit)) kept root r ⌝ }
+{
+    let s = Stand { waiting: 0, drawn: Drawn { words: 0, thresholds: 0, searches: 0 } };
+    if 0 < root.count {
+        return search_child(x, y, weights, counts, cols, words, thresholds, wholes, reals, rows, features, p, 0, 1, 0, kept, root, s);
+    }
+    Step::Goes(s)
+}
+
+// The growth of a tree whose kept rows lie in the work columns from 0 to `kept`.
+pub fn grow_tree(
+    x: &[f64],
+    y: &[f64],
+    weights: &[f64],
+    counts: &[u32],
+    words: &[u32],
+    thresholds: &[f64],
+    cols: &mut [u32],
+    scratch: &mut [u32],
+    flags: &mut [bool],
+    value: &mut [f64],
+    feature: &mut [u32],
+    threshold: &mut [f64],
+    score: &mut [f64],
+    yes: &mut [u32],
+    no: &mut [u32],
+    wholes: &mut [[u32; 6]],
+    reals: &mut [[f64; 3]],
+    rows: usize,
+    features: usize,
+    most: usize,
+    p: Params,
+    kept: u32,
+    root: Asked,
+) -> Turned
+    requires { ⌜ TreeAsks (record { rows = rows; features = features; tables = (record { x = now x; y = now y; weights = now weights; counts = now counts }); cols = now cols }) p most kept root (length (now wholes)) (length (now reals)) ⌝ }
+    requires { ⌜ (rows ≤ length (now scratch)) × (rows ≤ length (now flags)) × LongAll most (record { value = now (value); feature = now (feature); threshold = now (threshold); score = now (score); trueChild = now (yes); falseChild = now (no) }) ⌝ }
+    ensures { λ r. ⌜ TreeDone (record { rows = rows; features = features; tables = (record { x = now (x .entry); y = now (y .entry); weights = now (weights .entry); counts = now (counts .entry) }); cols = now (cols .entry) }) p (now (words .entry)) (now (thresholds .entry)) (record { value = now (value .entry); feature = now (feature .entry); threshold = now (threshold .entry); score = now (score .entry); trueChild = now (yes .entry); falseChild = now (no .entry) }) (record { value = now (value .exit); feature = now (feature .exit); threshold = now (threshold .exit); score = now (score .exit); trueChild = now (yes .exit); falseChild = now (no .exit) }) kept root r ⌝ }
+{
+    let t = root.totals;
+    put_leaf(value, feature, threshold, score, yes, no, 0, t);
+    let r = start_tree(x, y, weights, counts, cols, words, thresholds, wholes, reals, rows, features, most, p, kept, root);
+    match r {
+        Step::Refused(k) => Turned::Refused(k),
+        Step::Goes(s) => {
+            let d = s.drawn;
+            let at = At { nodes: 1, depth: 0, waiting: s.waiting, drawn: d };
+            grow(x, y, weights, counts, words, thresholds, cols, scratch, flags, value, feature, threshold, score, yes, no, wholes, reals, rows, features, most, p, at)
+        }
+    }
+}
