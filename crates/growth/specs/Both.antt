@@ -1,33 +1,30 @@
-use Prim.Native.Nat.{ℕ, zero, suc, _+_, _-_, _*_, _<_, _≤_, max}
-use native.Mathlib.Nat.{le-trans, le-refl, not-suc-le-zero}
+-- The node columns and the two children by the code's steps. Assumes nothing.
+use Prim.Native.Nat.{ℕ, suc, _+_, _-_, _≤_}
+use native.Mathlib.Nat.{le-trans, le-refl}
 use native.Mathlib.Omega.{arith}
 use native.Mathlib.Numerals.{add-one}
 use mathlib.Core.Path.{_≡_, refl, sym, ap, _∙_, subst}
-use mathlib.Core.Bool.{Bool, true, false, not, _&&_}
-use mathlib.Core.List.{List, [], _∷_, _++_, map, append-assoc}
-use lib.ListN.{length, getD, set, take, drop}
-use lib.Ieee.{Float, nan}
+use mathlib.Core.List.{List, _++_, append-assoc}
+use lib.ListN.{length}
+use lib.Ieee.{Float}
 use Rattle.rules.specs.declared.Totals.{Totals}
 use Rattle.rules.specs.declared.Params.{Params}
 use Rattle.rules.specs.declared.Cut.{Cut}
-use Rattle.search.specs.declared.Asked.{Asked}
-use Rattle.search.specs.declared.Drawn.{Drawn}
-use Rattle.search.specs.Flat.{Tables, NodeAsks, drawsAt, Fair}
-use Rattle.growth.specs.declared.Halves.{Halves}
-use Rattle.growth.specs.Halve.{HalveAsks, Halved}
-use Rattle.growth.specs.declared.Wait.{Wait}
-use Rattle.growth.specs.declared.Row.{Row}
-use Rattle.growth.specs.declared.Stand.{Stand}
-use Rattle.growth.specs.declared.Step.{Step}
-use Rattle.growth.specs.declared.Step.the-variants.{Refused, Goes}
 use Rattle.rules.specs.Lent.{Columns}
-use Rattle.growth.specs.Rooms.{Ground, nodeTask, stackOf, Laid, meantStep, LaidStep, MostStep, FairStep, ChildAsks, ChildDone, LongAll, putRow, leafRow, wroteSplit, BothAsks, searchTwo, BothDone}
-use Rattle.rules.specs.Search.{Task, search}
-use Rattle.rules.specs.Growth.{Waiting, TreeNode, State, searchable, searchIf}
+use Rattle.rules.specs.Search.{search}
+use Rattle.rules.specs.Growth.{Waiting, searchable, searchIf}
 use Rattle.rules.specs.Draws.{Out, bad, ok, bind, Tapes, tape}
 use Rattle.rules.specs.Words.{nought}
 use Rattle.rules.specs.Totals.{valueOf}
--- The node columns and the two children by the code's steps. Assumes nothing.
+use Rattle.search.specs.declared.Asked.{Asked}
+use Rattle.search.specs.Flat.{Tables, drawsAt}
+use Rattle.growth.specs.declared.Halves.{Halves}
+use Rattle.growth.specs.Halve.{HalveAsks, Halved}
+use Rattle.growth.specs.declared.Wait.{Wait}
+use Rattle.growth.specs.declared.Stand.{Stand}
+use Rattle.growth.specs.declared.Step.{Step}
+use Rattle.growth.specs.declared.Step.the-variants.{Refused, Goes}
+use Rattle.growth.specs.Rooms.{Ground, nodeTask, stackOf, meantStep, LaidStep, MostStep, FairStep, ChildAsks, ChildDone, LongAll, putRow, leafRow, wroteSplit, BothAsks, searchTwo, BothDone}
 
 pub leaf-is : (i : ℕ) (t : Totals) (c : Columns) {v : Float} {c′ : Columns} → v ≡ valueOf t → c′ ≡ putRow i (record { value = v; feature = 0; threshold = nought; score = nought; yes = 0; no = 0 }) c → c′ ≡ putRow i (leafRow t) c
 leaf-is i t c {v} ev e = e ∙ ap (λ z. putRow i (record { value = z; feature = 0; threshold = nought; score = nought; yes = 0; no = 0 }) c) ev

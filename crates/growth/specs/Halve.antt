@@ -12,12 +12,12 @@ use Rattle.rules.specs.Words.{keep}
 use Rattle.rules.specs.Totals.{empty, score}
 use Rattle.rules.specs.Search.{Element, totals, tally, goesTrue, trueSide, falseSide}
 use Rattle.laws.specs.Lists.{Every}
-use Rattle.search.specs.declared.Asked.{Asked}
-use Rattle.search.specs.Flat.{Tables, Shaped, elementOf, sideOn, part}
 use Rattle.columns.specs.declared.Side.{Side}
 use Rattle.columns.specs.declared.Sides.{Sides}
 use Rattle.columns.specs.Split.{Alike, SplitAsks, SplitDone}
 use Rattle.columns.specs.Halves.{split-long, split-beside, split-inside, split-every, true-part, false-part}
+use Rattle.search.specs.declared.Asked.{Asked}
+use Rattle.search.specs.Flat.{Tables, Shaped, elementOf, sideOn, part}
 use Rattle.growth.specs.declared.Halves.{Halves}
 
 -- does row r go to the true side

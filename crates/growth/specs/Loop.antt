@@ -1,35 +1,34 @@
-use Prim.Native.Nat.{ℕ, zero, suc, _+_, _-_, _*_, _<_, _≤_, max}
-use native.Mathlib.Nat.{le-trans, le-refl, lt-of-lt-of-le}
+-- The growth loop: what it asks, what it leaves, and its turns. Assumes nothing.
+use Prim.Native.Nat.{ℕ, suc, _+_, _-_, _*_, _<_, _≤_}
+use native.Mathlib.Nat.{le-refl}
 use native.Mathlib.Omega.{arith}
 use mathlib.Core.Path.{_≡_, refl, sym, ap, _∙_, subst}
-use mathlib.Core.Bool.{Bool, true, false, not, _&&_}
-use mathlib.Core.List.{List, [], _∷_, _++_, map, append-assoc}
-use lib.ListN.{length, getD, replicate, length-replicate}
-use lib.Ieee.{Float, nan}
+use mathlib.Core.List.{List, _∷_, _++_}
+use lib.ListN.{length, replicate, length-replicate}
+use lib.Ieee.{Float}
 use Rattle.rules.specs.declared.Params.{Params}
-use Rattle.search.specs.Flat.{Shaped, drawsAt, Fair}
-use Rattle.growth.specs.declared.At.{At}
-use Rattle.growth.specs.declared.Turned.{Turned}
-use Rattle.growth.specs.declared.Turned.the-variants as U
-use Rattle.growth.specs.Rooms.{Ground, waitAt, waitingOf, stackOf, Laid, BelowTo, LongAll, NodesIn, TurnAsks, stateAt, meantTurn, TurnKeeps, TurnDone}
 use Rattle.rules.specs.Lent.{Columns}
 use Rattle.rules.specs.Words.{total}
 use Rattle.rules.specs.declared.Kind.the-variants.{Leaf}
-use Rattle.columns.specs.Stretches.{part-every}
-use Rattle.growth.specs.Steps.{bind-through, laid-more}
-use Rattle.growth.specs.Both.{long-less}
-use Rattle.growth.specs.Turns.{withCols}
-use Rattle.rules.specs.Search.{Task, search, same}
-use Rattle.rules.specs.Growth.{Waiting, TreeNode, State, child, withChildren, expand, growAll, runs}
+use Rattle.rules.specs.Search.{search, same}
+use Rattle.rules.specs.Growth.{Waiting, TreeNode, State, withChildren, expand, growAll, runs}
 use Rattle.rules.specs.Draws.{Out, bad, ok, bind, Tapes, tape}
 use Rattle.rules.specs.Totals.{empty}
 use Rattle.laws.specs.Outs.{Then, then-after}
-use Rattle.growth.specs.Nodes.{then-bind, expand-number}
 use Rattle.laws.specs.Lists.{Every, every-append, every-imp}
 use Rattle.laws.specs.Stack.{expand-level, pop, children-length}
 use Rattle.laws.specs.Room.{load, rowsOf, halves, expand-bounded}
-use Rattle.laws.specs.Cuts.{search-fine, tape-fair, Good, Ripe, Fine}
--- The growth loop: what it asks, what it leaves, and its turns. Assumes nothing.
+use Rattle.laws.specs.Cuts.{search-fine, tape-fair, Ripe}
+use Rattle.columns.specs.Stretches.{part-every}
+use Rattle.search.specs.Flat.{Shaped, Fair}
+use Rattle.growth.specs.declared.At.{At}
+use Rattle.growth.specs.declared.Turned.{Turned}
+use Rattle.growth.specs.declared.Turned.the-variants as U
+use Rattle.growth.specs.Rooms.{Ground, waitAt, waitingOf, stackOf, Laid, BelowTo, LongAll, NodesIn, TurnAsks, stateAt, meantTurn, TurnDone}
+use Rattle.growth.specs.Steps.{bind-through, laid-more}
+use Rattle.growth.specs.Both.{long-less}
+use Rattle.growth.specs.Turns.{withCols}
+use Rattle.growth.specs.Nodes.{then-bind, expand-number}
 
 pub record GrowAsks (g : Ground) (P : Params) (W : List ℕ) (top scratch flags : ℕ) (c : Columns) (wholes : List (List ℕ)) (reals : List (List Float)) (at : At) : Type 0 where
   pub shape : Shaped (g .rows) (g .features) (g .tables)
@@ -58,7 +57,7 @@ pub record GrowAsks (g : Ground) (P : Params) (W : List ℕ) (top scratch flags 
 -- the growth as the definition has it, and what the code answers and leaves in the node columns
 abbrev pub GrownTo : List ℕ → List Float → Columns → Columns → Out (State Tapes) → Turned → Type 0
 GrownTo W M old c′ o (U.Refused k) = o ≡ bad k
-GrownTo W M old c′ o (U.Goes at) = (ns : List TreeNode) × (o ≡ ok (stateAt W M ns at)) × (length ns ≡ at .nodes) × NodesIn old ns c′
+GrownTo W M old c′ o (U.Goes at) = (ns : List TreeNode) × (o ≡ ok (stateAt W M ns at)) × (length ns ≡ at .nodes) × NodesIn old ns c′ × Fair W (at .drawn)
 
 abbrev pub grownFrom : Ground → Params → List ℕ → List Float → List (List ℕ) → List (List Float) → List TreeNode → At → Out (State Tapes)
 grownFrom g P W M wholes reals ns at = growAll P (search (tape (P .features)) P) (stackOf g wholes reals (at .waiting)) (stateAt W M ns at)
@@ -203,13 +202,13 @@ module _ (g : Ground) (P : Params) (W : List ℕ) (top sc fl : ℕ) (c : Columns
             node-room = lc; node-small = q .node-small; fair = d .keeps .1
           }
 
-pub grow-end : (g : Ground) (P : Params) (W : List ℕ) (M : List Float) (top : ℕ) (c : Columns) (wholes : List (List ℕ)) (reals : List (List Float)) (at : At) → at .waiting ≤ 0
+pub grow-end : (g : Ground) (P : Params) (W : List ℕ) (M : List Float) (top : ℕ) (c : Columns) (wholes : List (List ℕ)) (reals : List (List Float)) (at : At) → at .waiting ≤ 0 → Fair W (at .drawn)
     → (g₀ : Ground) (c₀ : Columns) (wholes₀ : List (List ℕ)) (reals₀ : List (List Float)) (at₀ : At) → Stands g₀ P W M top c₀ wholes₀ reals₀ at₀ g c wholes reals at
     → GrowDone g₀ P W M top c₀ c wholes₀ reals₀ at₀ (U.Goes at)
 unfolding growAll runs
-grow-end g P W M top c wholes reals at h g₀ c₀ wholes₀ reals₀ at₀ st old ns₀ e₀ lo i =
+grow-end g P W M top c wholes reals at h fair g₀ c₀ wholes₀ reals₀ at₀ st old ns₀ e₀ lo i =
     let s = st old ns₀ e₀ lo i in
-    (s .0, sym (s .3) ∙ ap (λ n. growAll P (search (tape (P .features)) P) (stackOf g wholes reals n) (stateAt W M (s .0) at)) (none (at .waiting) h), s .1, s .2)
+    (s .0, sym (s .3) ∙ ap (λ n. growAll P (search (tape (P .features)) P) (stackOf g wholes reals n) (stateAt W M (s .0) at)) (none (at .waiting) h), s .1, s .2, fair)
   where
     none : (n : ℕ) → n ≤ 0 → n ≡ 0
     none n h = omega arith
@@ -247,7 +246,7 @@ module _ (g₀ : Ground) (P : Params) (W : List ℕ) (M : List Float) (top sc₀
   growing-may h = turn-may g P W top sc fl c wholes reals at (i .asks) h
 
   pub growing-end : at .waiting ≤ 0 → GrowDone g₀ P W M top c₀ c wholes₀ reals₀ at₀ (U.Goes at)
-  growing-end h = grow-end g P W M top c wholes reals at h g₀ c₀ wholes₀ reals₀ at₀ (i .stands)
+  growing-end h = grow-end g P W M top c wholes reals at h (i .asks .fair) g₀ c₀ wholes₀ reals₀ at₀ (i .stands)
 
   module _ (h : 0 < at .waiting) (cols′ : List ℕ) (c′ : Columns) (wholes′ : List (List ℕ)) (reals′ : List (List Float)) (r : Turned) (d : TurnDone g (withCols g cols′) P W M c c′ wholes reals wholes′ reals′ at r) where
     pub growing-stop : (k : ℕ) → r ≡ U.Refused k → GrowDone g₀ P W M top c₀ c′ wholes₀ reals₀ at₀ (U.Refused k)

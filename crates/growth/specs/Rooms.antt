@@ -1,8 +1,9 @@
-use Prim.Native.Nat.{ℕ, zero, suc, _+_, _-_, _*_, _<_, _≤_, max}
+-- The rooms of a growth, and what they stand for: the waiting list is read off the two lists of arrays and the work columns; a node column is the nodes' field, then what it held.
+-- Definitions only. Assumes nothing.
+use Prim.Native.Nat.{ℕ, zero, suc, _+_, _-_, _*_, _<_, _≤_}
 use mathlib.Core.Path.{_≡_}
-use mathlib.Core.Bool.{Bool, true, false, not, _&&_}
-use mathlib.Core.List.{List, [], _∷_, _++_, map}
-use lib.ListN.{length, getD, set, take, drop}
+use mathlib.Core.List.{List, [], _∷_, _++_}
+use lib.ListN.{length, getD, set}
 use lib.Ieee.{Float, nan}
 use Rattle.rules.specs.declared.Totals.{Totals}
 use Rattle.rules.specs.declared.Params.{Params}
@@ -10,10 +11,16 @@ use Rattle.rules.specs.declared.Cut.{Cut}
 use Rattle.rules.specs.declared.Kind.{Kind}
 use Rattle.rules.specs.declared.Kind.the-variants.{Leaf, Split}
 use Rattle.rules.specs.Lent.{Columns, Entry, leafEntry}
+use Rattle.rules.specs.Search.{Task, cut, search}
+use Rattle.rules.specs.Growth.{Waiting, TreeNode, State, joins, searchable, searchIf, withChildren, expand}
+use Rattle.rules.specs.Draws.{Out, bad, ok, bind, Tapes, tape}
+use Rattle.rules.specs.Words.{nought}
+use Rattle.rules.specs.Totals.{valueOf}
+use Rattle.laws.specs.Lists.{Every}
+use Rattle.laws.specs.Cuts.{Ripe}
 use Rattle.search.specs.declared.Asked.{Asked}
 use Rattle.search.specs.declared.Drawn.{Drawn}
 use Rattle.search.specs.declared.Search.{Search}
-use Rattle.search.specs.declared.Search.the-variants as S
 use Rattle.search.specs.Flat.{Tables, NodeAsks, taskAt, drawsAt, Fair, FairAfter, meant, Shaped, part}
 use Rattle.growth.specs.declared.Wait.{Wait}
 use Rattle.growth.specs.declared.Row.{Row}
@@ -23,16 +30,7 @@ use Rattle.growth.specs.declared.Turned.the-variants as U
 use Rattle.growth.specs.declared.Stand.{Stand}
 use Rattle.growth.specs.declared.Step.{Step}
 use Rattle.growth.specs.declared.Step.the-variants.{Refused, Goes}
-use Rattle.rules.specs.Search.{Element, Task, Found, uncut, cut, search}
-use Rattle.rules.specs.Growth.{Waiting, TreeNode, State, joins, searchable, searchIf, withChildren, expand}
-use Rattle.rules.specs.Draws.{Out, bad, ok, bind, Tapes, tape}
-use Rattle.rules.specs.Words.{nought}
-use Rattle.rules.specs.Totals.{valueOf}
 use Rattle.growth.specs.Nodes.{columnOf}
-use Rattle.laws.specs.Lists.{Every}
-use Rattle.laws.specs.Cuts.{Good, Ripe, Fine}
--- The rooms of a growth, and what they stand for: the waiting list is read off the two lists of arrays and the work columns; a node column is the nodes' field, then what it held.
--- Definitions only. Assumes nothing.
 
 -- what a waiting node's rows are read off
 pub record Ground : Type 0 where

@@ -1,33 +1,31 @@
-use Prim.Native.Nat.{ℕ, zero, suc, _+_, _-_, _*_, _<_, _≤_, max}
-use native.Mathlib.Nat.{le-trans, le-refl, not-suc-le-zero}
+-- The waiting list by the code's steps. Assumes nothing.
+use Prim.Native.Nat.{ℕ, zero, suc, _+_, _-_, _<_, _≤_}
+use native.Mathlib.Nat.{le-trans, le-refl}
 use native.Mathlib.Omega.{arith}
 use native.Mathlib.Numerals.{add-one}
 use mathlib.Core.Path.{_≡_, refl, sym, ap, _∙_, subst}
-use mathlib.Core.Bool.{Bool, true, false, not, _&&_}
-use mathlib.Core.List.{List, [], _∷_, _++_, map, append-assoc}
-use lib.ListN.{length, getD, set, take, drop}
+use mathlib.Core.Bool.{false, _&&_}
+use mathlib.Core.List.{List, [], _∷_, _++_}
+use lib.ListN.{length, getD, set}
 use lib.Seq.{getD-set-same, getD-set-other}
-use lib.Dec.{ltb, leb}
-use lib.Ieee.{Float, nan}
+use lib.Dec.{leb}
+use lib.Ieee.{Float}
 use borrow.Author.Tests.{lt-ltb, le-ltb, le-leb, lt-leb}
-use Rattle.rules.specs.declared.Totals.{Totals}
 use Rattle.rules.specs.declared.Params.{Params}
 use Rattle.rules.specs.declared.Cut.{Cut}
+use Rattle.rules.specs.Search.{Task, Found, cut, search}
+use Rattle.rules.specs.Growth.{Waiting, joins, searchable, searchIf}
+use Rattle.rules.specs.Draws.{Out, bad, ok, bind, Tapes, tape}
 use Rattle.search.specs.declared.Asked.{Asked}
 use Rattle.search.specs.declared.Drawn.{Drawn}
 use Rattle.search.specs.declared.Search.{Search}
 use Rattle.search.specs.declared.Search.the-variants as S
-use Rattle.search.specs.Flat.{Tables, NodeAsks, taskAt, drawsAt, Fair, FairAfter, meant, Searched}
+use Rattle.search.specs.Flat.{Tables, NodeAsks, drawsAt, Fair, meant, Searched}
 use Rattle.growth.specs.declared.Wait.{Wait}
 use Rattle.growth.specs.declared.Stand.{Stand}
 use Rattle.growth.specs.declared.Step.{Step}
 use Rattle.growth.specs.declared.Step.the-variants.{Refused, Goes}
-use Rattle.growth.specs.Rooms.{Ground, wholesOf, realsOf, waitOf, waitAt, askedOf, cutOf, nodeTask, waitingOf, stackOf, Laid, meantStep, LaidStep, MostStep, FairStep, PushDone, ChildDone}
-use Rattle.rules.specs.Search.{Element, Task, Found, uncut, cut, search}
-use Rattle.rules.specs.Growth.{Waiting, TreeNode, State, joins, searchable, searchIf}
-use Rattle.rules.specs.Draws.{Out, bad, ok, bind, Tapes, tape}
-use Rattle.laws.specs.Outs.{bind-assoc}
--- The waiting list by the code's steps. Assumes nothing.
+use Rattle.growth.specs.Rooms.{Ground, wholesOf, realsOf, waitOf, waitAt, nodeTask, waitingOf, stackOf, Laid, PushDone, ChildDone}
 
 wait-kept : (wholes : List (List ℕ)) (reals : List (List Float)) (n i : ℕ) (w : List ℕ) (r : List Float) → i < n → waitAt (set wholes n w) (set reals n r) i ≡ waitAt wholes reals i
 wait-kept wholes reals n i w r h =

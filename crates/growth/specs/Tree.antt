@@ -1,15 +1,25 @@
-use Prim.Native.Nat.{ℕ, zero, suc, _+_, _-_, _*_, _<_, _≤_, max}
-use native.Mathlib.Nat.{le-trans, le-refl, zero-lt-suc}
+-- The growth from the root on: what it asks, what it leaves, and how it starts. Assumes nothing.
+use Prim.Native.Nat.{ℕ, _+_, _-_, _*_, _<_, _≤_}
+use native.Mathlib.Nat.{le-refl}
 use native.Mathlib.Omega.{arith}
 use mathlib.Core.Path.{_≡_, refl, sym, ap, _∙_, subst}
-use mathlib.Core.Bool.{Bool, true, false, not, _&&_}
-use mathlib.Core.List.{List, [], _∷_, _++_, map}
-use lib.ListN.{length, getD, set, drop}
-use lib.Dec.{T, ltb}
-use lib.Ieee.Fits.{and-r}
+use mathlib.Core.Bool.{_&&_}
+use mathlib.Core.List.{List, [], _∷_, _++_}
+use lib.ListN.{length}
+use lib.Dec.{ltb}
 use lib.Ieee.{Float, nan}
 use borrow.Author.Tests.{lt-ltb, le-ltb}
 use Rattle.rules.specs.declared.Params.{Params}
+use Rattle.rules.specs.Lent.{Columns, writeEntries}
+use Rattle.rules.specs.Fit.{entries}
+use Rattle.rules.specs.Search.{Task, search}
+use Rattle.rules.specs.Growth.{Waiting, TreeNode, State, leafOf, searchable, searchIf, growAll, fromRoot}
+use Rattle.rules.specs.Draws.{Out, bad, ok, bind, Tapes, tape}
+use Rattle.laws.specs.Outs.{Then, then-after}
+use Rattle.laws.specs.Lists.{Every, every-imp}
+use Rattle.laws.specs.Stack.{root-level}
+use Rattle.laws.specs.Room.{load, rowsOf, searchIf-load}
+use Rattle.laws.specs.Cuts.{search-fine, tape-fair, Good, Ripe}
 use Rattle.search.specs.declared.Asked.{Asked}
 use Rattle.search.specs.declared.Drawn.{Drawn}
 use Rattle.search.specs.Flat.{Shaped, drawsAt, Fair}
@@ -19,23 +29,12 @@ use Rattle.growth.specs.declared.Step.{Step}
 use Rattle.growth.specs.declared.Step.the-variants.{Refused, Goes}
 use Rattle.growth.specs.declared.Turned.{Turned}
 use Rattle.growth.specs.declared.Turned.the-variants as U
-use Rattle.growth.specs.Rooms.{Ground, nodeTask, stackOf, Laid, LaidStep, FairStep, meantStep, BelowTo, LongAll, putRow, leafRow, rowFor, NodesIn, stateAt, ChildAsks, ChildDone}
-use Rattle.rules.specs.Lent.{Columns}
-use Rattle.growth.specs.Steps.{laid-more}
+use Rattle.growth.specs.Rooms.{Ground, nodeTask, stackOf, LaidStep, FairStep, meantStep, BelowTo, LongAll, putRow, leafRow, rowFor, NodesIn, ChildAsks, ChildDone}
+use Rattle.growth.specs.Written.{nodes-written}
 use Rattle.growth.specs.Both.{long-less}
 use Rattle.growth.specs.Turns.{good-asks}
-use Rattle.growth.specs.Loop.{GrowAsks, GrowDone, GrownTo, grownFrom}
-use Rattle.rules.specs.Search.{Task, search}
-use Rattle.rules.specs.Growth.{Waiting, TreeNode, State, leafOf, searchable, searchIf, growAll, fromRoot}
-use Rattle.rules.specs.Draws.{Out, bad, ok, bind, Tapes, tape}
-use Rattle.rules.specs.Totals.{empty, valueOf}
-use Rattle.laws.specs.Outs.{Then, then-after, then-both}
-use Rattle.growth.specs.Nodes.{then-bind, searchIf-number, columnOf, add-node}
-use Rattle.laws.specs.Lists.{Every, every-imp}
-use Rattle.laws.specs.Stack.{root-level}
-use Rattle.laws.specs.Room.{load, rowsOf, searchIf-load}
-use Rattle.laws.specs.Cuts.{search-fine, tape-fair, Good, Ripe, Fine}
--- The growth from the root on: what it asks, what it leaves, and how it starts. Assumes nothing.
+use Rattle.growth.specs.Loop.{GrowAsks, GrowDone, GrownTo}
+use Rattle.growth.specs.Nodes.{then-bind, searchIf-number, add-node}
 
 abbrev pub unused : Drawn
 unused = record { words = 0; thresholds = 0; searches = 0 }
@@ -72,9 +71,24 @@ pub record StartDone (g : Ground) (P : Params) (W : List ℕ) (M : List Float) (
   pub laid : LaidStep wholes′ reals′ kept r
   pub fair : FairStep W r
 
--- the whole growth as the definition has it: past the nodes the columns keep what they held
+-- a tree as the definition has it, its nodes written at the front of the columns: past them the columns keep what they held
+pub record Grew (W : List ℕ) (M : List Float) (c c′ : Columns) (o : Out (State Tapes)) (at : At) : Type 0 where
+  pub nodes : List TreeNode
+  pub same : o ≡ ok (record { nodes = nodes; depth = at .depth; left = drawsAt W M (at .drawn) })
+  pub count : length nodes ≡ at .nodes
+  pub written : c′ ≡ writeEntries (entries nodes) c
+  pub fair : Fair W (at .drawn)
+
+abbrev pub Answers : List ℕ → List Float → Columns → Columns → Out (State Tapes) → Turned → Type 0
+Answers W M c c′ o (U.Refused k) = o ≡ bad k
+Answers W M c c′ o (U.Goes at) = Grew W M c c′ o at
+
 pub record TreeDone (g : Ground) (P : Params) (W : List ℕ) (M : List Float) (c c′ : Columns) (kept : ℕ) (q : Asked) (r : Turned) : Type 0 where
-  pub grown : GrownTo W M c c′ (fromRoot P (search (tape (P .features)) P) (rootTask g kept q) (drawsAt W M unused)) r
+  pub grown : Answers W M c c′ (fromRoot P (search (tape (P .features)) P) (rootTask g kept q) (record { words = W; thresholds = M; searches = 0 })) r
+
+grown-answers : (W : List ℕ) (M : List Float) (c c′ : Columns) (o : Out (State Tapes)) (t : Turned) → GrownTo W M c c′ o t → Answers W M c c′ o t
+grown-answers W M c c′ o (U.Refused k) h = h
+grown-answers W M c c′ o (U.Goes at) h = record { nodes = h .0; same = h .1; count = h .2; written = nodes-written c c′ (h .0) (h .3); fair = h .4 }
 
 module _ (g : Ground) (P : Params) (top kept : ℕ) (q : Asked) (rw rr : ℕ) (h : TreeAsks g P top kept q rw rr) where
   pub start-asks : (W : List ℕ) → ChildAsks g P W 0 kept q outset rw rr
@@ -176,8 +190,8 @@ module _ (g : Ground) (P : Params) (W : List ℕ) (M : List Float) (top kept : �
     pub tree-goes : (c c₁ c′ : Columns) → LongAll top c → c₁ ≡ putRow 0 (leafRow (q .totals)) c → (t : Turned) → GrowDone g P W M top c₁ c′ wholes′ reals′ at₁ t → TreeDone g P W M c c′ kept q t
     unfolding bind
     tree-goes c c₁ c′ lc ec t gd =
-        record { grown = subst (λ o. GrownTo W M c c′ o t) (sym (from-start ∙ ap (λ z. bind (meantStep g W M wholes′ reals′ z) go) e))
-        (gd c (leafOf (rootTask g kept q) ∷ []) refl lc (root-nodes c c₁ (rootTask g kept q) (long-less 1 top c (one top (rowsOf (rootTask g kept q) - 1) (h .enough)) lc) ec)) }
+        record { grown = grown-answers W M c c′ _ t (subst (λ o. GrownTo W M c c′ o t) (sym (from-start ∙ ap (λ z. bind (meantStep g W M wholes′ reals′ z) go) e))
+        (gd c (leafOf (rootTask g kept q) ∷ []) refl lc (root-nodes c c₁ (rootTask g kept q) (long-less 1 top c (one top (rowsOf (rootTask g kept q) - 1) (h .enough)) lc) ec))) }
       where
         one : (top n : ℕ) → 1 + 2 * n ≤ top → 1 ≤ top
         one top n a = omega arith

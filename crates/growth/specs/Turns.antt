@@ -1,45 +1,39 @@
+-- A turn put together: one step of the definition's stack. Assumes nothing.
 use Prim.Native.Nat.{ℕ, zero, suc, _+_, _-_, _*_, _<_, _≤_, max}
-use native.Mathlib.Nat.{le-trans, le-refl, not-suc-le-zero, zero-add}
+use native.Mathlib.Nat.{le-trans, le-refl}
 use native.Mathlib.Omega.{arith}
 use native.Mathlib.Numerals.{add-one}
 use mathlib.Core.Path.{_≡_, refl, sym, ap, _∙_, subst}
-use mathlib.Core.Bool.{Bool, true, false, not, _&&_}
+use mathlib.Core.Bool.{Bool, true, not}
 use mathlib.Core.List.{List, [], _∷_, _++_, map, append-assoc}
-use lib.ListN.{length, getD, set, take, drop, length-set, length-append, length-map, length-take, length-drop}
-use lib.Seq.{take-take}
+use lib.ListN.{length, getD, set, length-set, length-append, length-take}
 use lib.Ieee.{Float, nan}
-use Rattle.rules.specs.declared.Totals.{Totals}
 use Rattle.rules.specs.declared.Params.{Params}
-use Rattle.rules.specs.declared.Cut.{Cut}
 use Rattle.rules.specs.declared.Splitter.the-variants.{Best}
-use Rattle.search.specs.declared.Asked.{Asked}
-use Rattle.search.specs.declared.Drawn.{Drawn}
-use Rattle.search.specs.Flat.{Tables, Shaped, Below, elementOf, part, columnsAt, taskAt, NodeAsks, drawsAt, Fair, sideOn}
-use Rattle.search.specs.Tries.{column-of}
-use Rattle.growth.specs.declared.Halves.{Halves}
-use Rattle.columns.specs.Split.{Alike}
-use Rattle.columns.specs.Stretches.{part-every}
-use Rattle.laws.specs.Lists.{Every, every-at, keep-map}
 use Rattle.rules.specs.Fit.{elementIn}
 use Rattle.rules.specs.Lent.{Columns}
-use Rattle.growth.specs.Halve.{HalveAsks, Halved, rowGoes}
+use Rattle.rules.specs.Search.{Element, Column, Task, search, same, goesTrue, tally, totals, trueSide, falseSide, sideOf}
+use Rattle.rules.specs.Growth.{Waiting, TreeNode, State, searchable, searchIf, child, leafOf, splitOf, splitting, withChildren, expand}
+use Rattle.rules.specs.Draws.{Out, bad, ok, bind, Tapes, tape}
+use Rattle.rules.specs.Words.{keep, putIf, total, from}
+use Rattle.rules.specs.Totals.{valueOf, empty, score}
+use Rattle.laws.specs.Lists.{every-at, keep-map}
+use Rattle.laws.specs.Cuts.{Good, side-good}
+use Rattle.columns.specs.Split.{Alike}
+use Rattle.columns.specs.Stretches.{part-every}
+use Rattle.search.specs.declared.Asked.{Asked}
+use Rattle.search.specs.Flat.{Tables, Shaped, elementOf, part, columnsAt, NodeAsks, drawsAt, sideOn}
+use Rattle.search.specs.Tries.{column-of}
+use Rattle.growth.specs.declared.Halves.{Halves}
+use Rattle.growth.specs.Halve.{HalveAsks, Halved}
 use Rattle.growth.specs.declared.Wait.{Wait}
-use Rattle.growth.specs.declared.Row.{Row}
 use Rattle.growth.specs.declared.Stand.{Stand}
 use Rattle.growth.specs.declared.At.{At}
 use Rattle.growth.specs.declared.Step.{Step}
 use Rattle.growth.specs.declared.Step.the-variants.{Refused, Goes}
-use Rattle.growth.specs.declared.Turned.{Turned}
 use Rattle.growth.specs.declared.Turned.the-variants as U
-use Rattle.growth.specs.Rooms.{Ground, waitAt, cutOf, nodeTask, waitingOf, stackOf, Laid, meantStep, LaidStep, FairStep, ChildAsks, BelowTo, askedOf, LongAll, putRow, leafRow, wroteSplit, rowFor, NodesIn, BothAsks, searchTwo, BothDone, TurnAsks, stateAt, meantTurn, TurnKeeps, TurnDone}
-use Rattle.rules.specs.Search.{Element, Column, Task, search, same, goesTrue, tally, totals, trueSide, falseSide, sideOf}
-use Rattle.rules.specs.Growth.{Waiting, TreeNode, State, searchable, searchIf, child, leafOf, splitOf, splitting, withChildren, expand}
-use Rattle.rules.specs.Draws.{Out, bad, ok, bind, Tapes, tape}
-use Rattle.rules.specs.Words.{nought, keep, putIf, total, from}
-use Rattle.rules.specs.Totals.{valueOf, empty, score}
+use Rattle.growth.specs.Rooms.{Ground, waitAt, cutOf, nodeTask, waitingOf, stackOf, Laid, meantStep, LaidStep, FairStep, BelowTo, askedOf, LongAll, putRow, wroteSplit, rowFor, NodesIn, BothAsks, BothDone, TurnAsks, stateAt, TurnDone}
 use Rattle.growth.specs.Nodes.{columnOf, store-node, add-node}
-use Rattle.laws.specs.Cuts.{Good, side-good, Ripe, Fine}
--- A turn put together: one step of the definition's stack. Assumes nothing.
 
 abbrev pub withCols : Ground → List ℕ → Ground
 withCols g cols = record { rows = g .rows; features = g .features; tables = g .tables; cols = cols }

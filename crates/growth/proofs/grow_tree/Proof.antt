@@ -1,14 +1,11 @@
-use borrow.Author.Tests.{lt-ltb, le-ltb}
+-- `growth::grow_tree` meets its contract: the root is written and searched, and then all that waits is split. Assumes nothing.
+use Prim.Native.Nat.{_-_}
 use native.Mathlib.Omega.{arith}
-use mathlib.Core.Path.{_≡_, refl, sym, ap, _∙_, subst}
-use Prim.Native.Nat.{ℕ, _+_, _*_, _-_, _≤_, _<_}
-use mathlib.Core.List.{List, map}
-use lib.ListN.{length, getD, drop, take}
-use Rattle.growth.specs.Tree.{tree-asks, tree-stop, tree-goes}
+use mathlib.Core.Path.{_∙_}
 use borrow.Author.Needs.{needs}
+use Rattle.growth.specs.Tree.{tree-asks, tree-stop, tree-goes}
 use Rattle.growth.proofs.grow_tree.Statement.{statement}
 use Rattle.growth.proofs.grow_tree.Tie as tie
-
 
 put-leaf-requires : tie.Need-put-leaf-requires
 put-leaf-requires c κs = search needs

@@ -1,8 +1,8 @@
 -- `growth::halve` meets its contract: the columns are split by the cut, and the score is taken from the sides and the whole. Assumes nothing.
-use native.Mathlib.Omega.{arith}
-use borrow.Author.Needs.{needs}
 use Prim.Native.Nat.{_<_}
+use native.Mathlib.Omega.{arith}
 use mathlib.Core.Path.{refl}
+use borrow.Author.Needs.{needs}
 use Rattle.growth.specs.Halve.{split-asks, split-fits, halved}
 use Rattle.growth.proofs.halve.Statement.{statement}
 use Rattle.growth.proofs.halve.Tie as tie

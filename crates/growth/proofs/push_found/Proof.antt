@@ -1,17 +1,9 @@
-use borrow.Author.Tests.{lt-ltb, le-ltb}
-use native.Mathlib.Omega.{arith}
-use mathlib.Core.Path.{_≡_, refl, sym, ap, _∙_, subst}
-use Prim.Native.Nat.{ℕ, _+_, _*_, _-_, _≤_, _<_}
-use mathlib.Core.List.{List, map}
-use lib.ListN.{length, getD, drop, take}
-use Rattle.growth.specs.Steps.{push-none, push-uncut, push-cut}
+-- `growth::push_found` meets its contract: what the search found decides: nothing changes, or one more waits at the end of the list. Assumes nothing.
+use Prim.Native.Nat.{_-_}
 use borrow.Author.Needs.{needs}
+use Rattle.growth.specs.Steps.{push-none, push-uncut, push-cut}
 use Rattle.growth.proofs.push_found.Statement.{statement}
 use Rattle.growth.proofs.push_found.Tie as tie
-use Rattle.growth.proofs.push_found.Reads as reads
-use Rattle.growth.proofs.push_found.Lts as lts
-use Rattle.growth.proofs.push.Reads as push-reads
-
 
 enum-told : tie.Need-enum-told
 enum-told c = search needs

@@ -1,18 +1,9 @@
-use borrow.Author.Tests.{lt-ltb, le-ltb}
-use native.Mathlib.Omega.{arith}
-use mathlib.Core.Path.{_≡_, refl, sym, ap, _∙_, subst}
-use Prim.Native.Nat.{ℕ, _+_, _*_, _-_, _≤_, _<_}
-use mathlib.Core.List.{List, map}
-use lib.ListN.{length, getD, drop, take}
-use Rattle.growth.specs.Both.{leaf-is}
+-- `growth::put_leaf` meets its contract: a leaf is a row of which only the value is told. Assumes nothing.
+use Prim.Native.Nat.{_-_}
 use borrow.Author.Needs.{needs}
+use Rattle.growth.specs.Both.{leaf-is}
 use Rattle.growth.proofs.put_leaf.Statement.{statement}
 use Rattle.growth.proofs.put_leaf.Tie as tie
-use Rattle.growth.proofs.put_leaf.Reads as reads
-use Rattle.growth.proofs.put_leaf.Lts as lts
-use Rattle.growth.proofs.put_row.Reads as put-row-reads
-use Rattle.criterion.proofs.value_of.Reads as value-of-reads
-
 
 value-of-requires : tie.Need-value-of-requires
 value-of-requires c κs = search needs

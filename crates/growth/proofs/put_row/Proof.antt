@@ -1,16 +1,10 @@
-use borrow.Author.Tests.{lt-ltb, le-ltb}
-use native.Mathlib.Omega.{arith}
-use mathlib.Core.Path.{_≡_, refl, sym, ap, _∙_, subst}
-use Prim.Native.Nat.{ℕ, _+_, _*_, _-_, _≤_, _<_}
-use mathlib.Core.List.{List, map}
-use lib.ListN.{length, getD, drop, take}
-use Rattle.growth.specs.Rooms.{putRow}
+-- `growth::put_row` meets its contract: each column gets its field at place i. Assumes nothing.
+use Prim.Native.Nat.{_-_}
+use mathlib.Core.Path.{refl}
 use borrow.Author.Needs.{needs}
+use Rattle.growth.specs.Rooms.{putRow}
 use Rattle.growth.proofs.put_row.Statement.{statement}
 use Rattle.growth.proofs.put_row.Tie as tie
-use Rattle.growth.proofs.put_row.Reads as reads
-use Rattle.growth.proofs.put_row.Lts as lts
-
 
 mul-value : tie.Need-mul-value
 mul-value c = search needs

@@ -1,17 +1,9 @@
-use borrow.Author.Tests.{lt-ltb, le-ltb}
-use native.Mathlib.Omega.{arith}
-use mathlib.Core.Path.{_≡_, refl, sym, ap, _∙_, subst}
-use Prim.Native.Nat.{ℕ, _+_, _*_, _-_, _≤_, _<_}
-use mathlib.Core.List.{List, map}
-use lib.ListN.{length, getD, drop, take}
-use Rattle.growth.specs.Both.{second-asks, both-stop, both-goes}
+-- `growth::search_both` meets its contract: the false child is searched after the true one, with what the true one left of the tapes. Assumes nothing.
+use Prim.Native.Nat.{_-_}
 use borrow.Author.Needs.{needs}
+use Rattle.growth.specs.Both.{second-asks, both-stop, both-goes}
 use Rattle.growth.proofs.search_both.Statement.{statement}
 use Rattle.growth.proofs.search_both.Tie as tie
-use Rattle.growth.proofs.search_both.Reads as reads
-use Rattle.growth.proofs.search_both.Lts as lts
-use Rattle.growth.proofs.search_child.Reads as search-child-reads
-
 
 search-child-requires : tie.Need-search-child-requires
 search-child-requires c κs = search needs

@@ -1,20 +1,9 @@
-use borrow.Author.Tests.{lt-ltb, le-ltb}
-use native.Mathlib.Omega.{arith}
-use mathlib.Core.Path.{_≡_, refl, sym, ap, _∙_, subst}
-use Prim.Native.Nat.{ℕ, _+_, _*_, _-_, _≤_, _<_}
-use mathlib.Core.List.{List, map}
-use lib.ListN.{length, getD, drop, take}
-use Rattle.growth.specs.Steps.{node-at, ask-deep, ask-small, ask-goes}
-use Rattle.search.specs.Flat.{NodeAsks}
+-- `growth::search_child` meets its contract: a child is searched if the level is below the limit and the count reaches the least split. Assumes nothing.
+use Prim.Native.Nat.{_-_}
 use borrow.Author.Needs.{needs}
+use Rattle.growth.specs.Steps.{node-at, ask-deep, ask-small, ask-goes}
 use Rattle.growth.proofs.search_child.Statement.{statement}
 use Rattle.growth.proofs.search_child.Tie as tie
-use Rattle.growth.proofs.search_child.Reads as reads
-use Rattle.growth.proofs.search_child.Lts as lts
-use Rattle.growth.proofs.push_found.Reads as push-found-reads
-use Rattle.search.proofs.search_node.Reads as search-node-reads
-use Rattle.search.proofs.wide.Reads as wide-reads
-
 
 wide-requires : tie.Need-wide-requires
 wide-requires c κs = search needs

@@ -1,19 +1,9 @@
-use borrow.Author.Tests.{lt-ltb, le-ltb}
-use native.Mathlib.Omega.{arith}
-use mathlib.Core.Path.{_≡_, refl, sym, ap, _∙_, subst}
-use Prim.Native.Nat.{ℕ, _+_, _*_, _-_, _≤_, _<_}
-use mathlib.Core.List.{List, map}
-use lib.ListN.{length, getD, drop, take}
-use Rattle.growth.specs.Both.{halve-at, halved-at}
+-- `growth::split_node` meets its contract: the columns are split first, then three nodes are written. Assumes nothing.
+use Prim.Native.Nat.{_-_}
 use borrow.Author.Needs.{needs}
+use Rattle.growth.specs.Both.{halve-at, halved-at}
 use Rattle.growth.proofs.split_node.Statement.{statement}
 use Rattle.growth.proofs.split_node.Tie as tie
-use Rattle.growth.proofs.split_node.Reads as reads
-use Rattle.growth.proofs.split_node.Lts as lts
-use Rattle.growth.proofs.write_split.Reads as write-split-reads
-use Rattle.search.proofs.wide.Reads as wide-reads
-use Rattle.growth.proofs.halve.Reads as halve-reads
-
 
 wide-requires : tie.Need-wide-requires
 wide-requires c κs = search needs

@@ -1,14 +1,9 @@
-use borrow.Author.Tests.{lt-ltb, le-ltb}
-use native.Mathlib.Omega.{arith}
-use mathlib.Core.Path.{_≡_, refl, sym, ap, _∙_, subst}
-use Prim.Native.Nat.{ℕ, _+_, _*_, _-_, _≤_, _<_}
-use mathlib.Core.List.{List, map}
-use lib.ListN.{length, getD, drop, take}
-use Rattle.growth.specs.Tree.{start-asks, start-some, start-none}
+-- `growth::start_tree` meets its contract: the root is searched as a child is, if something is kept. Assumes nothing.
+use Prim.Native.Nat.{_-_}
 use borrow.Author.Needs.{needs}
+use Rattle.growth.specs.Tree.{start-asks, start-some, start-none}
 use Rattle.growth.proofs.start_tree.Statement.{statement}
 use Rattle.growth.proofs.start_tree.Tie as tie
-
 
 search-child-requires : tie.Need-search-child-requires
 search-child-requires c κs = start-asks _ _ _ _ _ _ _ (c .before .before .before .before .before .before .before .before .before .before .before .pre) (c .before .before .before .before .before .before .before .before .before .before .before .args .words .now)

@@ -1,21 +1,10 @@
-use borrow.Author.Tests.{lt-ltb, le-ltb}
+-- `growth::turn` meets its contract: the top of the waiting list is split, and its children are searched: one step of the stack. Assumes nothing.
+use Prim.Native.Nat.{_-_}
 use native.Mathlib.Omega.{arith}
-use mathlib.Core.Path.{_≡_, refl, sym, ap, _∙_, subst}
-use Prim.Native.Nat.{ℕ, _+_, _*_, _-_, _≤_, _<_}
-use mathlib.Core.List.{List, map}
-use lib.ListN.{length, getD, drop, take}
-use Rattle.growth.specs.Turns.{top-room, code-split, code-mid, code-level, code-asks, code-stop, code-goes}
 use borrow.Author.Needs.{needs}
+use Rattle.growth.specs.Turns.{top-room, code-split, code-mid, code-level, code-asks, code-stop, code-goes}
 use Rattle.growth.proofs.turn.Statement.{statement}
 use Rattle.growth.proofs.turn.Tie as tie
-use Rattle.growth.proofs.turn.Reads as reads
-use Rattle.growth.proofs.turn.Lts as lts
-use Rattle.growth.proofs.search_both.Reads as search-both-reads
-use Rattle.growth.proofs.greater.Reads as greater-reads
-use Rattle.growth.proofs.narrow.Reads as narrow-reads
-use Rattle.growth.proofs.split_node.Reads as split-node-reads
-use Rattle.growth.proofs.top.Reads as top-reads
-
 
 sub-m : tie.Need-sub-m
 sub-m c = search needs

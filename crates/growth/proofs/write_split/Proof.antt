@@ -1,20 +1,11 @@
-use borrow.Author.Tests.{lt-ltb, le-ltb}
+-- `growth::write_split` meets its contract: three rows are written, each in its place. Assumes nothing.
+use Prim.Native.Nat.{_-_}
 use native.Mathlib.Omega.{arith}
-use mathlib.Core.Path.{_≡_, refl, sym, ap, _∙_, subst}
-use Prim.Native.Nat.{ℕ, _+_, _*_, _-_, _≤_, _<_}
-use mathlib.Core.List.{List, map}
-use lib.ListN.{length, getD, drop, take}
-use Rattle.growth.specs.Both.{long-less, wrote}
+use mathlib.Core.Path.{_∙_}
 use borrow.Author.Needs.{needs}
+use Rattle.growth.specs.Both.{long-less, wrote}
 use Rattle.growth.proofs.write_split.Statement.{statement}
 use Rattle.growth.proofs.write_split.Tie as tie
-use Rattle.growth.proofs.write_split.Reads as reads
-use Rattle.growth.proofs.write_split.Lts as lts
-use Rattle.growth.proofs.put_leaf.Reads as put-leaf-reads
-use Rattle.growth.proofs.put_row.Reads as put-row-reads
-use Rattle.search.proofs.wide.Reads as wide-reads
-use Rattle.criterion.proofs.value_of.Reads as value-of-reads
-
 
 value-of-requires : tie.Need-value-of-requires
 value-of-requires c κs = search needs
