@@ -32,8 +32,12 @@ leaf-is i t c {v} ev e = e ∙ ap (λ z. putRow i (record { value = z; feature =
 pub long-less : (m n : ℕ) (c : Columns) → m ≤ n → LongAll n c → LongAll m c
 long-less m n c h l =
     record {
-      value = le-trans h (l .value); feature = le-trans h (l .feature); threshold = le-trans h (l .threshold);
-      score = le-trans h (l .score); yes = le-trans h (l .yes); no = le-trans h (l .no)
+      value = le-trans h (l .value);
+      feature = le-trans h (l .feature);
+      threshold = le-trans h (l .threshold);
+      score = le-trans h (l .score);
+      yes = le-trans h (l .yes);
+      no = le-trans h (l .no);
     }
 
 pub wrote : (w : Wait) (t f : Totals) (q : Float) (n : ℕ) (c : Columns) {k i : ℕ} {v : Float} {c₁ c₂ c₃ : Columns} → v ≡ valueOf (record { sum = w .sum; mass = w .mass }) → k ≡ n → i ≡ w .node
@@ -42,8 +46,8 @@ pub wrote : (w : Wait) (t f : Totals) (q : Float) (n : ℕ) (c : Columns) {k i :
 unfolding wroteSplit
 wrote w t f q n c {k} {i} {v} {c₁} {c₂} {c₃} ev ek ei e₁ e₂ e₃ =
     e₃ ∙ ap (putRow (k + 1) (leafRow f)) (e₂ ∙ ap (putRow k (leafRow t)) (e₁
-      ∙ ap (λ z. putRow z (record { value = v; feature = w .feature; threshold = w .cut; score = q; yes = n; no = n + 1 }) c) ei
-      ∙ ap (λ z. putRow (w .node) (record { value = z; feature = w .feature; threshold = w .cut; score = q; yes = n; no = n + 1 }) c) ev))
+    ∙ ap (λ z. putRow z (record { value = v; feature = w .feature; threshold = w .cut; score = q; yes = n; no = n + 1 }) c) ei
+    ∙ ap (λ z. putRow (w .node) (record { value = z; feature = w .feature; threshold = w .cut; score = q; yes = n; no = n + 1 }) c) ev))
     ∙ ap (λ z. putRow (z + 1) (leafRow f) (putRow z (leafRow t) (putRow (w .node) (record { value = valueOf (record { sum = w .sum; mass = w .mass }); feature = w .feature; threshold = w .cut; score = q; yes = n; no = n + 1 }) c))) ek
 
 pub halve-at : (rows features : ℕ) (t : Tables) (cols : List ℕ) (c : Cut) (most sc fl a e : ℕ) {a′ e′ : ℕ} → a′ ≡ a → e′ ≡ e → HalveAsks rows features a e t cols c most sc fl → HalveAsks rows features a′ e′ t cols c most sc fl
@@ -77,10 +81,13 @@ pub second-asks : (g : Ground) (P : Params) (W : List ℕ) (M : List Float) (who
     → length wholes′ ≡ length wholes → length reals′ ≡ length reals → ChildAsks g P W m e r t (length wholes′) (length reals′)
 second-asks g P W M wholes reals wholes′ reals′ node level a m e q r s t {step} es b d lw lr =
     record {
-      node = b .second; same = b .first .same; few = b .first .few; some = b .first .some;
+      node = b .second;
+      same = b .first .same;
+      few = b .first .few;
+      some = b .first .some;
       fair = subst (FairStep W) es (d .fair);
       wholes = let h : t .waiting ≤ s .waiting + 1 = subst (MostStep (s .waiting + 1)) es (d .most) in let k = b .wholes in omega (arith, h, k, lw);
-      reals = let h : t .waiting ≤ s .waiting + 1 = subst (MostStep (s .waiting + 1)) es (d .most) in let k = b .reals in omega (arith, h, k, lr)
+      reals = let h : t .waiting ≤ s .waiting + 1 = subst (MostStep (s .waiting + 1)) es (d .most) in let k = b .reals in omega (arith, h, k, lr);
     }
 
 module _ (g : Ground) (P : Params) (W : List ℕ) (M : List Float) (wholes : List (List ℕ)) (reals : List (List Float)) (node level a m e : ℕ) (q r : Asked) (s : Stand) where
@@ -108,10 +115,10 @@ module _ (g : Ground) (P : Params) (W : List ℕ) (M : List Float) (wholes : Lis
   both-goes {wholes₁} {wholes₂} {reals₁} {reals₂} {step} {step₂} t es d d₂ =
       record {
         same = first d ∙ ap (λ z. bind (meantStep g W M wholes₁ reals₁ z) on) es
-          ∙ ap (λ n. bind (searchIf P (search (tape (P .features)) P) (searchable P level (nodeTask g m e r)) n level (nodeTask g m e r) (drawsAt W M (t .drawn))) (λ f. ok (f .0 ++ stackOf g wholes₁ reals₁ (t .waiting), f .1))) (sym (add-one node))
-          ∙ d₂ .same;
+            ∙ ap (λ n. bind (searchIf P (search (tape (P .features)) P) (searchable P level (nodeTask g m e r)) n level (nodeTask g m e r) (drawsAt W M (t .drawn))) (λ f. ok (f .0 ++ stackOf g wholes₁ reals₁ (t .waiting), f .1))) (sym (add-one node))
+            ∙ d₂ .same;
         laid = λ low l x y z u.
-          let b : t .waiting ≤ s .waiting + 1 = subst (MostStep (s .waiting + 1)) es (d .most) in
-          d₂ .laid m (subst (LaidStep wholes₁ reals₁ m) es (d .laid low l x y (omega arith))) (omega arith) (le-refl m) u;
-        fair = d₂ .fair
+            let b : t .waiting ≤ s .waiting + 1 = subst (MostStep (s .waiting + 1)) es (d .most) in
+            d₂ .laid m (subst (LaidStep wholes₁ reals₁ m) es (d .laid low l x y (omega arith))) (omega arith) (le-refl m) u;
+        fair = d₂ .fair;
       }

@@ -1,4 +1,4 @@
--- Growth in the lent rooms: what the rooms stand for, and the laws that the code's steps cite. Nothing is assumed.
+-- A node in the lent rooms: what the rooms stand for, and the laws that the steps on one node cite. Nothing is assumed.
 
 -- node columns, and the numbers of those that join
 pub mod Nodes
@@ -6,10 +6,7 @@ pub mod Nodes
 pub mod Halve
 -- the rooms, and what each step promises of them
 pub mod Rooms
--- by the code's steps: the waiting list, both children, a turn, the loop, the whole
+-- the waiting list by the code's steps, both children, and stretches after a split
 pub mod Steps
 pub mod Both
-pub mod Turns
-pub mod Loop
-pub mod Written
-pub mod Tree
+pub mod Frames

@@ -1,6 +1,6 @@
 -- The rooms of a growth, and what they stand for: the waiting list is read off the two lists of arrays and the work columns; a node column is the nodes' field, then what it held.
 -- Definitions only. Assumes nothing.
-use Prim.Native.Nat.{ℕ, zero, suc, _+_, _-_, _*_, _<_, _≤_}
+use Prim.Native.Nat.{ℕ, zero, suc, _+_, _-_, _<_, _≤_}
 use mathlib.Core.Path.{_≡_}
 use mathlib.Core.List.{List, [], _∷_, _++_}
 use lib.ListN.{length, getD, set}
@@ -12,21 +12,17 @@ use Rattle.rules.specs.declared.Kind.{Kind}
 use Rattle.rules.specs.declared.Kind.the-variants.{Leaf, Split}
 use Rattle.rules.specs.Lent.{Columns, Entry, leafEntry}
 use Rattle.rules.specs.Search.{Task, cut, search}
-use Rattle.rules.specs.Growth.{Waiting, TreeNode, State, joins, searchable, searchIf, withChildren, expand}
+use Rattle.rules.specs.Growth.{Waiting, TreeNode, joins, searchable, searchIf}
 use Rattle.rules.specs.Draws.{Out, bad, ok, bind, Tapes, tape}
 use Rattle.rules.specs.Words.{nought}
 use Rattle.rules.specs.Totals.{valueOf}
 use Rattle.laws.specs.Lists.{Every}
-use Rattle.laws.specs.Cuts.{Ripe}
 use Rattle.search.specs.declared.Asked.{Asked}
 use Rattle.search.specs.declared.Drawn.{Drawn}
 use Rattle.search.specs.declared.Search.{Search}
-use Rattle.search.specs.Flat.{Tables, NodeAsks, taskAt, drawsAt, Fair, FairAfter, meant, Shaped, part}
+use Rattle.search.specs.Flat.{Tables, NodeAsks, taskAt, drawsAt, Fair, FairAfter, meant, part}
 use Rattle.growth.specs.declared.Wait.{Wait}
 use Rattle.growth.specs.declared.Row.{Row}
-use Rattle.growth.specs.declared.At.{At}
-use Rattle.growth.specs.declared.Turned.{Turned}
-use Rattle.growth.specs.declared.Turned.the-variants as U
 use Rattle.growth.specs.declared.Stand.{Stand}
 use Rattle.growth.specs.declared.Step.{Step}
 use Rattle.growth.specs.declared.Step.the-variants.{Refused, Goes}
@@ -52,8 +48,15 @@ realsOf w = w .sum ∷ w .mass ∷ w .cut ∷ []
 abbrev pub waitOf : List ℕ → List Float → Wait
 waitOf w r =
     record {
-      node = getD w 0 0; start = getD w 1 0; end = getD w 2 0; level = getD w 3 0; count = getD w 4 0; feature = getD w 5 0;
-      sum = getD r 0 nan; mass = getD r 1 nan; cut = getD r 2 nan
+      node = getD w 0 0;
+      start = getD w 1 0;
+      end = getD w 2 0;
+      level = getD w 3 0;
+      count = getD w 4 0;
+      feature = getD w 5 0;
+      sum = getD r 0 nan;
+      mass = getD r 1 nan;
+      cut = getD r 2 nan;
     }
 
 abbrev pub waitAt : List (List ℕ) → List (List Float) → ℕ → Wait
@@ -96,8 +99,12 @@ pub record LongAll (n : ℕ) (c : Columns) : Type 0 where
 unfoldable pub putRow : ℕ → Row → Columns → Columns
 putRow i r c =
     record {
-      value = set (c .value) i (r .value); feature = set (c .feature) i (r .feature); threshold = set (c .threshold) i (r .threshold);
-      score = set (c .score) i (r .score); trueChild = set (c .trueChild) i (r .yes); falseChild = set (c .falseChild) i (r .no)
+      value = set (c .value) i (r .value);
+      feature = set (c .feature) i (r .feature);
+      threshold = set (c .threshold) i (r .threshold);
+      score = set (c .score) i (r .score);
+      trueChild = set (c .trueChild) i (r .yes);
+      falseChild = set (c .falseChild) i (r .no);
     }
 
 abbrev pub leafRow : Totals → Row
@@ -194,50 +201,3 @@ pub record BothDone (g : Ground) (P : Params) (W : List ℕ) (M : List Float) (w
   pub same : bind (searchTwo g P node level a m e q r (drawsAt W M (s .drawn))) (λ o. ok (o .0 ++ stackOf g wholes reals (s .waiting), o .1)) ≡ meantStep g W M wholes′ reals′ t
   pub laid : (low : ℕ) → Laid wholes reals low (s .waiting) → s .waiting ≤ a → low ≤ a → a < m → m ≤ e → LaidStep wholes′ reals′ e t
   pub fair : FairStep W t
-
--- ---- a turn
-
-pub record TurnAsks (g : Ground) (P : Params) (W : List ℕ) (scratch flags : ℕ) (c : Columns) (wholes : List (List ℕ)) (reals : List (List Float)) (at : At) : Type 0 where
-  pub shape : Shaped (g .rows) (g .features) (g .tables)
-  pub small : g .rows < 4294967296
-  pub same : g .features ≡ P .features
-  pub few : g .features ≤ 1024
-  pub some : 0 < g .features
-  pub long : length (g .cols) ≡ g .features * g .rows
-  pub below : BelowTo g (waitAt wholes reals (at .waiting - 1) .end)
-  pub scratch-room : g .rows ≤ scratch
-  pub flag-room : g .rows ≤ flags
-  pub whole-room : g .rows ≤ length wholes
-  pub real-room : g .rows ≤ length reals
-  pub waits : 0 < at .waiting
-  pub laid : Laid wholes reals (g .rows) (at .waiting)
-  pub ripe : Ripe P (waitingOf g (waitAt wholes reals (at .waiting - 1)))
-  pub limit : waitAt wholes reals (at .waiting - 1) .level < P .limit
-  pub deep : P .limit ≤ 65535
-  pub number : waitAt wholes reals (at .waiting - 1) .node < at .nodes
-  pub node-room : LongAll (at .nodes + 2) c
-  pub node-small : at .nodes + 2 < 4294967296
-  pub fair : Fair W (at .drawn)
-
-abbrev pub stateAt : List ℕ → List Float → List TreeNode → At → State Tapes
-stateAt W M ns at = record { nodes = ns; depth = at .depth; left = drawsAt W M (at .drawn) }
-
-abbrev pub meantTurn : Ground → List ℕ → List Float → List (List ℕ) → List (List Float) → List TreeNode → Turned → Out (List Waiting × State Tapes)
-meantTurn g W M wholes reals ns (U.Refused k) = bad k
-meantTurn g W M wholes reals ns (U.Goes at) = ok (stackOf g wholes reals (at .waiting), stateAt W M ns at)
-
-abbrev pub TurnKeeps : ℕ → List ℕ → ℕ → List (List ℕ) → List (List Float) → Turned → Type 0
-TurnKeeps high W n wholes reals (U.Refused k) = Unit {0}
-TurnKeeps high W n wholes reals (U.Goes at) = Laid wholes reals high (at .waiting) × Fair W (at .drawn) × (at .nodes ≡ n + 2)
-
--- of any nodes that the columns hold: one step of the definition's stack
-pub record TurnDone (g g′ : Ground) (P : Params) (W : List ℕ) (M : List Float) (c c′ : Columns) (wholes : List (List ℕ)) (reals : List (List Float)) (wholes′ : List (List ℕ)) (reals′ : List (List Float))
-    (at : At) (r : Turned) : Type 0 where
-  pub same : (ns : List TreeNode) → length ns ≡ at .nodes
-      → bind (expand P (search (tape (P .features)) P) (waitingOf g (waitAt wholes reals (at .waiting - 1))) (stateAt W M ns at)) (λ o. ok (o .0 ++ stackOf g wholes reals (at .waiting - 1), o .1))
-      ≡ meantTurn g′ W M wholes′ reals′ (withChildren (waitingOf g (waitAt wholes reals (at .waiting - 1))) ns) r
-  pub nodes : (old : Columns) (ns : List TreeNode) → length ns ≡ at .nodes → LongAll (at .nodes + 2) old → NodesIn old ns c
-      → NodesIn old (withChildren (waitingOf g (waitAt wholes reals (at .waiting - 1))) ns) c′
-  pub long : length (g′ .cols) ≡ length (g .cols)
-  pub below : (n : ℕ) → waitAt wholes reals (at .waiting - 1) .end ≤ n → n ≤ g .rows → BelowTo g n → BelowTo g′ n
-  pub keeps : TurnKeeps (waitAt wholes reals (at .waiting - 1) .end) W (at .nodes) wholes′ reals′ r

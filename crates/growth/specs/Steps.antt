@@ -72,7 +72,7 @@ laid-new : (wholes : List (List ℕ)) (reals : List (List Float)) (n low : ℕ) 
 laid-new wholes reals n low w h k l a b c =
     subst (Laid (set wholes n (wholesOf w)) (set reals n (realsOf w)) (w .end)) (sym (add-one n))
     (subst (λ (z : Wait). (n ≤ z .start) × (z .start ≤ z .end) × (z .end ≤ w .end) × Laid (set wholes n (wholesOf w)) (set reals n (realsOf w)) (z .start) n) (sym (wait-new wholes reals n w h k))
-      (a, c, le-refl (w .end), laid-kept wholes reals n n (w .start) (wholesOf w) (realsOf w) (le-refl n) (laid-more wholes reals n low (w .start) b l)))
+    (a, c, le-refl (w .end), laid-kept wholes reals n n (w .start) (wholesOf w) (realsOf w) (le-refl n) (laid-more wholes reals n low (w .start) b l)))
 
 module _ (wholes : List (List ℕ)) (reals : List (List Float)) (n node level a e : ℕ) (q : Asked) (d : Drawn) where
   pub push-none : {r : Search} → r ≡ S.Refused → PushDone wholes reals wholes reals n node level a e q d r (Refused (d .searches))
@@ -102,7 +102,7 @@ module _ (wholes : List (List ℕ)) (reals : List (List Float)) (n node level a 
         same = λ g W M. ap (λ z. ok (z, drawsAt W M k)) (sym (stack-new g wholes reals n (newWait c) hw hr));
         laid = λ low l x y z. laid-new wholes reals n low (newWait c) hw hr l x y z;
         most = le-refl (n + 1);
-        fair = λ W f. f
+        fair = λ W f. f;
       })))
 
 -- ---- a child is searchable
@@ -126,7 +126,7 @@ module _ (g : Ground) (P : Params) (W : List ℕ) (M : List Float) (wholes : Lis
         same = ap (λ b. bind (searchIf P (search (tape (P .features)) P) b node level task (drawsAt W M (s .drawn))) (λ o. ok (o .0 ++ stackOf g wholes reals (s .waiting), o .1))) h;
         laid = λ low l x y z. laid-more wholes reals (s .waiting) low e (le-trans y z) l;
         most = omega arith;
-        fair = f
+        fair = f;
       }
 
   pub ask-deep : P .limit ≤ level → Fair W (s .drawn) → ChildDone g P W M wholes reals wholes reals node level a e q s (Goes s)
@@ -144,19 +144,21 @@ module _ (g : Ground) (P : Params) (W : List ℕ) (M : List Float) (wholes : Lis
   ask-goes h k {a′} {e′} ea ee {r} sd {wholes′} {reals′} {t} pd =
       record {
         same =
-          ap (λ b. bind (searchIf P (search (tape (P .features)) P) b node level task (drawsAt W M (s .drawn))) (λ o. ok (o .0 ++ stackOf g wholes reals (s .waiting), o .1)))
+            ap (λ b. bind (searchIf P (search (tape (P .features)) P) b node level task (drawsAt W M (s .drawn))) (λ o. ok (o .0 ++ stackOf g wholes reals (s .waiting), o .1)))
             (ap (λ b. b && leb (P .split) (q .count)) (lt-ltb level (P .limit) h) ∙ le-leb (P .split) (q .count) k)
-          ∙ bind-through (search (tape (P .features)) P (drawsAt W M (s .drawn)) task) join next
-          ∙ ap (λ m. bind m (λ o. ok (joins node level task (o .0) ++ stackOf g wholes reals (s .waiting), o .1))) (sym searched)
-          ∙ pd .same g W M;
+            ∙ bind-through (search (tape (P .features)) P (drawsAt W M (s .drawn)) task) join next
+            ∙ ap (λ m. bind m (λ o. ok (joins node level task (o .0) ++ stackOf g wholes reals (s .waiting), o .1))) (sym searched)
+            ∙ pd .same g W M;
         laid = λ low l x y z. pd .laid low l x y z;
         most = pd .most;
-        fair = pd .fair W (sd .fair)
+        fair = pd .fair W (sd .fair);
       }
     where
       searched : meant W M (s .drawn) r ≡ search (tape (P .features)) P (drawsAt W M (s .drawn)) task
       searched = sd .same ∙ ap (λ z. search (tape (P .features)) P (drawsAt W M (s .drawn)) (nodeTask g z e′ q)) ea ∙ ap (λ z. search (tape (P .features)) P (drawsAt W M (s .drawn)) (nodeTask g a z q)) ee
+
       join : Found × Tapes → List Waiting × Tapes
       join o = (joins node level task (o .0), o .1)
+
       next : List Waiting × Tapes → Out (List Waiting × Tapes)
       next o = ok (o .0 ++ stackOf g wholes reals (s .waiting), o .1)

@@ -1,12 +1,10 @@
-// A tree grown from its root: the waiting list in two slices of arrays, six node columns, and work columns that are split in place.
+// A node of a tree that grows: the waiting list in two slices of arrays, six node columns, and work columns that are split in place.
 ghost use mathlib.Core.Path.{_≡_};
-ghost use Prim.Native.Nat.{_+_, _≤_, _<_, max};
+ghost use Prim.Native.Nat.{_+_, _≤_, _<_};
 ghost use lib.ListN.{length, set};
 ghost use Rattle.rules.specs.Lent.{Columns};
 ghost use Rattle.growth.specs.Halve.{HalveAsks, Halved};
-ghost use Rattle.growth.specs.Rooms.{wholesOf, realsOf, waitAt, putRow, LongAll, PushDone, ChildAsks, ChildDone, leafRow, wroteSplit, BothAsks, BothDone, TurnAsks, TurnDone};
-ghost use Rattle.growth.specs.Loop.{GrowAsks, GrowDone};
-ghost use Rattle.growth.specs.Tree.{TreeAsks, StartDone, TreeDone};
+ghost use Rattle.growth.specs.Rooms.{wholesOf, realsOf, waitAt, putRow, LongAll, PushDone, ChildAsks, ChildDone, leafRow, wroteSplit, BothAsks, BothDone};
 use rules::Cut;
 use rules::Params;
 use rules::Totals;
@@ -49,19 +47,6 @@ pub enum Step {
     Goes(Stand),
 }
 
-// A tree that grows: how many nodes it has, its depth so far, how many nodes wait, and how far the tapes are used.
-pub struct At {
-    pub nodes: u32,
-    pub depth: u32,
-    pub waiting: usize,
-    pub drawn: Drawn,
-}
-
-pub enum Turned {
-    Refused(usize),
-    Goes(At),
-}
-
 pub fn push(wholes: &mut [[u32; 6]], reals: &mut [[f64; 3]], n: usize, w: Wait)
     requires { ⌜ (n < length (now wholes)) × (n < length (now reals)) ⌝ }
     ensures { λ _. ⌜ (now (wholes .exit) ≡ set (now (wholes .entry)) n (wholesOf w)) × (now (reals .exit) ≡ set (now (reals .entry)) n (realsOf w)) ⌝ }
@@ -89,7 +74,16 @@ pub fn top(wholes: &[[u32; 6]], reals: &[[f64; 3]], i: usize) -> Wait
     }
 }
 
-pub fn put_row(value: &mut [f64], feature: &mut [u32], threshold: &mut [f64], score: &mut [f64], yes: &mut [u32], no: &mut [u32], i: usize, r: Row)
+pub fn put_row(
+    value: &mut [f64],
+    feature: &mut [u32],
+    threshold: &mut [f64],
+    score: &mut [f64],
+    yes: &mut [u32],
+    no: &mut [u32],
+    i: usize,
+    r: Row,
+)
     requires { ⌜ LongAll (i + 1) (record { value = now (value); feature = now (feature); threshold = now (threshold); score = now (score); trueChild = now (yes); falseChild = now (no) }) ⌝ }
     ensures { λ _. ⌜ _≡_ {A = Columns} (record { value = now (value .exit); feature = now (feature .exit); threshold = now (threshold .exit); score = now (score .exit); trueChild = now (yes .exit); falseChild = now (no .exit) }) (putRow i r (record { value = now (value .entry); feature = now (feature .entry); threshold = now (threshold .entry); score = now (score .entry); trueChild = now (yes .entry); falseChild = now (no .entry) })) ⌝ }
 {
@@ -102,13 +96,27 @@ pub fn put_row(value: &mut [f64], feature: &mut [u32], threshold: &mut [f64], sc
 }
 
 // What a search of the node found joins the waiting list.
-pub fn push_found(wholes: &mut [[u32; 6]], reals: &mut [[f64; 3]], n: usize, node: u32, level: u32, from: u32, to: u32, a: Asked, d: Drawn, r: Search) -> Step
+pub fn push_found(
+    wholes: &mut [[u32; 6]],
+    reals: &mut [[f64; 3]],
+    n: usize,
+    node: u32,
+    level: u32,
+    from: u32,
+    to: u32,
+    a: Asked,
+    d: Drawn,
+    r: Search,
+) -> Step
     requires { ⌜ (n < length (now wholes)) × (n < length (now reals)) ⌝ }
     ensures { λ s. ⌜ PushDone (now (wholes .entry)) (now (reals .entry)) (now (wholes .exit)) (now (reals .exit)) n node level from to a d r s ⌝ }
 {
     match r {
         Search::Refused => Step::Refused(d.searches),
-        Search::Uncut(e) => Step::Goes(Stand { waiting: n, drawn: e }),
+        Search::Uncut(e) => Step::Goes(Stand {
+            waiting: n,
+            drawn: e,
+        }),
         Search::Found(c, e) => {
             let t = a.totals;
             let w = Wait {
@@ -123,7 +131,10 @@ pub fn push_found(wholes: &mut [[u32; 6]], reals: &mut [[f64; 3]], n: usize, nod
                 cut: c.threshold,
             };
             push(wholes, reals, n, w);
-            Step::Goes(Stand { waiting: n + 1, drawn: e })
+            Step::Goes(Stand {
+                waiting: n + 1,
+                drawn: e,
+            })
         }
     }
 }
@@ -155,7 +166,22 @@ pub fn search_child(
     let d = s.drawn;
     if level < p.limit {
         if p.split <= a.count {
-            let r = search::search_node(x, y, weights, counts, cols, words, thresholds, rows, features, search::wide(from), search::wide(to), p, a, d);
+            let r = search::search_node(
+                x,
+                y,
+                weights,
+                counts,
+                cols,
+                words,
+                thresholds,
+                rows,
+                features,
+                search::wide(from),
+                search::wide(to),
+                p,
+                a,
+                d,
+            );
             return push_found(wholes, reals, s.waiting, node, level, from, to, a, d, r);
         }
         return Step::Goes(s);
@@ -163,22 +189,78 @@ pub fn search_child(
     Step::Goes(s)
 }
 
-pub fn put_leaf(value: &mut [f64], feature: &mut [u32], threshold: &mut [f64], score: &mut [f64], yes: &mut [u32], no: &mut [u32], i: usize, t: Totals)
+pub fn put_leaf(
+    value: &mut [f64],
+    feature: &mut [u32],
+    threshold: &mut [f64],
+    score: &mut [f64],
+    yes: &mut [u32],
+    no: &mut [u32],
+    i: usize,
+    t: Totals,
+)
     requires { ⌜ LongAll (i + 1) (record { value = now (value); feature = now (feature); threshold = now (threshold); score = now (score); trueChild = now (yes); falseChild = now (no) }) ⌝ }
     ensures { λ _. ⌜ _≡_ {A = Columns} (record { value = now (value .exit); feature = now (feature .exit); threshold = now (threshold .exit); score = now (score .exit); trueChild = now (yes .exit); falseChild = now (no .exit) }) (putRow i (leafRow t) (record { value = now (value .entry); feature = now (feature .entry); threshold = now (threshold .entry); score = now (score .entry); trueChild = now (yes .entry); falseChild = now (no .entry) })) ⌝ }
 {
     let v = criterion::value_of(t);
-    put_row(value, feature, threshold, score, yes, no, i, Row { value: v, feature: 0, threshold: 0.0, score: 0.0, yes: 0, no: 0 });
+    put_row(
+        value,
+        feature,
+        threshold,
+        score,
+        yes,
+        no,
+        i,
+        Row {
+            value: v,
+            feature: 0,
+            threshold: 0.0,
+            score: 0.0,
+            yes: 0,
+            no: 0,
+        },
+    );
 }
 
 // A split node and its two children, n and n + 1, in the node columns.
-pub fn write_split(value: &mut [f64], feature: &mut [u32], threshold: &mut [f64], score: &mut [f64], yes: &mut [u32], no: &mut [u32], w: Wait, t: Totals, f: Totals, q: f64, n: u32)
+pub fn write_split(
+    value: &mut [f64],
+    feature: &mut [u32],
+    threshold: &mut [f64],
+    score: &mut [f64],
+    yes: &mut [u32],
+    no: &mut [u32],
+    w: Wait,
+    t: Totals,
+    f: Totals,
+    q: f64,
+    n: u32,
+)
     requires { ⌜ LongAll (n + 2) (record { value = now (value); feature = now (feature); threshold = now (threshold); score = now (score); trueChild = now (yes); falseChild = now (no) }) × (w .node < n) × (n + 2 < 4294967296) ⌝ }
     ensures { λ _. ⌜ _≡_ {A = Columns} (record { value = now (value .exit); feature = now (feature .exit); threshold = now (threshold .exit); score = now (score .exit); trueChild = now (yes .exit); falseChild = now (no .exit) }) (wroteSplit w t f q n (record { value = now (value .entry); feature = now (feature .entry); threshold = now (threshold .entry); score = now (score .entry); trueChild = now (yes .entry); falseChild = now (no .entry) })) ⌝ }
 {
-    let v = criterion::value_of(Totals { sum: w.sum, mass: w.mass });
+    let v = criterion::value_of(Totals {
+        sum: w.sum,
+        mass: w.mass,
+    });
     let k = search::wide(n);
-    put_row(value, feature, threshold, score, yes, no, search::wide(w.node), Row { value: v, feature: w.feature, threshold: w.cut, score: q, yes: n, no: n + 1 });
+    put_row(
+        value,
+        feature,
+        threshold,
+        score,
+        yes,
+        no,
+        search::wide(w.node),
+        Row {
+            value: v,
+            feature: w.feature,
+            threshold: w.cut,
+            score: q,
+            yes: n,
+            no: n + 1,
+        },
+    );
     put_leaf(value, feature, threshold, score, yes, no, k, t);
     put_leaf(value, feature, threshold, score, yes, no, k + 1, f);
 }
@@ -210,7 +292,20 @@ pub fn halve(
     requires { ⌜ HalveAsks rows features from to (record { x = now x; y = now y; weights = now weights; counts = now counts }) (now cols) c most (length (now scratch)) (length (now flags)) ⌝ }
     ensures { λ r. ⌜ Halved rows features from to (record { x = now (x .entry); y = now (y .entry); weights = now (weights .entry); counts = now (counts .entry) }) (now (cols .entry)) (now (cols .exit)) c r ⌝ }
 {
-    let s = columns::split_columns(x, y, weights, counts, cols, scratch, flags, rows, features, from, to, c);
+    let s = columns::split_columns(
+        x,
+        y,
+        weights,
+        counts,
+        cols,
+        scratch,
+        flags,
+        rows,
+        features,
+        from,
+        to,
+        c,
+    );
     let a = s.yes;
     let b = s.no;
     let all = s.all;
@@ -218,10 +313,21 @@ pub fn halve(
     let f = b.totals;
     let q = criterion::score_of(t, f, all.mass);
     let n = search::wide(s.rows);
-    let yes = Asked { totals: t, count: a.count };
-    let no = Asked { totals: f, count: b.count };
+    let yes = Asked {
+        totals: t,
+        count: a.count,
+    };
+    let no = Asked {
+        totals: f,
+        count: b.count,
+    };
     let mid = from + n;
-    Halves { mid, yes, no, score: q }
+    Halves {
+        mid,
+        yes,
+        no,
+        score: q,
+    }
 }
 
 // The node's rows are split, and its children written.
@@ -249,13 +355,42 @@ pub fn split_node(
     ensures { λ h. ⌜ Halved rows features (w .start) (w .end) (record { x = now (x .entry); y = now (y .entry); weights = now (weights .entry); counts = now (counts .entry) }) (now (cols .entry)) (now (cols .exit)) (record { feature = w .feature; threshold = w .cut }) h ⌝ }
     ensures { λ h. ⌜ _≡_ {A = Columns} (record { value = now (value .exit); feature = now (feature .exit); threshold = now (threshold .exit); score = now (score .exit); trueChild = now (yes .exit); falseChild = now (no .exit) }) (wroteSplit w (h .yes .totals) (h .no .totals) (h .score) n (record { value = now (value .entry); feature = now (feature .entry); threshold = now (threshold .entry); score = now (score .entry); trueChild = now (yes .entry); falseChild = now (no .entry) })) ⌝ }
 {
-    let c = Cut { feature: w.feature, threshold: w.cut };
-    let h = halve(x, y, weights, counts, cols, scratch, flags, rows, features, search::wide(w.start), search::wide(w.end), c, w.count);
+    let c = Cut {
+        feature: w.feature,
+        threshold: w.cut,
+    };
+    let h = halve(
+        x,
+        y,
+        weights,
+        counts,
+        cols,
+        scratch,
+        flags,
+        rows,
+        features,
+        search::wide(w.start),
+        search::wide(w.end),
+        c,
+        w.count,
+    );
     let a = h.yes;
     let b = h.no;
     let t = a.totals;
     let f = b.totals;
-    write_split(value, feature, threshold, score, yes, no, w, t, f, h.score, n);
+    write_split(
+        value,
+        feature,
+        threshold,
+        score,
+        yes,
+        no,
+        w,
+        t,
+        f,
+        h.score,
+        n,
+    );
     h
 }
 
@@ -285,186 +420,47 @@ pub fn search_both(
     requires { ⌜ BothAsks (record { rows = rows; features = features; tables = (record { x = now x; y = now y; weights = now weights; counts = now counts }); cols = now cols }) p (now words) node from mid to a b s (length (now wholes)) (length (now reals)) ⌝ }
     ensures { λ r. ⌜ BothDone (record { rows = rows; features = features; tables = (record { x = now (x .entry); y = now (y .entry); weights = now (weights .entry); counts = now (counts .entry) }); cols = now (cols .entry) }) p (now (words .entry)) (now (thresholds .entry)) (now (wholes .entry)) (now (reals .entry)) (now (wholes .exit)) (now (reals .exit)) node level from mid to a b s r ⌝ }
 {
-    let r = search_child(x, y, weights, counts, cols, words, thresholds, wholes, reals, rows, features, p, node, level, from, mid, a, s);
+    let r = search_child(
+        x,
+        y,
+        weights,
+        counts,
+        cols,
+        words,
+        thresholds,
+        wholes,
+        reals,
+        rows,
+        features,
+        p,
+        node,
+        level,
+        from,
+        mid,
+        a,
+        s,
+    );
     match r {
         Step::Refused(k) => Step::Refused(k),
-        Step::Goes(t) => search_child(x, y, weights, counts, cols, words, thresholds, wholes, reals, rows, features, p, node + 1, level, mid, to, b, t),
-    }
-}
-
-pub fn narrow(x: usize) -> u32
-    requires { ⌜ x < 4294967296 ⌝ }
-    ensures { λ r. ⌜ r ≡ x ⌝ }
-{
-    x as u32
-}
-
-pub fn greater(a: u32, b: u32) -> u32
-    ensures { λ r. ⌜ r ≡ max a b ⌝ }
-{
-    if a <= b {
-        return b;
-    }
-    a
-}
-
-// One turn: the last to join is split, and its children are asked.
-pub fn turn(
-    x: &[f64],
-    y: &[f64],
-    weights: &[f64],
-    counts: &[u32],
-    words: &[u32],
-    thresholds: &[f64],
-    cols: &mut [u32],
-    scratch: &mut [u32],
-    flags: &mut [bool],
-    value: &mut [f64],
-    feature: &mut [u32],
-    threshold: &mut [f64],
-    score: &mut [f64],
-    yes: &mut [u32],
-    no: &mut [u32],
-    wholes: &mut [[u32; 6]],
-    reals: &mut [[f64; 3]],
-    rows: usize,
-    features: usize,
-    p: Params,
-    at: At,
-) -> Turned
-    requires { ⌜ TurnAsks (record { rows = rows; features = features; tables = (record { x = now x; y = now y; weights = now weights; counts = now counts }); cols = now cols }) p (now words) (length (now scratch)) (length (now flags)) (record { value = now (value); feature = now (feature); threshold = now (threshold); score = now (score); trueChild = now (yes); falseChild = now (no) }) (now wholes) (now reals) at ⌝ }
-    ensures { λ r. ⌜ TurnDone (record { rows = rows; features = features; tables = (record { x = now (x .entry); y = now (y .entry); weights = now (weights .entry); counts = now (counts .entry) }); cols = now (cols .entry) }) (record { rows = rows; features = features; tables = (record { x = now (x .entry); y = now (y .entry); weights = now (weights .entry); counts = now (counts .entry) }); cols = now (cols .exit) }) p (now (words .entry)) (now (thresholds .entry)) (record { value = now (value .entry); feature = now (feature .entry); threshold = now (threshold .entry); score = now (score .entry); trueChild = now (yes .entry); falseChild = now (no .entry) }) (record { value = now (value .exit); feature = now (feature .exit); threshold = now (threshold .exit); score = now (score .exit); trueChild = now (yes .exit); falseChild = now (no .exit) }) (now (wholes .entry)) (now (reals .entry)) (now (wholes .exit)) (now (reals .exit)) at r ⌝ }
-{
-    let m = at.waiting - 1;
-    let n = at.nodes;
-    let d = at.drawn;
-    let w = top(wholes, reals, m);
-    let h = split_node(x, y, weights, counts, cols, scratch, flags, value, feature, threshold, score, yes, no, rows, features, w, n);
-    let mid = narrow(h.mid);
-    let l = w.level + 1;
-    let a = h.yes;
-    let b = h.no;
-    let r = search_both(x, y, weights, counts, cols, words, thresholds, wholes, reals, rows, features, p, n, l, w.start, mid, w.end, a, b, Stand { waiting: m, drawn: d });
-    match r {
-        Step::Refused(k) => Turned::Refused(k),
-        Step::Goes(s) => {
-            let deep = greater(at.depth, l);
-            let e = s.drawn;
-            Turned::Goes(At { nodes: n + 2, depth: deep, waiting: s.waiting, drawn: e })
-        }
-    }
-}
-
-// The growth: turns until nothing waits. `most` is how many nodes there may be.
-pub fn grow(
-    x: &[f64],
-    y: &[f64],
-    weights: &[f64],
-    counts: &[u32],
-    words: &[u32],
-    thresholds: &[f64],
-    cols: &mut [u32],
-    scratch: &mut [u32],
-    flags: &mut [bool],
-    value: &mut [f64],
-    feature: &mut [u32],
-    threshold: &mut [f64],
-    score: &mut [f64],
-    yes: &mut [u32],
-    no: &mut [u32],
-    wholes: &mut [[u32; 6]],
-    reals: &mut [[f64; 3]],
-    rows: usize,
-    features: usize,
-    most: usize,
-    p: Params,
-    start: At,
-) -> Turned
-    requires { ⌜ GrowAsks (record { rows = rows; features = features; tables = (record { x = now x; y = now y; weights = now weights; counts = now counts }); cols = now cols }) p (now words) most (length (now scratch)) (length (now flags)) (record { value = now (value); feature = now (feature); threshold = now (threshold); score = now (score); trueChild = now (yes); falseChild = now (no) }) (now wholes) (now reals) start ⌝ }
-    ensures { λ r. ⌜ GrowDone (record { rows = rows; features = features; tables = (record { x = now (x .entry); y = now (y .entry); weights = now (weights .entry); counts = now (counts .entry) }); cols = now (cols .entry) }) p (now (words .entry)) (now (thresholds .entry)) most (record { value = now (value .entry); feature = now (feature .entry); threshold = now (threshold .entry); score = now (score .entry); trueChild = now (yes .entry); falseChild = now (no .entry) }) (record { value = now (value .exit); feature = now (feature .exit); threshold = now (threshold .exit); score = now (score .exit); trueChild = now (yes .exit); falseChild = now (no .exit) }) (now (wholes .entry)) (now (reals .entry)) start r ⌝ }
-{
-    let mut at = start;
-    while 0 < at.waiting {
-        let r = turn(x, y, weights, counts, words, thresholds, cols, scratch, flags, value, feature, threshold, score, yes, no, wholes, reals, rows, features, p, at);
-        match r {
-            Turned::Refused(k) => {
-                return Turned::Refused(k);
-            }
-            Turned::Goes(next) => {
-                at = next;
-            }
-        }
-    }
-    Turned::Goes(at)
-}
-
-// The root is searched if something is kept, the limit is above 1 and its count reaches the least split.
-pub fn start_tree(
-    x: &[f64],
-    y: &[f64],
-    weights: &[f64],
-    counts: &[u32],
-    cols: &[u32],
-    words: &[u32],
-    thresholds: &[f64],
-    wholes: &mut [[u32; 6]],
-    reals: &mut [[f64; 3]],
-    rows: usize,
-    features: usize,
-    most: usize,
-    p: Params,
-    kept: u32,
-    root: Asked,
-) -> Step
-    requires { ⌜ TreeAsks (record { rows = rows; features = features; tables = (record { x = now x; y = now y; weights = now weights; counts = now counts }); cols = now cols }) p most kept root (length (now wholes)) (length (now reals)) ⌝ }
-    ensures { λ r. ⌜ StartDone (record { rows = rows; features = features; tables = (record { x = now (x .entry); y = now (y .entry); weights = now (weights .entry); counts = now (counts .entry) }); cols = now (cols .entry) }) p (now (words .entry)) (now (thresholds .entry)) (now (wholes .exit)) (now (reals .exit)) kept root r ⌝ }
-{
-    let s = Stand { waiting: 0, drawn: Drawn { words: 0, thresholds: 0, searches: 0 } };
-    if 0 < root.count {
-        return search_child(x, y, weights, counts, cols, words, thresholds, wholes, reals, rows, features, p, 0, 1, 0, kept, root, s);
-    }
-    Step::Goes(s)
-}
-
-// The growth of a tree whose kept rows lie in the work columns from 0 to `kept`.
-pub fn grow_tree(
-    x: &[f64],
-    y: &[f64],
-    weights: &[f64],
-    counts: &[u32],
-    words: &[u32],
-    thresholds: &[f64],
-    cols: &mut [u32],
-    scratch: &mut [u32],
-    flags: &mut [bool],
-    value: &mut [f64],
-    feature: &mut [u32],
-    threshold: &mut [f64],
-    score: &mut [f64],
-    yes: &mut [u32],
-    no: &mut [u32],
-    wholes: &mut [[u32; 6]],
-    reals: &mut [[f64; 3]],
-    rows: usize,
-    features: usize,
-    most: usize,
-    p: Params,
-    kept: u32,
-    root: Asked,
-) -> Turned
-    requires { ⌜ TreeAsks (record { rows = rows; features = features; tables = (record { x = now x; y = now y; weights = now weights; counts = now counts }); cols = now cols }) p most kept root (length (now wholes)) (length (now reals)) ⌝ }
-    requires { ⌜ (rows ≤ length (now scratch)) × (rows ≤ length (now flags)) × LongAll most (record { value = now (value); feature = now (feature); threshold = now (threshold); score = now (score); trueChild = now (yes); falseChild = now (no) }) ⌝ }
-    ensures { λ r. ⌜ TreeDone (record { rows = rows; features = features; tables = (record { x = now (x .entry); y = now (y .entry); weights = now (weights .entry); counts = now (counts .entry) }); cols = now (cols .entry) }) p (now (words .entry)) (now (thresholds .entry)) (record { value = now (value .entry); feature = now (feature .entry); threshold = now (threshold .entry); score = now (score .entry); trueChild = now (yes .entry); falseChild = now (no .entry) }) (record { value = now (value .exit); feature = now (feature .exit); threshold = now (threshold .exit); score = now (score .exit); trueChild = now (yes .exit); falseChild = now (no .exit) }) kept root r ⌝ }
-{
-    let t = root.totals;
-    put_leaf(value, feature, threshold, score, yes, no, 0, t);
-    let r = start_tree(x, y, weights, counts, cols, words, thresholds, wholes, reals, rows, features, most, p, kept, root);
-    match r {
-        Step::Refused(k) => Turned::Refused(k),
-        Step::Goes(s) => {
-            let d = s.drawn;
-            let at = At { nodes: 1, depth: 0, waiting: s.waiting, drawn: d };
-            grow(x, y, weights, counts, words, thresholds, cols, scratch, flags, value, feature, threshold, score, yes, no, wholes, reals, rows, features, most, p, at)
-        }
+        Step::Goes(t) => search_child(
+            x,
+            y,
+            weights,
+            counts,
+            cols,
+            words,
+            thresholds,
+            wholes,
+            reals,
+            rows,
+            features,
+            p,
+            node + 1,
+            level,
+            mid,
+            to,
+            b,
+            t,
+        ),
     }
 }

@@ -1,10 +1,10 @@
--- `growth::turn` meets its contract: the top of the waiting list is split, and its children are searched: one step of the stack. Assumes nothing.
+-- `grows::turn` meets its contract: the top of the waiting list is split, and its children are searched: one step of the stack. Assumes nothing.
 use Prim.Native.Nat.{_-_}
 use native.Mathlib.Omega.{arith}
 use borrow.Author.Needs.{needs}
-use Rattle.growth.specs.Turns.{top-room, code-split, code-mid, code-level, code-asks, code-stop, code-goes}
-use Rattle.growth.proofs.turn.Statement.{statement}
-use Rattle.growth.proofs.turn.Tie as tie
+use Rattle.grows.specs.Turns.{top-room, code-split, code-mid, code-level, code-asks, code-stop, code-goes}
+use Rattle.grows.proofs.turn.Statement.{statement}
+use Rattle.grows.proofs.turn.Tie as tie
 
 sub-m : tie.Need-sub-m
 sub-m c = search needs

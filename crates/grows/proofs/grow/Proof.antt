@@ -1,11 +1,11 @@
--- `growth::grow` meets its contract: each turn is one step of the stack, and what is left of the growth stays the same. Assumes nothing.
+-- `grows::grow` meets its contract: each turn is one step of the stack, and what is left of the growth stays the same. Assumes nothing.
 use Prim.Native.Nat.{_-_}
 use mathlib.Core.Path.{_∙_}
 use lib.ListN.{length}
 use borrow.Author.Needs.{needs}
-use Rattle.growth.specs.Loop.{Growing, growing-first, growing-may, growing-stop, growing-less, growing-on, growing-end}
-use Rattle.growth.proofs.grow.Statement.{statement}
-use Rattle.growth.proofs.grow.Tie as tie
+use Rattle.grows.specs.Loop.{Growing, growing-first, growing-may, growing-stop, growing-less, growing-on, growing-end}
+use Rattle.grows.proofs.grow.Statement.{statement}
+use Rattle.grows.proofs.grow.Tie as tie
 
 abbrev Inv-loop : tie.InvT-loop
 Inv-loop x y weights counts tape marks cols₀ scratch₀ flags₀ value₀ feature₀ threshold₀ score₀ yes₀ no₀ wholes₀ reals₀ rows features most p at₀ cols scratch flags value feature threshold score yes' no' wholes reals at = Growing (record { rows = rows; features = features; tables = record { x = x; y = y; weights = weights; counts = counts }; cols = cols₀ }) p tape marks most (length scratch₀) (length flags₀) (record { value = value₀; feature = feature₀; threshold = threshold₀; score = score₀; trueChild = yes₀; falseChild = no₀ }) wholes₀ reals₀ at₀ (record { rows = rows; features = features; tables = record { x = x; y = y; weights = weights; counts = counts }; cols = cols }) (length scratch) (length flags) (record { value = value; feature = feature; threshold = threshold; score = score; trueChild = yes'; falseChild = no' }) wholes reals at

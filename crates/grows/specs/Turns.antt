@@ -1,181 +1,38 @@
 -- A turn put together: one step of the definition's stack. Assumes nothing.
-use Prim.Native.Nat.{ℕ, zero, suc, _+_, _-_, _*_, _<_, _≤_, max}
-use native.Mathlib.Nat.{le-trans, le-refl}
+use Prim.Native.Nat.{ℕ, suc, _+_, _-_, _<_, _≤_, max}
+use native.Mathlib.Nat.{le-refl}
 use native.Mathlib.Omega.{arith}
 use native.Mathlib.Numerals.{add-one}
 use mathlib.Core.Path.{_≡_, refl, sym, ap, _∙_, subst}
-use mathlib.Core.Bool.{Bool, true, not}
-use mathlib.Core.List.{List, [], _∷_, _++_, map, append-assoc}
-use lib.ListN.{length, getD, set, length-set, length-append, length-take}
+use mathlib.Core.Bool.{not}
+use mathlib.Core.List.{List, [], _∷_, _++_, map}
+use lib.ListN.{length, getD, set}
 use lib.Ieee.{Float, nan}
 use Rattle.rules.specs.declared.Params.{Params}
-use Rattle.rules.specs.declared.Splitter.the-variants.{Best}
-use Rattle.rules.specs.Fit.{elementIn}
 use Rattle.rules.specs.Lent.{Columns}
-use Rattle.rules.specs.Search.{Element, Column, Task, search, same, goesTrue, tally, totals, trueSide, falseSide, sideOf}
+use Rattle.rules.specs.Search.{Element, Task, search, same, goesTrue, totals, trueSide, falseSide}
 use Rattle.rules.specs.Growth.{Waiting, TreeNode, State, searchable, searchIf, child, leafOf, splitOf, splitting, withChildren, expand}
 use Rattle.rules.specs.Draws.{Out, bad, ok, bind, Tapes, tape}
-use Rattle.rules.specs.Words.{keep, putIf, total, from}
+use Rattle.rules.specs.Words.{total}
 use Rattle.rules.specs.Totals.{valueOf, empty, score}
-use Rattle.laws.specs.Lists.{every-at, keep-map}
+use Rattle.laws.specs.Lists.{keep-map}
 use Rattle.laws.specs.Cuts.{Good, side-good}
-use Rattle.columns.specs.Split.{Alike}
 use Rattle.columns.specs.Stretches.{part-every}
-use Rattle.search.specs.declared.Asked.{Asked}
-use Rattle.search.specs.Flat.{Tables, Shaped, elementOf, part, columnsAt, NodeAsks, drawsAt, sideOn}
-use Rattle.search.specs.Tries.{column-of}
+use Rattle.search.specs.Flat.{elementOf, part, drawsAt}
 use Rattle.growth.specs.declared.Halves.{Halves}
 use Rattle.growth.specs.Halve.{HalveAsks, Halved}
 use Rattle.growth.specs.declared.Wait.{Wait}
 use Rattle.growth.specs.declared.Stand.{Stand}
-use Rattle.growth.specs.declared.At.{At}
 use Rattle.growth.specs.declared.Step.{Step}
 use Rattle.growth.specs.declared.Step.the-variants.{Refused, Goes}
-use Rattle.growth.specs.declared.Turned.the-variants as U
-use Rattle.growth.specs.Rooms.{Ground, waitAt, cutOf, nodeTask, waitingOf, stackOf, Laid, meantStep, LaidStep, FairStep, BelowTo, askedOf, LongAll, putRow, wroteSplit, rowFor, NodesIn, BothAsks, BothDone, TurnAsks, stateAt, TurnDone}
-use Rattle.growth.specs.Nodes.{columnOf, store-node, add-node}
+use Rattle.growth.specs.Rooms.{Ground, waitAt, cutOf, nodeTask, waitingOf, stackOf, Laid, meantStep, LaidStep, FairStep, BelowTo, askedOf, LongAll, putRow, wroteSplit, rowFor, NodesIn, BothAsks, BothDone}
+use Rattle.growth.specs.Nodes.{columnOf}
+use Rattle.growth.specs.Frames.{withCols, task-of, frame, good-column, good-alike, good-room, good-asks, three, part-short, ones-map, rows-of}
+use Rattle.grows.specs.declared.At.{At}
+use Rattle.grows.specs.declared.Turned.the-variants as U
+use Rattle.grows.specs.Places.{TurnAsks, stateAt, TurnDone}
 
-abbrev pub withCols : Ground → List ℕ → Ground
-withCols g cols = record { rows = g .rows; features = g .features; tables = g .tables; cols = cols }
-
--- ---- columns, one by one
-
-map-range : (f f′ : ℕ → Column) (s : Column → Column) (i n : ℕ) → ((k : ℕ) → k < i + n → f′ k ≡ s (f k)) → map f′ (from i n) ≡ map s (map f (from i n))
-unfolding from
-map-range f f′ s i zero h = refl
-map-range f f′ s i (suc n) h =
-    ap (λ z. z ∷ map f′ (from (suc i) n)) (h i (here i n)) ∙ ap (λ z. s (f i) ∷ z) (map-range f f′ s (suc i) n (λ k l. h k (there i n k l)))
-  where
-    here : (i n : ℕ) → i < i + suc n
-    here i n = omega arith
-    there : (i n k : ℕ) → k < suc i + n → k < i + suc n
-    there i n k l = omega arith
-
-map-alike : (f f′ : ℕ → Column) (i n : ℕ) → ((k : ℕ) → k < i + n → f′ k ≡ f k) → map f′ (from i n) ≡ map f (from i n)
-unfolding from
-map-alike f f′ i zero h = refl
-map-alike f f′ i (suc n) h = ap (λ z. z ∷ map f′ (from (suc i) n)) (h i (here i n)) ∙ ap (λ z. f i ∷ z) (map-alike f f′ (suc i) n (λ k l. h k (there i n k l)))
-  where
-    here : (i n : ℕ) → i < i + suc n
-    here i n = omega arith
-    there : (i n k : ℕ) → k < suc i + n → k < i + suc n
-    there i n k l = omega arith
-
-cols-alike : (el : ℕ → Element) (rows features : ℕ) (cols′ cols : List ℕ) (a e : ℕ) → ((k : ℕ) → k < features → part rows cols′ a e k ≡ part rows cols a e k)
-    → columnsAt el rows features cols′ a e ≡ columnsAt el rows features cols a e
-unfolding columnsAt
-cols-alike el rows features cols′ cols a e h = map-alike (λ k. map el (part rows cols a e k)) (λ k. map el (part rows cols′ a e k)) 0 features (λ k l. ap (map el) (h k (below k features l)))
-  where
-    below : (k n : ℕ) → k < 0 + n → k < n
-    below k n l = omega arith
-
--- a side of a Split is the definition's child
-task-of : (g : Ground) (e : Wait) (cols′ : List ℕ) (b : Bool → Bool) (a′ e′ : ℕ) (h : Asked) → e .feature < g .features
-    → ((k : ℕ) → k < g .features → part (g .rows) cols′ a′ e′ k ≡ keep (λ r. b (goesTrue (cutOf e) (elementOf (g .features) (g .tables) r))) (part (g .rows) (g .cols) (e .start) (e .end) k))
-    → h ≡ sideOn (sideOf b (cutOf e) (map (elementOf (g .features) (g .tables)) (part (g .rows) (g .cols) (e .start) (e .end) (e .feature))))
-    → nodeTask (withCols g cols′) a′ e′ h ≡ child b (waitingOf g e)
-unfolding child columnsAt
-task-of g e cols′ b a′ e′ h hj hp eh = λ i.
-    record {
-      columns = map-range (λ k. map el (part (g .rows) (g .cols) (e .start) (e .end) k)) (λ k. map el (part (g .rows) cols′ a′ e′ k)) (sideOf b (cutOf e)) 0 (g .features)
-        (λ k l. ap (map el) (hp k (below k (g .features) l)) ∙ sym (keep-map (λ x. b (goesTrue (cutOf e) x)) el (part (g .rows) (g .cols) (e .start) (e .end) k))) i;
-      totals = (ap (λ (z : Asked). z .totals) eh ∙ ap (λ z. totals empty (sideOf b (cutOf e) z)) mine) i;
-      count = (ap (λ (z : Asked). z .count) eh ∙ ap (λ z. tally (sideOf b (cutOf e) z)) mine) i
-    }
-  where
-    el : ℕ → Element
-    el = elementOf (g .features) (g .tables)
-    below : (k n : ℕ) → k < 0 + n → k < n
-    below k n l = omega arith
-    mine : map el (part (g .rows) (g .cols) (e .start) (e .end) (e .feature)) ≡ getD (columnsAt el (g .rows) (g .features) (g .cols) (e .start) (e .end)) (e .feature) []
-    mine = column-of (g .rows) (g .features) (e .start) (e .end) (g .tables) (g .cols) h (record { limit = 0; leaf = 0; split = 0; tried = 0; features = 0; splitter = Best }) (e .feature) hj refl
-
--- what lies below the Split stretch is as it was
-frame : (g : Ground) (cols′ : List ℕ) (a : ℕ) → ((k b f : ℕ) → b ≤ f → f ≤ a → part (g .rows) cols′ b f k ≡ part (g .rows) (g .cols) b f k)
-    → (wholes : List (List ℕ)) (reals : List (List Float)) (high m : ℕ) → high ≤ a → Laid wholes reals high m → stackOf (withCols g cols′) wholes reals m ≡ stackOf g wholes reals m
-frame g cols′ a beside wholes reals high zero hh l = refl
-frame g cols′ a beside wholes reals high (suc m) hh l =
-    ap (λ z. record { number = x .node; level = x .level; task = record { columns = z; totals = record { sum = x .sum; mass = x .mass }; count = x .count }; cut = cutOf x } ∷ stackOf (withCols g cols′) wholes reals m)
-    (cols-alike (elementOf (g .features) (g .tables)) (g .rows) (g .features) cols′ (g .cols) (x .start) (x .end) (λ k u. beside k (x .start) (x .end) (l .1) (le-trans (l .2) hh)))
-    ∙ ap (λ z. waitingOf g x ∷ z) (frame g cols′ a beside wholes reals (x .start) m (le-trans (l .1) (le-trans (l .2) hh)) (l .3))
-  where
-    x : Wait
-    x = waitAt wholes reals m
-
--- ---- what a good node gives the code
-
-level-sum : (f : ℕ) (t : Tables) (g : ℕ → ℕ) (l : List ℕ) → total (λ x. g (x .row)) (keep (λ x. true) (map (elementOf f t) l)) ≡ total g l
-unfolding total keep putIf elementIn
-level-sum f t g [] = refl
-level-sum f t g (x ∷ l) = ap (λ n. g x + n) (level-sum f t g l)
-
-module _ (g : Ground) (P : Params) (sm : g .features ≡ P .features) (a e : ℕ) (q : Asked) (gd : Good P (nodeTask g a e q)) where
-  good-column : (k : ℕ) → k < g .features → map (elementOf (g .features) (g .tables)) (part (g .rows) (g .cols) a e k) ≡ getD (nodeTask g a e q .columns) k []
-  good-column k h = column-of (g .rows) (g .features) a e (g .tables) (g .cols) q P k h refl
-
-  good-alike : (i j : ℕ) → i < g .features → j < g .features → Alike (part (g .rows) (g .cols) a e i) (part (g .rows) (g .cols) a e j)
-  good-alike i j hi hj f =
-      sym (level-sum (g .features) (g .tables) f (part (g .rows) (g .cols) a e i))
-      ∙ ap (λ z. total (λ x. f (x .row)) (keep (λ x. true) z)) (good-column i hi)
-      ∙ gd .level i j (subst (λ n. i < n) sm hi) (subst (λ n. j < n) sm hj) (λ x. f (x .row)) (λ x. true)
-      ∙ sym (ap (λ z. total (λ x. f (x .row)) (keep (λ x. true) z)) (good-column j hj))
-      ∙ level-sum (g .features) (g .tables) f (part (g .rows) (g .cols) a e j)
-
-  good-room : (k : ℕ) → k < g .features → tally (map (elementOf (g .features) (g .tables)) (part (g .rows) (g .cols) a e k)) ≤ q .count
-  good-room k h = let n = ap tally (good-column k h) in let c = gd .sound k (subst (λ n. k < n) sm h) .counted in omega (arith, n, c)
-
-  pub good-asks : Shaped (g .rows) (g .features) (g .tables) → length (g .cols) ≡ g .features * g .rows → (n : ℕ) → e ≤ n → BelowTo g n → a ≤ e → e ≤ g .rows
-      → NodeAsks (g .rows) (g .features) a e (g .tables) (g .cols) (q .count)
-  good-asks sh lg n en bl h k =
-      record {
-        shape = sh; long = lg; order = h; high = k;
-        below = λ j l i u. every-at (λ r. r < g .rows) (part (g .rows) (g .cols) a e j) 0 i (part-every (λ r. r < g .rows) (g .rows) j 0 n a e (g .cols) (omega arith) en h (bl j l)) u;
-        room = good-room
-      }
-
--- ---- the node columns
-
-module _ {A : Type 0} (f : TreeNode → A) where
-  three : (ns : List TreeNode) (old : List A) (d : A) (i : ℕ) (a b c : TreeNode) {x y z : A} → x ≡ f a → y ≡ f b → z ≡ f c → i < length ns → length ns + 2 ≤ length old
-      → set (set (set (columnOf f ns old) i x) (length ns) y) (length ns + 1) z ≡ columnOf f (set ns i a ++ (b ∷ c ∷ [])) old
-  three ns old d i a b c {x} {y} {z} ex ey ez hi ho =
-      ap (λ u. set (set (set (columnOf f ns old) i u) (length ns) y) (length ns + 1) z) ex
-      ∙ ap (λ u. set (set u (length ns) y) (length ns + 1) z) (store-node f ns old i a hi)
-      ∙ ap (λ u. set (set (columnOf f (set ns i a) old) (length ns) u) (length ns + 1) z) ey
-      ∙ ap (λ n. set (set (columnOf f (set ns i a) old) n (f b)) (length ns + 1) z) (sym (length-set ns i a))
-      ∙ ap (λ u. set u (length ns + 1) z) (add-node f (set ns i a) old d b (subst (λ n. n < length old) (sym (length-set ns i a)) (omega arith)))
-      ∙ ap (λ u. set (columnOf f (set ns i a ++ (b ∷ [])) old) (length ns + 1) u) ez
-      ∙ ap (λ n. set (columnOf f (set ns i a ++ (b ∷ [])) old) n (f c)) (sym more)
-      ∙ add-node f (set ns i a ++ (b ∷ [])) old d c (subst (λ n. n < length old) (sym more) (omega arith))
-      ∙ ap (λ u. columnOf f u old) (append-assoc (set ns i a) (b ∷ []) (c ∷ []))
-    where
-      more : length (set ns i a ++ (b ∷ [])) ≡ length ns + 1
-      more = length-append (set ns i a) (b ∷ []) ∙ ap (λ n. n + 1) (length-set ns i a)
-
--- ---- a turn
-
-part-short : (rows : ℕ) (cols : List ℕ) (a e k : ℕ) → length (part rows cols a e k) ≤ e - a
-part-short rows cols a e k = simp length-take (omega arith)
-
-ones-map : (el : ℕ → Element) (l : List ℕ) → total (λ x. 1) (map el l) ≡ length l
-unfolding total
-ones-map el [] = refl
-ones-map el (x ∷ l) = let h = ones-map el l in omega (arith, h)
-
-some-row : (el : ℕ → Element) (p : Element → Bool) (l : List ℕ) → 0 < total (λ x. 1) (keep p (map el l)) → 0 < length l
-unfolding keep total
-some-row el p [] h = h
-some-row el p (x ∷ l) h = omega arith
-
--- a stretch from which something is kept has rows
-rows-of : (rows : ℕ) (cols : List ℕ) (a e k : ℕ) (el : ℕ → Element) (p : Element → Bool) → 0 < total (λ x. 1) (keep p (map el (part rows cols a e k))) → a < e
-rows-of rows cols a e k el p h =
-    let s = some-of el p (part rows cols a e k) h in
-    let q = part-short rows cols a e k in
-    omega (arith, s, q)
-  where
-    some-of : (el : ℕ → Element) (p : Element → Bool) (l : List ℕ) → 0 < total (λ x. 1) (keep p (map el l)) → 0 < length l
-    some-of = some-row
+-- ---- answers put together
 
 abbrev onto : {D : Type 0} → List Waiting → List Waiting × D → Out (List Waiting × D)
 onto ws o = ok (o .0 ++ ws, o .1)
@@ -243,11 +100,17 @@ module _ (g : Ground) (P : Params) (W : List ℕ) (sc fl : ℕ) (c : Columns) (w
   pub turn-halves : HalveAsks (g .rows) (g .features) (e .start) (e .end) (g .tables) (g .cols) (cutOf e) (e .count) sc fl
   turn-halves =
       record {
-        shape = q .shape; small = q .small; long = q .long; order = top-laid .1; high = top-laid .2; known = known;
+        shape = q .shape;
+        small = q .small;
+        long = q .long;
+        order = top-laid .1;
+        high = top-laid .2;
+        known = known;
         below = λ k h. part-every (λ r. r < g .rows) (g .rows) k 0 (e .end) (e .start) (e .end) (g .cols) (omega arith) (le-refl (e .end)) (top-laid .1) (q .below k h);
-        scratch-room = let a = q .scratch-room in let b = top-laid .2 in omega (arith, a, b); flag-room = q .flag-room;
+        scratch-room = let a = q .scratch-room in let b = top-laid .2 in omega (arith, a, b);
+        flag-room = q .flag-room;
         alike = λ k h. good-alike g P (q .same) (e .start) (e .end) (askedOf e) (q .ripe .good) (e .feature) k known h;
-        room = good-room g P (q .same) (e .start) (e .end) (askedOf e) (q .ripe .good) (e .feature) known
+        room = good-room g P (q .same) (e .start) (e .end) (askedOf e) (q .ripe .good) (e .feature) known;
       }
 
   module _ (cols′ : List ℕ) (h : Halves) (d : Halved (g .rows) (g .features) (e .start) (e .end) (g .tables) (g .cols) cols′ (cutOf e) h) where
@@ -263,7 +126,7 @@ module _ (g : Ground) (P : Params) (W : List ℕ) (sc fl : ℕ) (c : Columns) (w
     starts : e .start < h .mid
     starts =
         let s : 0 < length (part (g .rows) cols′ (e .start) (h .mid) (e .feature)) =
-          subst (λ n. 0 < n) (ones-map el (part (g .rows) cols′ (e .start) (h .mid) (e .feature))) (subst (λ z. 0 < total (λ x. 1) z) (sym yes-elements) (q .ripe .fine .someTrue)) in
+        subst (λ n. 0 < n) (ones-map el (part (g .rows) cols′ (e .start) (h .mid) (e .feature))) (subst (λ z. 0 < total (λ x. 1) z) (sym yes-elements) (q .ripe .fine .someTrue)) in
         let p = part-short (g .rows) cols′ (e .start) (h .mid) (e .feature) in
         omega (arith, s, p)
       where
@@ -273,7 +136,7 @@ module _ (g : Ground) (P : Params) (W : List ℕ) (sc fl : ℕ) (c : Columns) (w
     ends : h .mid < e .end
     ends =
         let s : 0 < length (part (g .rows) cols′ (h .mid) (e .end) (e .feature)) =
-          subst (λ n. 0 < n) (ones-map el (part (g .rows) cols′ (h .mid) (e .end) (e .feature))) (subst (λ z. 0 < total (λ x. 1) z) (sym no-elements) (q .ripe .fine .someFalse)) in
+        subst (λ n. 0 < n) (ones-map el (part (g .rows) cols′ (h .mid) (e .end) (e .feature))) (subst (λ z. 0 < total (λ x. 1) z) (sym no-elements) (q .ripe .fine .someFalse)) in
         let p = part-short (g .rows) cols′ (h .mid) (e .end) (e .feature) in
         omega (arith, s, p)
       where
@@ -292,11 +155,17 @@ module _ (g : Ground) (P : Params) (W : List ℕ) (sc fl : ℕ) (c : Columns) (w
         record {
           first = record {
             node = good-asks (withCols g cols′) P (q .same) (e .start) (h .mid) (h .yes) (subst (Good P) (sym yes-task) (side-good P same w (q .ripe))) (q .shape) (d .long ∙ q .long) (e .end) (d .high) rows-after (omega (arith, s)) (omega (arith, a, b));
-            same = q .same; few = q .few; some = q .some; fair = q .fair;
-            wholes = omega (arith, l, s, a, b, wr); reals = omega (arith, l, s, a, b, rr)
+            same = q .same;
+            few = q .few;
+            some = q .some;
+            fair = q .fair;
+            wholes = omega (arith, l, s, a, b, wr);
+            reals = omega (arith, l, s, a, b, rr);
           };
           second = good-asks (withCols g cols′) P (q .same) (h .mid) (e .end) (h .no) (subst (Good P) (sym no-task) (side-good P not w (q .ripe))) (q .shape) (d .long ∙ q .long) (e .end) (le-refl (e .end)) rows-after (omega (arith, a)) b;
-          wholes = omega (arith, l, s, a, b, wr); reals = omega (arith, l, s, a, b, rr); small = omega (arith, ns)
+          wholes = omega (arith, l, s, a, b, wr);
+          reals = omega (arith, l, s, a, b, rr);
+          small = omega (arith, ns);
         }
 
     turn-nodes : (c′ : Columns) → c′ ≡ wroteSplit e (h .yes .totals) (h .no .totals) (h .score) (at .nodes) c
@@ -309,15 +178,17 @@ module _ (g : Ground) (P : Params) (W : List ℕ) (sc fl : ℕ) (c : Columns) (w
           threshold = ap (λ (z : Columns). z .threshold) ec ∙ col (λ z. z .threshold) (λ n. rowFor n .threshold) (i .threshold) (lo .threshold) nan refl refl refl;
           score = ap (λ (z : Columns). z .score) ec ∙ col (λ z. z .score) (λ n. rowFor n .score) (i .score) (lo .score) nan scored refl refl;
           yes = ap (λ (z : Columns). z .trueChild) ec ∙ col (λ z. z .trueChild) (λ n. rowFor n .trueChild) (i .yes) (lo .yes) 0 (sym en) refl refl;
-          no = ap (λ (z : Columns). z .falseChild) ec ∙ col (λ z. z .falseChild) (λ n. rowFor n .falseChild) (i .no) (lo .no) 0 (add-one (at .nodes) ∙ ap suc (sym en)) refl refl
+          no = ap (λ (z : Columns). z .falseChild) ec ∙ col (λ z. z .falseChild) (λ n. rowFor n .falseChild) (i .no) (lo .no) 0 (add-one (at .nodes) ∙ ap suc (sym en)) refl refl;
         }
       where
         inside : e .node < length ns
         inside = subst (λ n. e .node < n) (sym en) (q .number)
+
         scored : h .score ≡ rowFor (splitOf w (length ns)) .score
         scored = d .scored ∙ ap (λ (t : Task). score (t .totals) (h .no .totals) (totals empty (map el (part (g .rows) (g .cols) (e .start) (e .end) (e .feature))) .mass)) yes-task
             ∙ ap (λ (t : Task). score (child same w .totals) (t .totals) (totals empty (map el (part (g .rows) (g .cols) (e .start) (e .end) (e .feature))) .mass)) no-task
             ∙ ap (λ z. score (child same w .totals) (child not w .totals) (totals empty z .mass)) mine
+
         col : {A : Type 0} (get : Columns → List A) (f : TreeNode → A) {x y z : A} → get c ≡ columnOf f ns (get old) → at .nodes + 2 ≤ length (get old) → A → x ≡ f (splitOf w (length ns)) → y ≡ f (leafOf (child same w)) → z ≡ f (leafOf (child not w))
             → set (set (set (get c) (e .node) x) (at .nodes) y) (at .nodes + 1) z ≡ columnOf f (set ns (e .node) (splitOf w (length ns)) ++ (leafOf (child same w) ∷ leafOf (child not w) ∷ [])) (get old)
         col get f {x} {y} {z} ec hl dflt ex ey ez =
@@ -339,15 +210,15 @@ module _ (g : Ground) (P : Params) (W : List ℕ) (sc fl : ℕ) (c : Columns) (w
       unfolding expand
       stepped ns en =
           ap (λ z. bind z (onto (stackOf g wholes reals m))) (fin-two (searchIf P (search (tape (P .features)) P) (searchable P (suc (e .level)) (child same w)) (length ns) (suc (e .level)) (child same w) (drawsAt W M (at .drawn)))
-            (λ d′. searchIf P (search (tape (P .features)) P) (searchable P (suc (e .level)) (child not w)) (suc (length ns)) (suc (e .level)) (child not w) d′) (made ns))
+          (λ d′. searchIf P (search (tape (P .features)) P) (searchable P (suc (e .level)) (child not w)) (suc (length ns)) (suc (e .level)) (child not w) d′) (made ns))
           ∙ fin-onto (twoOf M (child same w) (child not w) (length ns) (suc (e .level))) (made ns) (stackOf g wholes reals m)
           ∙ ap (λ z. bind (bind z (onto (stackOf g wholes reals m))) (fin (made ns)))
-            (ap (λ n. twoOf M (child same w) (child not w) n (suc (e .level))) en
-            ∙ ap (λ n. twoOf M (child same w) (child not w) (at .nodes) n) (sym (add-one (e .level)))
-            ∙ ap (λ t. twoOf M t (child not w) (at .nodes) (e .level + 1)) (sym yes-task)
-            ∙ ap (λ t. twoOf M (nodeTask (withCols g cols′) (e .start) (h .mid) (h .yes)) t (at .nodes) (e .level + 1)) (sym no-task))
+          (ap (λ n. twoOf M (child same w) (child not w) n (suc (e .level))) en
+          ∙ ap (λ n. twoOf M (child same w) (child not w) (at .nodes) n) (sym (add-one (e .level)))
+          ∙ ap (λ t. twoOf M t (child not w) (at .nodes) (e .level + 1)) (sym yes-task)
+          ∙ ap (λ t. twoOf M (nodeTask (withCols g cols′) (e .start) (h .mid) (h .yes)) t (at .nodes) (e .level + 1)) (sym no-task))
           ∙ ap (λ z. bind (bind (twoOf M (nodeTask (withCols g cols′) (e .start) (h .mid) (h .yes)) (nodeTask (withCols g cols′) (h .mid) (e .end) (h .no)) (at .nodes) (e .level + 1)) (onto z)) (fin (made ns)))
-            (sym (frame g cols′ (e .start) (d .beside) wholes reals (e .start) m (le-refl (e .start)) (top-laid .3)))
+          (sym (frame g cols′ (e .start) (d .beside) wholes reals (e .start) m (le-refl (e .start)) (top-laid .3)))
           ∙ ap (λ z. bind z (fin (made ns))) (b .same)
 
       laid-after : LaidStep wholes′ reals′ (e .end) step
@@ -358,7 +229,10 @@ module _ (g : Ground) (P : Params) (W : List ℕ) (sc fl : ℕ) (c : Columns) (w
       turn-stop k es =
           record {
             same = λ ns en. stepped ns en ∙ ap (λ z. bind (meantStep (withCols g cols′) W M wholes′ reals′ z) (fin (made ns))) es;
-            nodes = turn-nodes c′ wr; long = d .long; below = λ n h i b k l. d .below n h i k l (b k l); keeps = tt
+            nodes = turn-nodes c′ wr;
+            long = d .long;
+            below = λ n h i b k l. d .below n h i k l (b k l);
+            keeps = tt;
           }
 
       pub turn-goes : (s : Stand) → step ≡ Goes s → (deep : ℕ) → deep ≡ max (at .depth) (e .level + 1)
@@ -367,9 +241,11 @@ module _ (g : Ground) (P : Params) (W : List ℕ) (sc fl : ℕ) (c : Columns) (w
       turn-goes s es deep ed =
           record {
             same = λ ns en. stepped ns en ∙ ap (λ z. bind (meantStep (withCols g cols′) W M wholes′ reals′ z) (fin (made ns))) es
-              ∙ ap (λ n. ok (stackOf (withCols g cols′) wholes′ reals′ (s .waiting), record { nodes = withChildren w ns; depth = n; left = drawsAt W M (s .drawn) })) (ap (max (at .depth)) (sym (add-one (e .level))) ∙ sym ed);
-            nodes = turn-nodes c′ wr; long = d .long; below = λ n h i b k l. d .below n h i k l (b k l);
-            keeps = (subst (LaidStep wholes′ reals′ (e .end)) es laid-after, subst (FairStep W) es (b .fair), refl)
+                ∙ ap (λ n. ok (stackOf (withCols g cols′) wholes′ reals′ (s .waiting), record { nodes = withChildren w ns; depth = n; left = drawsAt W M (s .drawn) })) (ap (max (at .depth)) (sym (add-one (e .level))) ∙ sym ed);
+            nodes = turn-nodes c′ wr;
+            long = d .long;
+            below = λ n h i b k l. d .below n h i k l (b k l);
+            keeps = (subst (LaidStep wholes′ reals′ (e .end)) es laid-after, subst (FairStep W) es (b .fair), refl);
           }
 
 -- ---- the same by what the code read: the top is w′, and the middle was narrowed
@@ -392,7 +268,7 @@ module _ (g : Ground) (P : Params) (W : List ℕ) (sc fl : ℕ) (c : Columns) (w
       × (LongAll (at .nodes + 2) c × (z .node < at .nodes) × (at .nodes + 2 < 4294967296))
   code-split ez =
       subst (λ (z : Wait). HalveAsks (g .rows) (g .features) (z .start) (z .end) (g .tables) (g .cols) (record { feature = z .feature; threshold = z .cut }) (z .count) sc fl
-        × (LongAll (at .nodes + 2) c × (z .node < at .nodes) × (at .nodes + 2 < 4294967296))) (sym ez)
+      × (LongAll (at .nodes + 2) c × (z .node < at .nodes) × (at .nodes + 2 < 4294967296))) (sym ez)
       (turn-halves g P W sc fl c wholes reals at q, (q .node-room, q .number, q .node-small))
 
   pub code-level : {z : Wait} → z ≡ topWait → z .level < 65535
@@ -406,7 +282,7 @@ module _ (g : Ground) (P : Params) (W : List ℕ) (sc fl : ℕ) (c : Columns) (w
   code-asks {z} ez cols′ h d {mid} em =
       subst (λ n. BothAsks (withCols g cols′) P W (at .nodes) (z .start) n (z .end) (h .yes) (h .no) (record { waiting = at .waiting - 1; drawn = at .drawn }) (length wholes) (length reals)) (sym em)
       (subst (λ (z : Wait). HalvedAt cols′ h z → BothAsks (withCols g cols′) P W (at .nodes) (z .start) (h .mid) (z .end) (h .yes) (h .no) (record { waiting = at .waiting - 1; drawn = at .drawn }) (length wholes) (length reals)) (sym ez)
-        (turn-asks g P W sc fl c wholes reals at q cols′ h) d)
+      (turn-asks g P W sc fl c wholes reals at q cols′ h) d)
 
   pub code-stop : {z : Wait} → z ≡ topWait → (cols′ : List ℕ) (h : Halves) → HalvedAt cols′ h z → (M : List Float) (c′ : Columns) → WroteAt c′ h z → {mid : ℕ} → mid ≡ h .mid
       → (wholes′ : List (List ℕ)) (reals′ : List (List Float)) (step : Step) → BothAt cols′ h M wholes′ reals′ mid step z → (k : ℕ) → step ≡ Refused k
@@ -420,5 +296,5 @@ module _ (g : Ground) (P : Params) (W : List ℕ) (sc fl : ℕ) (c : Columns) (w
       → TurnDone g (withCols g cols′) P W M c c′ wholes reals wholes′ reals′ at (U.Goes (record { nodes = at .nodes + 2; depth = deep; waiting = s .waiting; drawn = s .drawn }))
   code-goes {z} ez cols′ h d M c′ wr {mid} em wholes′ reals′ step b s es deep ed =
       subst (λ (z : Wait). HalvedAt cols′ h z → WroteAt c′ h z → BothAt cols′ h M wholes′ reals′ (h .mid) step z → deep ≡ max (at .depth) (z .level + 1)
-        → TurnDone g (withCols g cols′) P W M c c′ wholes reals wholes′ reals′ at (U.Goes (record { nodes = at .nodes + 2; depth = deep; waiting = s .waiting; drawn = s .drawn }))) (sym ez)
+      → TurnDone g (withCols g cols′) P W M c c′ wholes reals wholes′ reals′ at (U.Goes (record { nodes = at .nodes + 2; depth = deep; waiting = s .waiting; drawn = s .drawn }))) (sym ez)
       (λ d wr b ed. turn-goes g P W sc fl c wholes reals at q cols′ h d M c′ wr wholes′ reals′ step b s es deep ed) d wr (subst (λ n. BothAt cols′ h M wholes′ reals′ n step z) em b) ed

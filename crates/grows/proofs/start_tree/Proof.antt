@@ -1,9 +1,9 @@
--- `growth::start_tree` meets its contract: the root is searched as a child is, if something is kept. Assumes nothing.
+-- `grows::start_tree` meets its contract: the root is searched as a child is, if something is kept. Assumes nothing.
 use Prim.Native.Nat.{_-_}
 use borrow.Author.Needs.{needs}
-use Rattle.growth.specs.Tree.{start-asks, start-some, start-none}
-use Rattle.growth.proofs.start_tree.Statement.{statement}
-use Rattle.growth.proofs.start_tree.Tie as tie
+use Rattle.grows.specs.Tree.{start-asks, start-some, start-none}
+use Rattle.grows.proofs.start_tree.Statement.{statement}
+use Rattle.grows.proofs.start_tree.Tie as tie
 
 search-child-requires : tie.Need-search-child-requires
 search-child-requires c κs = start-asks _ _ _ _ _ _ _ (c .before .before .before .before .before .before .before .before .before .before .before .pre) (c .before .before .before .before .before .before .before .before .before .before .before .args .words .now)

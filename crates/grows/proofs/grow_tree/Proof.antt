@@ -1,11 +1,11 @@
--- `growth::grow_tree` meets its contract: the root is written and searched, and then all that waits is split. Assumes nothing.
+-- `grows::grow_tree` meets its contract: the root is written and searched, and then all that waits is split. Assumes nothing.
 use Prim.Native.Nat.{_-_}
 use native.Mathlib.Omega.{arith}
 use mathlib.Core.Path.{_∙_}
 use borrow.Author.Needs.{needs}
-use Rattle.growth.specs.Tree.{tree-asks, tree-stop, tree-goes}
-use Rattle.growth.proofs.grow_tree.Statement.{statement}
-use Rattle.growth.proofs.grow_tree.Tie as tie
+use Rattle.grows.specs.Tree.{tree-asks, tree-stop, tree-goes}
+use Rattle.grows.proofs.grow_tree.Statement.{statement}
+use Rattle.grows.proofs.grow_tree.Tie as tie
 
 put-leaf-requires : tie.Need-put-leaf-requires
 put-leaf-requires c κs = search needs

@@ -23,18 +23,18 @@ use Rattle.laws.specs.Cuts.{search-fine, tape-fair, Good, Ripe}
 use Rattle.search.specs.declared.Asked.{Asked}
 use Rattle.search.specs.declared.Drawn.{Drawn}
 use Rattle.search.specs.Flat.{Shaped, drawsAt, Fair}
-use Rattle.growth.specs.declared.At.{At}
 use Rattle.growth.specs.declared.Stand.{Stand}
 use Rattle.growth.specs.declared.Step.{Step}
 use Rattle.growth.specs.declared.Step.the-variants.{Refused, Goes}
-use Rattle.growth.specs.declared.Turned.{Turned}
-use Rattle.growth.specs.declared.Turned.the-variants as U
 use Rattle.growth.specs.Rooms.{Ground, nodeTask, stackOf, LaidStep, FairStep, meantStep, BelowTo, LongAll, putRow, leafRow, rowFor, NodesIn, ChildAsks, ChildDone}
-use Rattle.growth.specs.Written.{nodes-written}
 use Rattle.growth.specs.Both.{long-less}
-use Rattle.growth.specs.Turns.{good-asks}
-use Rattle.growth.specs.Loop.{GrowAsks, GrowDone, GrownTo}
+use Rattle.growth.specs.Frames.{good-asks}
 use Rattle.growth.specs.Nodes.{then-bind, searchIf-number, add-node}
+use Rattle.grows.specs.declared.At.{At}
+use Rattle.grows.specs.declared.Turned.{Turned}
+use Rattle.grows.specs.declared.Turned.the-variants as U
+use Rattle.grows.specs.Written.{nodes-written}
+use Rattle.grows.specs.Loop.{GrowAsks, GrowDone, GrownTo}
 
 abbrev pub unused : Drawn
 unused = record { words = 0; thresholds = 0; searches = 0 }
@@ -96,8 +96,12 @@ module _ (g : Ground) (P : Params) (top kept : ℕ) (q : Asked) (rw rr : ℕ) (h
       let a = h .rows in let b = h .whole-room in let d = h .real-room in
       record {
         node = good-asks g P (h .same) 0 kept q (h .good) (h .shape) (h .long) kept (le-refl kept) (h .below) (omega arith) (h .high);
-        same = h .same; few = h .few; some = h .some; fair = (omega arith, le-refl 0);
-        wholes = omega (arith, a, b); reals = omega (arith, a, d)
+        same = h .same;
+        few = h .few;
+        some = h .some;
+        fair = (omega arith, le-refl 0);
+        wholes = omega (arith, a, b);
+        reals = omega (arith, a, d);
       }
 
 pub start-some : (g : Ground) (P : Params) (W : List ℕ) (M : List Float) (wholes : List (List ℕ)) (reals : List (List Float)) (wholes′ : List (List ℕ)) (reals′ : List (List Float)) (kept : ℕ) (q : Asked) (r : Step)
@@ -106,7 +110,7 @@ start-some g P W M wholes reals wholes′ reals′ kept q r h d =
     record {
       same = ap (λ b. bind (searchIf P (search (tape (P .features)) P) (b && searchable P 1 (rootTask g kept q)) 0 1 (rootTask g kept q) (drawsAt W M unused)) (λ o. ok (o .0 ++ [], o .1))) (lt-ltb 0 (q .count) h) ∙ d .same;
       laid = d .laid 0 tt (le-refl 0) (le-refl 0) (omega arith);
-      fair = d .fair
+      fair = d .fair;
     }
 
 pub start-none : (g : Ground) (P : Params) (W : List ℕ) (M : List Float) (wholes : List (List ℕ)) (reals : List (List Float)) (kept : ℕ) (q : Asked) → q .count ≤ 0 → StartDone g P W M wholes reals kept q (Goes outset)
@@ -115,7 +119,7 @@ start-none g P W M wholes reals kept q h =
     record {
       same = ap (λ b. bind (searchIf P (search (tape (P .features)) P) (b && searchable P 1 (rootTask g kept q)) 0 1 (rootTask g kept q) (drawsAt W M unused)) (λ o. ok (o .0 ++ [], o .1))) (le-ltb 0 (q .count) h);
       laid = tt;
-      fair = (omega arith, le-refl 0)
+      fair = (omega arith, le-refl 0);
     }
 
 -- ---- the start handed to the loop
@@ -133,7 +137,7 @@ root-nodes c c′ task l e =
       threshold = ap (λ (z : Columns). z .threshold) e ∙ add-node (λ n. rowFor n .threshold) [] (c .threshold) nan (leafOf task) (l .threshold);
       score = ap (λ (z : Columns). z .score) e ∙ add-node (λ n. rowFor n .score) [] (c .score) nan (leafOf task) (l .score);
       yes = ap (λ (z : Columns). z .trueChild) e ∙ add-node (λ n. rowFor n .trueChild) [] (c .trueChild) 0 (leafOf task) (l .yes);
-      no = ap (λ (z : Columns). z .falseChild) e ∙ add-node (λ n. rowFor n .falseChild) [] (c .falseChild) 0 (leafOf task) (l .no)
+      no = ap (λ (z : Columns). z .falseChild) e ∙ add-node (λ n. rowFor n .falseChild) [] (c .falseChild) 0 (leafOf task) (l .no);
     }
 
 module _ (g : Ground) (P : Params) (W : List ℕ) (M : List Float) (top kept : ℕ) (q : Asked) (rw rr : ℕ) (h : TreeAsks g P top kept q rw rr) (wholes′ : List (List ℕ)) (reals′ : List (List Float)) (r : Step)
@@ -169,19 +173,32 @@ module _ (g : Ground) (P : Params) (W : List ℕ) (M : List Float) (top kept : �
     pub tree-asks : {sc fl : ℕ} (c : Columns) → g .rows ≤ sc → g .rows ≤ fl → LongAll top c → length wholes′ ≡ rw → length reals′ ≡ rr → GrowAsks g P W top sc fl c wholes′ reals′ at₁
     tree-asks c hs hf hc lw lr =
         let b = started (λ l. Every (Ripe P) l × (load l ≤ rowsOf (rootTask g kept q) - 1))
-          (searchIf-load P (search (tape (P .features)) P) (search-fine P (tape (P .features)) (tape-fair P)) (ltb 0 (q .count) && searchable P 1 (rootTask g kept q)) 0 1 (rootTask g kept q) (drawsAt W M unused) (h .good)) in
+        (searchIf-load P (search (tape (P .features)) P) (search-fine P (tape (P .features)) (tape-fair P)) (ltb 0 (q .count) && searchable P 1 (rootTask g kept q)) 0 1 (rootTask g kept q) (drawsAt W M unused) (h .good)) in
         record {
-          shape = h .shape; small = h .small; same = h .same; few = h .few; some = h .some; long = h .long; kept = kept; kept-high = h .high; below = h .below; scratch-room = hs; flag-room = hf;
-          whole-room = subst (λ n. g .rows ≤ n) (sym lw) (h .whole-room); real-room = subst (λ n. g .rows ≤ n) (sym lr) (h .real-room); deep = h .deep;
+          shape = h .shape;
+          small = h .small;
+          same = h .same;
+          few = h .few;
+          some = h .some;
+          long = h .long;
+          kept = kept;
+          kept-high = h .high;
+          below = h .below;
+          scratch-room = hs;
+          flag-room = hf;
+          whole-room = subst (λ n. g .rows ≤ n) (sym lw) (h .whole-room);
+          real-room = subst (λ n. g .rows ≤ n) (sym lr) (h .real-room);
+          deep = h .deep;
           laid = subst (LaidStep wholes′ reals′ kept) e (d .laid);
           ripe = b .0;
           levels = started (Every (λ v. v .level < P .limit)) (then-after (startAsk g P W M kept q) _ _
-            (root-level P (search (tape (P .features)) P) (rootTask g kept q) (drawsAt W M unused))
-            (λ o x. every-imp _ _ (λ v y. y .1) (o .0) x));
+              (root-level P (search (tape (P .features)) P) (rootTask g kept q) (drawsAt W M unused))
+              (λ o x. every-imp _ _ (λ v y. y .1) (o .0) x));
           numbers = started (Every (λ v. v .number < 1)) (searchIf-number P (search (tape (P .features)) P) (ltb 0 (q .count) && searchable P 1 (rootTask g kept q)) 0 1 1 (rootTask g kept q) (drawsAt W M unused) (omega arith));
           loaded = let n = b .1 in let m = h .enough in room (load (stackOf g wholes′ reals′ (s .waiting))) (rowsOf (rootTask g kept q)) n m;
-          node-room = hc; node-small = h .node-small;
-          fair = subst (FairStep W) e (d .fair)
+          node-room = hc;
+          node-small = h .node-small;
+          fair = subst (FairStep W) e (d .fair);
         }
       where
         room : (l n : ℕ) → l ≤ n - 1 → 1 + 2 * (n - 1) ≤ top → 1 + 2 * l ≤ top
@@ -190,8 +207,10 @@ module _ (g : Ground) (P : Params) (W : List ℕ) (M : List Float) (top kept : �
     pub tree-goes : (c c₁ c′ : Columns) → LongAll top c → c₁ ≡ putRow 0 (leafRow (q .totals)) c → (t : Turned) → GrowDone g P W M top c₁ c′ wholes′ reals′ at₁ t → TreeDone g P W M c c′ kept q t
     unfolding bind
     tree-goes c c₁ c′ lc ec t gd =
-        record { grown = grown-answers W M c c′ _ t (subst (λ o. GrownTo W M c c′ o t) (sym (from-start ∙ ap (λ z. bind (meantStep g W M wholes′ reals′ z) go) e))
-        (gd c (leafOf (rootTask g kept q) ∷ []) refl lc (root-nodes c c₁ (rootTask g kept q) (long-less 1 top c (one top (rowsOf (rootTask g kept q) - 1) (h .enough)) lc) ec))) }
+        record {
+          grown = grown-answers W M c c′ _ t (subst (λ o. GrownTo W M c c′ o t) (sym (from-start ∙ ap (λ z. bind (meantStep g W M wholes′ reals′ z) go) e))
+              (gd c (leafOf (rootTask g kept q) ∷ []) refl lc (root-nodes c c₁ (rootTask g kept q) (long-less 1 top c (one top (rowsOf (rootTask g kept q) - 1) (h .enough)) lc) ec)));
+        }
       where
         one : (top n : ℕ) → 1 + 2 * n ≤ top → 1 ≤ top
         one top n a = omega arith

@@ -21,14 +21,15 @@ use Rattle.laws.specs.Room.{load, rowsOf, halves, expand-bounded}
 use Rattle.laws.specs.Cuts.{search-fine, tape-fair, Ripe}
 use Rattle.columns.specs.Stretches.{part-every}
 use Rattle.search.specs.Flat.{Shaped, Fair}
-use Rattle.growth.specs.declared.At.{At}
-use Rattle.growth.specs.declared.Turned.{Turned}
-use Rattle.growth.specs.declared.Turned.the-variants as U
-use Rattle.growth.specs.Rooms.{Ground, waitAt, waitingOf, stackOf, Laid, BelowTo, LongAll, NodesIn, TurnAsks, stateAt, meantTurn, TurnDone}
+use Rattle.growth.specs.Rooms.{Ground, waitAt, waitingOf, stackOf, Laid, BelowTo, LongAll, NodesIn}
 use Rattle.growth.specs.Steps.{bind-through, laid-more}
 use Rattle.growth.specs.Both.{long-less}
-use Rattle.growth.specs.Turns.{withCols}
+use Rattle.growth.specs.Frames.{withCols}
 use Rattle.growth.specs.Nodes.{then-bind, expand-number}
+use Rattle.grows.specs.declared.At.{At}
+use Rattle.grows.specs.declared.Turned.{Turned}
+use Rattle.grows.specs.declared.Turned.the-variants as U
+use Rattle.grows.specs.Places.{TurnAsks, stateAt, meantTurn, TurnDone}
 
 pub record GrowAsks (g : Ground) (P : Params) (W : List ℕ) (top scratch flags : ℕ) (c : Columns) (wholes : List (List ℕ)) (reals : List (List Float)) (at : At) : Type 0 where
   pub shape : Shaped (g .rows) (g .features) (g .tables)
@@ -123,11 +124,26 @@ module _ (g : Ground) (P : Params) (W : List ℕ) (top sc fl : ℕ) (c : Columns
   pub turn-may : TurnAsks g P W sc fl c wholes reals at
   turn-may =
       record {
-        shape = q .shape; small = q .small; same = q .same; few = q .few; some = q .some; long = q .long; below = top-below; scratch-room = q .scratch-room; flag-room = q .flag-room;
-        whole-room = q .whole-room; real-room = q .real-room; waits = hw; laid = laid-more wholes reals (at .waiting) (q .kept) (g .rows) (q .kept-high) (q .laid); ripe = ripe′ .0; limit = levels′ .0; deep = q .deep; number = numbers′ .0;
+        shape = q .shape;
+        small = q .small;
+        same = q .same;
+        few = q .few;
+        some = q .some;
+        long = q .long;
+        below = top-below;
+        scratch-room = q .scratch-room;
+        flag-room = q .flag-room;
+        whole-room = q .whole-room;
+        real-room = q .real-room;
+        waits = hw;
+        laid = laid-more wholes reals (at .waiting) (q .kept) (g .rows) (q .kept-high) (q .laid);
+        ripe = ripe′ .0;
+        limit = levels′ .0;
+        deep = q .deep;
+        number = numbers′ .0;
         node-room = long-less (at .nodes + 2) top c two-left (q .node-room);
         node-small = let a = two-left in let b = q .node-small in omega (arith, a, b);
-        fair = q .fair
+        fair = q .fair;
       }
 
   module _ (M : List Float) (cols′ : List ℕ) (c′ : Columns) (wholes′ : List (List ℕ)) (reals′ : List (List Float)) where
@@ -156,9 +172,12 @@ module _ (g : Ground) (P : Params) (W : List ℕ) (top sc fl : ℕ) (c : Columns
           → Stands g₀ P W M top c₀ wholes₀ reals₀ at₀ g′ c′ wholes′ reals′ at′
       unfolding bind
       grow-on g₀ c₀ wholes₀ reals₀ at₀ st old ns₀ e₀ lo i =
-          let s = st old ns₀ e₀ lo i in
-          (withChildren w (s .0), children-length w (s .0) ∙ ap (λ n. n + 2) (s .1) ∙ sym (d .keeps .2),
-           d .nodes old (s .0) (s .1) (long-less (at .nodes + 2) top old two-left lo) (s .2), sym (popped (s .0) (s .1) (U.Goes at′) d) ∙ s .3)
+          let s = st old ns₀ e₀ lo i in (
+            withChildren w (s .0),
+            children-length w (s .0) ∙ ap (λ n. n + 2) (s .1) ∙ sym (d .keeps .2),
+            d .nodes old (s .0) (s .1) (long-less (at .nodes + 2) top old two-left lo) (s .2),
+            sym (popped (s .0) (s .1) (U.Goes at′) d) ∙ s .3,
+          )
 
       abbrev some-nodes : List TreeNode
       some-nodes = replicate (at .nodes) (record { totals = empty; count = 0; kind = Leaf })
@@ -180,12 +199,12 @@ module _ (g : Ground) (P : Params) (W : List ℕ) (top sc fl : ℕ) (c : Columns
       levelled : Every (λ v. v .level < P .limit) (stackOf g′ wholes′ reals′ (at′ .waiting))
       levelled = stepped (λ l s. Every (λ v. v .level < P .limit) l)
           (then-after (expand P (search (tape (P .features)) P) w (stateAt W M some-nodes at)) _ _ (expand-level P (search (tape (P .features)) P) w (stateAt W M some-nodes at))
-            (λ r h. every-append (λ v. v .level < P .limit) (r .0) ws (every-imp _ _ (λ v x. x .1) (r .0) h) (levels′ .1)))
+          (λ r h. every-append (λ v. v .level < P .limit) (r .0) ws (every-imp _ _ (λ v x. x .1) (r .0) h) (levels′ .1)))
 
       numbered : Every (λ v. v .number < at .nodes + 2) (stackOf g′ wholes′ reals′ (at′ .waiting))
       numbered = stepped (λ l s. Every (λ v. v .number < at .nodes + 2) l)
           (then-after (expand P (search (tape (P .features)) P) w (stateAt W M some-nodes at)) _ _ (expand-number P (search (tape (P .features)) P) w (stateAt W M some-nodes at))
-            (λ r h. every-append (λ v. v .number < at .nodes + 2) (r .0) ws (every-imp _ _ (λ v x. subst (λ n. v .number < n + 2) enough x) (r .0) h) (every-imp _ _ (λ v x. more (v .number) (at .nodes) x) ws (numbers′ .1))))
+          (λ r h. every-append (λ v. v .number < at .nodes + 2) (r .0) ws (every-imp _ _ (λ v x. subst (λ n. v .number < n + 2) enough x) (r .0) h) (every-imp _ _ (λ v x. more (v .number) (at .nodes) x) ws (numbers′ .1))))
         where
           more : (a n : ℕ) → a < n → a < n + 2
           more a n h = omega arith
@@ -193,13 +212,28 @@ module _ (g : Ground) (P : Params) (W : List ℕ) (top sc fl : ℕ) (c : Columns
       pub grow-asks : {sc′ fl′ : ℕ} → sc′ ≡ sc → fl′ ≡ fl → length wholes′ ≡ length wholes → length reals′ ≡ length reals → LongAll top c′ → GrowAsks g′ P W top sc′ fl′ c′ wholes′ reals′ at′
       grow-asks es ef lw lr lc =
           record {
-            shape = q .shape; small = q .small; same = q .same; few = q .few; some = q .some; long = d .long ∙ q .long; kept = q .kept; kept-high = q .kept-high; below = d .below (q .kept) (top-laid .2) (q .kept-high) (q .below);
-            scratch-room = subst (λ n. g .rows ≤ n) (sym es) (q .scratch-room); flag-room = subst (λ n. g .rows ≤ n) (sym ef) (q .flag-room);
-            whole-room = subst (λ n. g .rows ≤ n) (sym lw) (q .whole-room); real-room = subst (λ n. g .rows ≤ n) (sym lr) (q .real-room);
-            deep = q .deep; laid = laid-more wholes′ reals′ (at′ .waiting) (waitAt wholes reals (at .waiting - 1) .end) (q .kept) (top-laid .2) (d .keeps .0); ripe = after .0; levels = levelled;
+            shape = q .shape;
+            small = q .small;
+            same = q .same;
+            few = q .few;
+            some = q .some;
+            long = d .long ∙ q .long;
+            kept = q .kept;
+            kept-high = q .kept-high;
+            below = d .below (q .kept) (top-laid .2) (q .kept-high) (q .below);
+            scratch-room = subst (λ n. g .rows ≤ n) (sym es) (q .scratch-room);
+            flag-room = subst (λ n. g .rows ≤ n) (sym ef) (q .flag-room);
+            whole-room = subst (λ n. g .rows ≤ n) (sym lw) (q .whole-room);
+            real-room = subst (λ n. g .rows ≤ n) (sym lr) (q .real-room);
+            deep = q .deep;
+            laid = laid-more wholes′ reals′ (at′ .waiting) (waitAt wholes reals (at .waiting - 1) .end) (q .kept) (top-laid .2) (d .keeps .0);
+            ripe = after .0;
+            levels = levelled;
             numbers = subst (λ n. Every (λ v. v .number < n) (stackOf g′ wholes′ reals′ (at′ .waiting))) (sym (d .keeps .2)) numbered;
             loaded = subst (λ n. n + 2 * load (stackOf g′ wholes′ reals′ (at′ .waiting)) ≤ top) fuller (after .1);
-            node-room = lc; node-small = q .node-small; fair = d .keeps .1
+            node-room = lc;
+            node-small = q .node-small;
+            fair = d .keeps .1;
           }
 
 pub grow-end : (g : Ground) (P : Params) (W : List ℕ) (M : List Float) (top : ℕ) (c : Columns) (wholes : List (List ℕ)) (reals : List (List Float)) (at : At) → at .waiting ≤ 0 → Fair W (at .drawn)
@@ -235,8 +269,19 @@ pub growing-first : (g : Ground) (P : Params) (W : List ℕ) (M : List Float) (t
     → GrowAsks g P W top sc fl c wholes reals at → Growing g P W M top sc fl c wholes reals at g sc fl c wholes reals at
 growing-first g P W M top sc fl c wholes reals at q =
     record {
-      asks = q; stands = λ old ns e lo i. (ns, e, i, refl);
-      cols = refl; scratch = refl; flags = refl; value = refl; feature = refl; threshold = refl; score = refl; yes = refl; no = refl; waitWholes = refl; waitReals = refl
+      asks = q;
+      stands = λ old ns e lo i. (ns, e, i, refl);
+      cols = refl;
+      scratch = refl;
+      flags = refl;
+      value = refl;
+      feature = refl;
+      threshold = refl;
+      score = refl;
+      yes = refl;
+      no = refl;
+      waitWholes = refl;
+      waitReals = refl;
     }
 
 module _ (g₀ : Ground) (P : Params) (W : List ℕ) (M : List Float) (top sc₀ fl₀ : ℕ) (c₀ : Columns) (wholes₀ : List (List ℕ)) (reals₀ : List (List Float)) (at₀ : At)
@@ -268,11 +313,24 @@ module _ (g₀ : Ground) (P : Params) (W : List ℕ) (M : List Float) (top sc₀
         let q = i .asks in
         record {
           asks = grow-asks g P W top sc fl c wholes reals at q h M cols′ c′ wholes′ reals′ at′ k es ef lw lr
-            (record {
-              value = subst (λ m. top ≤ m) (sym v) (q .node-room .value); feature = subst (λ m. top ≤ m) (sym f) (q .node-room .feature); threshold = subst (λ m. top ≤ m) (sym t) (q .node-room .threshold);
-              score = subst (λ m. top ≤ m) (sym s) (q .node-room .score); yes = subst (λ m. top ≤ m) (sym y) (q .node-room .yes); no = subst (λ m. top ≤ m) (sym n) (q .node-room .no)
-            });
+              (record {
+                value = subst (λ m. top ≤ m) (sym v) (q .node-room .value);
+                feature = subst (λ m. top ≤ m) (sym f) (q .node-room .feature);
+                threshold = subst (λ m. top ≤ m) (sym t) (q .node-room .threshold);
+                score = subst (λ m. top ≤ m) (sym s) (q .node-room .score);
+                yes = subst (λ m. top ≤ m) (sym y) (q .node-room .yes);
+                no = subst (λ m. top ≤ m) (sym n) (q .node-room .no);
+              });
           stands = grow-on g P W top sc fl c wholes reals at q h M cols′ c′ wholes′ reals′ at′ k g₀ c₀ wholes₀ reals₀ at₀ (i .stands);
-          cols = k .long ∙ i .cols; scratch = es ∙ i .scratch; flags = ef ∙ i .flags; value = v ∙ i .value; feature = f ∙ i .feature; threshold = t ∙ i .threshold;
-          score = s ∙ i .score; yes = y ∙ i .yes; no = n ∙ i .no; waitWholes = lw ∙ i .waitWholes; waitReals = lr ∙ i .waitReals
+          cols = k .long ∙ i .cols;
+          scratch = es ∙ i .scratch;
+          flags = ef ∙ i .flags;
+          value = v ∙ i .value;
+          feature = f ∙ i .feature;
+          threshold = t ∙ i .threshold;
+          score = s ∙ i .score;
+          yes = y ∙ i .yes;
+          no = n ∙ i .no;
+          waitWholes = lw ∙ i .waitWholes;
+          waitReals = lr ∙ i .waitReals;
         }
