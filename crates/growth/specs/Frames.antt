@@ -1,0 +1,175 @@
+-- A node in the work columns: its columns by its stretch, what a split leaves of them and of those below, and what a good node gives the code. Assumes nothing.
+use Prim.Native.Nat.{ℕ, zero, suc, _+_, _-_, _*_, _<_, _≤_}
+use native.Mathlib.Nat.{le-trans}
+use native.Mathlib.Omega.{arith}
+use mathlib.Core.Path.{_≡_, refl, sym, ap, _∙_, subst}
+use mathlib.Core.Bool.{Bool, true}
+use mathlib.Core.List.{List, [], _∷_, _++_, map, append-assoc}
+use lib.ListN.{length, getD, set, length-set, length-append, length-take}
+use lib.Ieee.{Float}
+use Rattle.rules.specs.declared.Params.{Params}
+use Rattle.rules.specs.declared.Splitter.the-variants.{Best}
+use Rattle.rules.specs.Fit.{elementIn}
+use Rattle.rules.specs.Search.{Element, Column, goesTrue, tally, totals, sideOf}
+use Rattle.rules.specs.Growth.{TreeNode, child}
+use Rattle.rules.specs.Words.{keep, putIf, total, from}
+use Rattle.rules.specs.Totals.{empty}
+use Rattle.laws.specs.Lists.{every-at, keep-map}
+use Rattle.laws.specs.Cuts.{Good}
+use Rattle.columns.specs.Split.{Alike}
+use Rattle.columns.specs.Stretches.{part-every}
+use Rattle.search.specs.declared.Asked.{Asked}
+use Rattle.search.specs.Flat.{Tables, Shaped, elementOf, part, columnsAt, NodeAsks, sideOn}
+use Rattle.search.specs.Tries.{column-of}
+use Rattle.growth.specs.declared.Wait.{Wait}
+use Rattle.growth.specs.Rooms.{Ground, waitAt, cutOf, nodeTask, waitingOf, stackOf, Laid, BelowTo}
+use Rattle.growth.specs.Nodes.{columnOf, store-node, add-node}
+
+abbrev pub withCols : Ground → List ℕ → Ground
+withCols g cols = record { rows = g .rows; features = g .features; tables = g .tables; cols = cols }
+
+-- ---- columns, one by one
+
+map-range : (f f′ : ℕ → Column) (s : Column → Column) (i n : ℕ) → ((k : ℕ) → k < i + n → f′ k ≡ s (f k)) → map f′ (from i n) ≡ map s (map f (from i n))
+unfolding from
+map-range f f′ s i zero h = refl
+map-range f f′ s i (suc n) h =
+    ap (λ z. z ∷ map f′ (from (suc i) n)) (h i (here i n)) ∙ ap (λ z. s (f i) ∷ z) (map-range f f′ s (suc i) n (λ k l. h k (there i n k l)))
+  where
+    here : (i n : ℕ) → i < i + suc n
+    here i n = omega arith
+
+    there : (i n k : ℕ) → k < suc i + n → k < i + suc n
+    there i n k l = omega arith
+
+map-alike : (f f′ : ℕ → Column) (i n : ℕ) → ((k : ℕ) → k < i + n → f′ k ≡ f k) → map f′ (from i n) ≡ map f (from i n)
+unfolding from
+map-alike f f′ i zero h = refl
+map-alike f f′ i (suc n) h = ap (λ z. z ∷ map f′ (from (suc i) n)) (h i (here i n)) ∙ ap (λ z. f i ∷ z) (map-alike f f′ (suc i) n (λ k l. h k (there i n k l)))
+  where
+    here : (i n : ℕ) → i < i + suc n
+    here i n = omega arith
+
+    there : (i n k : ℕ) → k < suc i + n → k < i + suc n
+    there i n k l = omega arith
+
+pub cols-alike : (el : ℕ → Element) (rows features : ℕ) (cols′ cols : List ℕ) (a e : ℕ) → ((k : ℕ) → k < features → part rows cols′ a e k ≡ part rows cols a e k)
+    → columnsAt el rows features cols′ a e ≡ columnsAt el rows features cols a e
+unfolding columnsAt
+cols-alike el rows features cols′ cols a e h = map-alike (λ k. map el (part rows cols a e k)) (λ k. map el (part rows cols′ a e k)) 0 features (λ k l. ap (map el) (h k (below k features l)))
+  where
+    below : (k n : ℕ) → k < 0 + n → k < n
+    below k n l = omega arith
+
+-- a side of a Split is the definition's child
+pub task-of : (g : Ground) (e : Wait) (cols′ : List ℕ) (b : Bool → Bool) (a′ e′ : ℕ) (h : Asked) → e .feature < g .features
+    → ((k : ℕ) → k < g .features → part (g .rows) cols′ a′ e′ k ≡ keep (λ r. b (goesTrue (cutOf e) (elementOf (g .features) (g .tables) r))) (part (g .rows) (g .cols) (e .start) (e .end) k))
+    → h ≡ sideOn (sideOf b (cutOf e) (map (elementOf (g .features) (g .tables)) (part (g .rows) (g .cols) (e .start) (e .end) (e .feature))))
+    → nodeTask (withCols g cols′) a′ e′ h ≡ child b (waitingOf g e)
+unfolding child columnsAt
+task-of g e cols′ b a′ e′ h hj hp eh = λ i.
+    record {
+      columns = map-range (λ k. map el (part (g .rows) (g .cols) (e .start) (e .end) k)) (λ k. map el (part (g .rows) cols′ a′ e′ k)) (sideOf b (cutOf e)) 0 (g .features)
+          (λ k l. ap (map el) (hp k (below k (g .features) l)) ∙ sym (keep-map (λ x. b (goesTrue (cutOf e) x)) el (part (g .rows) (g .cols) (e .start) (e .end) k))) i;
+      totals = (ap (λ (z : Asked). z .totals) eh ∙ ap (λ z. totals empty (sideOf b (cutOf e) z)) mine) i;
+      count = (ap (λ (z : Asked). z .count) eh ∙ ap (λ z. tally (sideOf b (cutOf e) z)) mine) i;
+    }
+  where
+    el : ℕ → Element
+    el = elementOf (g .features) (g .tables)
+
+    below : (k n : ℕ) → k < 0 + n → k < n
+    below k n l = omega arith
+
+    mine : map el (part (g .rows) (g .cols) (e .start) (e .end) (e .feature)) ≡ getD (columnsAt el (g .rows) (g .features) (g .cols) (e .start) (e .end)) (e .feature) []
+    mine = column-of (g .rows) (g .features) (e .start) (e .end) (g .tables) (g .cols) h (record { limit = 0; leaf = 0; split = 0; tried = 0; features = 0; splitter = Best }) (e .feature) hj refl
+
+-- what lies below the Split stretch is as it was
+pub frame : (g : Ground) (cols′ : List ℕ) (a : ℕ) → ((k b f : ℕ) → b ≤ f → f ≤ a → part (g .rows) cols′ b f k ≡ part (g .rows) (g .cols) b f k)
+    → (wholes : List (List ℕ)) (reals : List (List Float)) (high m : ℕ) → high ≤ a → Laid wholes reals high m → stackOf (withCols g cols′) wholes reals m ≡ stackOf g wholes reals m
+frame g cols′ a beside wholes reals high zero hh l = refl
+frame g cols′ a beside wholes reals high (suc m) hh l =
+    ap (λ z. record { number = x .node; level = x .level; task = record { columns = z; totals = record { sum = x .sum; mass = x .mass }; count = x .count }; cut = cutOf x } ∷ stackOf (withCols g cols′) wholes reals m)
+    (cols-alike (elementOf (g .features) (g .tables)) (g .rows) (g .features) cols′ (g .cols) (x .start) (x .end) (λ k u. beside k (x .start) (x .end) (l .1) (le-trans (l .2) hh)))
+    ∙ ap (λ z. waitingOf g x ∷ z) (frame g cols′ a beside wholes reals (x .start) m (le-trans (l .1) (le-trans (l .2) hh)) (l .3))
+  where
+    x : Wait
+    x = waitAt wholes reals m
+
+-- ---- what a good node gives the code
+
+level-sum : (f : ℕ) (t : Tables) (g : ℕ → ℕ) (l : List ℕ) → total (λ x. g (x .row)) (keep (λ x. true) (map (elementOf f t) l)) ≡ total g l
+unfolding total keep putIf elementIn
+level-sum f t g [] = refl
+level-sum f t g (x ∷ l) = ap (λ n. g x + n) (level-sum f t g l)
+
+module _ (g : Ground) (P : Params) (sm : g .features ≡ P .features) (a e : ℕ) (q : Asked) (gd : Good P (nodeTask g a e q)) where
+  pub good-column : (k : ℕ) → k < g .features → map (elementOf (g .features) (g .tables)) (part (g .rows) (g .cols) a e k) ≡ getD (nodeTask g a e q .columns) k []
+  good-column k h = column-of (g .rows) (g .features) a e (g .tables) (g .cols) q P k h refl
+
+  pub good-alike : (i j : ℕ) → i < g .features → j < g .features → Alike (part (g .rows) (g .cols) a e i) (part (g .rows) (g .cols) a e j)
+  good-alike i j hi hj f =
+      sym (level-sum (g .features) (g .tables) f (part (g .rows) (g .cols) a e i))
+      ∙ ap (λ z. total (λ x. f (x .row)) (keep (λ x. true) z)) (good-column i hi)
+      ∙ gd .level i j (subst (λ n. i < n) sm hi) (subst (λ n. j < n) sm hj) (λ x. f (x .row)) (λ x. true)
+      ∙ sym (ap (λ z. total (λ x. f (x .row)) (keep (λ x. true) z)) (good-column j hj))
+      ∙ level-sum (g .features) (g .tables) f (part (g .rows) (g .cols) a e j)
+
+  pub good-room : (k : ℕ) → k < g .features → tally (map (elementOf (g .features) (g .tables)) (part (g .rows) (g .cols) a e k)) ≤ q .count
+  good-room k h = let n = ap tally (good-column k h) in let c = gd .sound k (subst (λ n. k < n) sm h) .counted in omega (arith, n, c)
+
+  pub good-asks : Shaped (g .rows) (g .features) (g .tables) → length (g .cols) ≡ g .features * g .rows → (n : ℕ) → e ≤ n → BelowTo g n → a ≤ e → e ≤ g .rows
+      → NodeAsks (g .rows) (g .features) a e (g .tables) (g .cols) (q .count)
+  good-asks sh lg n en bl h k =
+      record {
+        shape = sh;
+        long = lg;
+        order = h;
+        high = k;
+        below = λ j l i u. every-at (λ r. r < g .rows) (part (g .rows) (g .cols) a e j) 0 i (part-every (λ r. r < g .rows) (g .rows) j 0 n a e (g .cols) (omega arith) en h (bl j l)) u;
+        room = good-room;
+      }
+
+-- ---- the node columns
+
+module _ {A : Type 0} (f : TreeNode → A) where
+  pub three : (ns : List TreeNode) (old : List A) (d : A) (i : ℕ) (a b c : TreeNode) {x y z : A} → x ≡ f a → y ≡ f b → z ≡ f c → i < length ns → length ns + 2 ≤ length old
+      → set (set (set (columnOf f ns old) i x) (length ns) y) (length ns + 1) z ≡ columnOf f (set ns i a ++ (b ∷ c ∷ [])) old
+  three ns old d i a b c {x} {y} {z} ex ey ez hi ho =
+      ap (λ u. set (set (set (columnOf f ns old) i u) (length ns) y) (length ns + 1) z) ex
+      ∙ ap (λ u. set (set u (length ns) y) (length ns + 1) z) (store-node f ns old i a hi)
+      ∙ ap (λ u. set (set (columnOf f (set ns i a) old) (length ns) u) (length ns + 1) z) ey
+      ∙ ap (λ n. set (set (columnOf f (set ns i a) old) n (f b)) (length ns + 1) z) (sym (length-set ns i a))
+      ∙ ap (λ u. set u (length ns + 1) z) (add-node f (set ns i a) old d b (subst (λ n. n < length old) (sym (length-set ns i a)) (omega arith)))
+      ∙ ap (λ u. set (columnOf f (set ns i a ++ (b ∷ [])) old) (length ns + 1) u) ez
+      ∙ ap (λ n. set (columnOf f (set ns i a ++ (b ∷ [])) old) n (f c)) (sym more)
+      ∙ add-node f (set ns i a ++ (b ∷ [])) old d c (subst (λ n. n < length old) (sym more) (omega arith))
+      ∙ ap (λ u. columnOf f u old) (append-assoc (set ns i a) (b ∷ []) (c ∷ []))
+    where
+      more : length (set ns i a ++ (b ∷ [])) ≡ length ns + 1
+      more = length-append (set ns i a) (b ∷ []) ∙ ap (λ n. n + 1) (length-set ns i a)
+
+-- ---- rows of a stretch
+
+pub part-short : (rows : ℕ) (cols : List ℕ) (a e k : ℕ) → length (part rows cols a e k) ≤ e - a
+part-short rows cols a e k = simp length-take (omega arith)
+
+pub ones-map : (el : ℕ → Element) (l : List ℕ) → total (λ x. 1) (map el l) ≡ length l
+unfolding total
+ones-map el [] = refl
+ones-map el (x ∷ l) = let h = ones-map el l in omega (arith, h)
+
+some-row : (el : ℕ → Element) (p : Element → Bool) (l : List ℕ) → 0 < total (λ x. 1) (keep p (map el l)) → 0 < length l
+unfolding keep total
+some-row el p [] h = h
+some-row el p (x ∷ l) h = omega arith
+
+-- a stretch from which something is kept has rows
+pub rows-of : (rows : ℕ) (cols : List ℕ) (a e k : ℕ) (el : ℕ → Element) (p : Element → Bool) → 0 < total (λ x. 1) (keep p (map el (part rows cols a e k))) → a < e
+rows-of rows cols a e k el p h =
+    let s = some-of el p (part rows cols a e k) h in
+    let q = part-short rows cols a e k in
+    omega (arith, s, q)
+  where
+    some-of : (el : ℕ → Element) (p : Element → Bool) (l : List ℕ) → 0 < total (λ x. 1) (keep p (map el l)) → 0 < length l
+    some-of = some-row
