@@ -1,0 +1,25 @@
+-- What the checks ask of their callers.
+use Prim.Native.Nat.{ℕ, _*_, _<_, _≤_}
+use mathlib.Core.Path.{_≡_}
+use mathlib.Core.List.{List}
+use lib.ListN.{length}
+use lib.Ieee.{Float}
+use Rattle.laws.specs.Lists.{Every}
+
+-- a cell of a table of feature values
+pub record Inside (rows features i j : ℕ) (xs : List Float) : Type 0 where
+  pub long : length xs ≡ rows * features
+  pub row : i < rows
+  pub known : j < features
+
+-- a list of rows, to be walked along feature j
+pub record Walkable (rows features j : ℕ) (xs : List Float) (l : List ℕ) : Type 0 where
+  pub long : length xs ≡ rows * features
+  pub below : Every (λ k. k < rows) l
+  pub known : j < features
+
+-- a listing to be looked at for feature j
+pub record Listable (rows features j : ℕ) (xs : List Float) : Type 0 where
+  pub long : length xs ≡ rows * features
+  pub few : rows ≤ 65535
+  pub known : j < features
