@@ -4,6 +4,7 @@ use mathlib.Core.Path.{_≡_}
 use mathlib.Core.List.{List}
 use lib.ListN.{length}
 use lib.Ieee.{Float}
+use Rattle.rules.specs.declared.Shape.{Shape}
 use Rattle.laws.specs.Lists.{Every}
 
 -- a cell of a table of feature values
@@ -18,8 +19,13 @@ pub record Walkable (rows features j : ℕ) (xs : List Float) (l : List ℕ) : T
   pub below : Every (λ k. k < rows) l
   pub known : j < features
 
--- a listing to be looked at for feature j
-pub record Listable (rows features j : ℕ) (xs : List Float) : Type 0 where
-  pub long : length xs ≡ rows * features
-  pub few : rows ≤ 65535
-  pub known : j < features
+-- values and listings of a shape
+pub record Laid (S : Shape) (xs : List Float) (ls : List ℕ) : Type 0 where
+  pub few : S .rows ≤ 65535
+  pub valuesLong : length xs ≡ S .rows * S .features
+  pub listingsLong : length ls ≡ S .features * S .rows
+
+-- feature j's listing among them
+pub record Listed (S : Shape) (j : ℕ) (xs : List Float) (ls : List ℕ) : Type 0 where
+  pub laid : Laid S xs ls
+  pub known : j < S .features

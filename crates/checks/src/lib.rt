@@ -1,10 +1,75 @@
 // The checks of all calls. They read shared slices and lengths alone, so that a refusal leaves all that was lent as it was.
 ghost use mathlib.Core.Path.{_≡_};
+ghost use mathlib.Core.Bool.{true, _||_};
 ghost use Prim.Native.Nat.{_≤_};
+ghost use lib.ListN.{length};
+ghost use lib.Dec.{eqb};
 ghost use Rattle.rules.specs.Words.{eachOnce};
-ghost use Rattle.rules.specs.Lent.{cell};
-ghost use Rattle.rules.specs.Listing.{neverFalls};
-ghost use Rattle.checks.specs.Asks.{Inside, Walkable};
+ghost use Rattle.rules.specs.Lent.{cell, unweighted};
+ghost use Rattle.rules.specs.Checks.{firstFailed, replies, within, featuresIn, treesIn, shapeIn, valuesLong, listingsLong};
+ghost use Rattle.rules.specs.Listing.{neverFalls, goodListing, listingsGood, listingTests, checkListings};
+ghost use Rattle.checks.specs.Asks.{Inside, Walkable, Listed, Laid};
+use rules::Reply;
+use rules::Shape;
+
+// The answer of a call that only checks.
+pub fn reply_of(n: u32) -> Reply
+    ensures { λ r. ⌜ r ≡ replies n ⌝ }
+{
+    if n == 0 {
+        Reply::Done
+    } else {
+        Reply::Refused(n)
+    }
+}
+
+// ---- ranges
+
+fn in_range(top: usize, n: usize) -> bool
+    ensures { λ r. ⌜ r ≡ within top n ⌝ }
+{
+    if 1 <= n { n <= top } else { false }
+}
+
+pub fn features_in(n: usize) -> bool
+    ensures { λ r. ⌜ r ≡ featuresIn n ⌝ }
+{
+    in_range(1024, n)
+}
+
+pub fn trees_in(n: usize) -> bool
+    ensures { λ r. ⌜ r ≡ treesIn n ⌝ }
+{
+    in_range(1024, n)
+}
+
+pub fn shape_in(shape: Shape) -> bool
+    ensures { λ r. ⌜ r ≡ shapeIn shape ⌝ }
+{
+    if in_range(65535, shape.rows) {
+        features_in(shape.features)
+    } else {
+        false
+    }
+}
+
+// ---- lengths
+
+pub fn values_long(shape: Shape, x: &[f64]) -> bool
+    requires { ⌜ shapeIn shape ≡ true ⌝ }
+    ensures { λ r. ⌜ r ≡ valuesLong shape (now (x .entry)) ⌝ }
+{
+    let cells = shape.rows * shape.features;
+    x.len() == cells
+}
+
+pub fn listings_long(shape: Shape, listings: &[u32]) -> bool
+    requires { ⌜ shapeIn shape ≡ true ⌝ }
+    ensures { λ r. ⌜ r ≡ listingsLong shape (now (listings .entry)) ⌝ }
+{
+    let cells = shape.features * shape.rows;
+    listings.len() == cells
+}
 
 // ---- the listing check
 
@@ -61,4 +126,61 @@ pub fn never_falls(listing: &[u32], x: &[f64], rows: usize, features: usize, j: 
         i += 1;
     }
     true
+}
+
+// Is feature j's listing good?
+pub fn good_listing(shape: Shape, x: &[f64], listings: &[u32], j: usize) -> bool
+    requires { ⌜ Listed shape j (now x) (now listings) ⌝ }
+    ensures { λ r. ⌜ r ≡ goodListing shape (now (x .entry)) (now (listings .entry)) j ⌝ }
+{
+    let rows = shape.rows;
+    let features = shape.features;
+    let base = j * rows;
+    let end = base + rows;
+    if each_once(&listings[base..end], rows) {
+        never_falls(&listings[base..end], x, rows, features, j)
+    } else {
+        false
+    }
+}
+
+pub fn listings_good(shape: Shape, x: &[f64], listings: &[u32]) -> bool
+    requires { ⌜ Laid shape (now x) (now listings) ⌝ }
+    ensures { λ r. ⌜ r ≡ listingsGood shape (now (x .entry)) (now (listings .entry)) ⌝ }
+{
+    let features = shape.features;
+    let mut j: usize = 0;
+    while j < features {
+        if !good_listing(shape, x, listings, j) {
+            return false;
+        }
+        j += 1;
+    }
+    true
+}
+
+fn listing_verdict(shape: Shape, x: &[f64], listings: &[u32]) -> u32
+    ensures { λ r. ⌜ r ≡ firstFailed (listingTests shape (now (x .entry)) (now (listings .entry))) ⌝ }
+{
+    if !shape_in(shape) {
+        return 1;
+    }
+    if !values_long(shape, x) {
+        return 2;
+    }
+    if !listings_long(shape, listings) {
+        return 2;
+    }
+    if !listings_good(shape, x, listings) {
+        return 5;
+    }
+    0
+}
+
+// Each listing has each row once, and along it no value falls: refusals 1, 2 and 5.
+pub fn check_listings(shape: Shape, x: &[f64], listings: &[u32]) -> Reply
+    ensures { λ r. ⌜ r ≡ checkListings shape (now (x .entry)) (now (listings .entry)) ⌝ }
+{
+    let n = listing_verdict(shape, x, listings);
+    reply_of(n)
 }

@@ -11,3 +11,4 @@ pub mod Passed
 pub mod Tables
 pub mod Written
 pub mod Answered
+pub mod Tried
