@@ -1,5 +1,6 @@
--- laws of loops that stop at the first entry that fails
+-- laws of loops that stop at the first entry that fails, and of chains of tests
 pub mod Scans
+pub mod Tests
 -- where things lie
 pub mod Cells
 -- what the checks ask of their callers

@@ -1,6 +1,6 @@
 // The checks of all calls. They read shared slices and lengths alone, so that a refusal leaves all that was lent as it was.
 ghost use mathlib.Core.Path.{_≡_};
-ghost use mathlib.Core.Bool.{true, _||_};
+ghost use mathlib.Core.Bool.{true, _&&_, _||_};
 ghost use Prim.Native.Nat.{_≤_};
 ghost use lib.ListN.{length};
 ghost use lib.Dec.{eqb};
@@ -159,16 +159,24 @@ pub fn listings_good(shape: Shape, x: &[f64], listings: &[u32]) -> bool
     true
 }
 
+fn both_long(shape: Shape, x: &[f64], listings: &[u32]) -> bool
+    requires { ⌜ shapeIn shape ≡ true ⌝ }
+    ensures { λ r. ⌜ r ≡ (valuesLong shape (now (x .entry)) && listingsLong shape (now (listings .entry))) ⌝ }
+{
+    if values_long(shape, x) {
+        listings_long(shape, listings)
+    } else {
+        false
+    }
+}
+
 fn listing_verdict(shape: Shape, x: &[f64], listings: &[u32]) -> u32
     ensures { λ r. ⌜ r ≡ firstFailed (listingTests shape (now (x .entry)) (now (listings .entry))) ⌝ }
 {
     if !shape_in(shape) {
         return 1;
     }
-    if !values_long(shape, x) {
-        return 2;
-    }
-    if !listings_long(shape, listings) {
+    if !both_long(shape, x, listings) {
         return 2;
     }
     if !listings_good(shape, x, listings) {
