@@ -1,10 +1,10 @@
--- `checks::check_listings` meets its contract: it replies what the verdict is. Assumes nothing.
+-- `checks::listing::check_listings` meets its contract: it replies what the verdict is. Assumes nothing.
 use borrow.Author.Needs.{needs}
 use mathlib.Core.Path.{ap, _∙_}
 use Rattle.rules.specs.Checks.{replies}
 use Rattle.rules.specs.Listing.{checkListings}
-use Rattle.checks.proofs.check_listings.Statement.{statement}
-use Rattle.checks.proofs.check_listings.Tie as tie
+use Rattle.checks.proofs.listing.check_listings.Statement.{statement}
+use Rattle.checks.proofs.listing.check_listings.Tie as tie
 
 listing-verdict-requires : tie.Need-listing-verdict-requires
 listing-verdict-requires c κs = search needs

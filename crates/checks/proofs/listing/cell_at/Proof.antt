@@ -1,10 +1,10 @@
--- `checks::cell_at` meets its contract: the row's values start at its number times the features, and the cell is inside them. Assumes nothing.
+-- `checks::listing::cell_at` meets its contract: the row's values start at its number times the features, and the cell is inside them. Assumes nothing.
 use native.Mathlib.Omega.{arith}
 use mathlib.Core.Path.{sym}
 use denote.Ref.{now}
 use Rattle.checks.specs.Cells.{cell-lies, cell-within}
-use Rattle.checks.proofs.cell_at.Statement.{statement}
-use Rattle.checks.proofs.cell_at.Tie as tie
+use Rattle.checks.proofs.listing.cell_at.Statement.{statement}
+use Rattle.checks.proofs.listing.cell_at.Tie as tie
 
 mul-result : tie.Need-mul-result
 mul-result c = omega (arith, cell-within (c .args .i) (c .args .rows) (c .args .features) (c .args .j) (c .pre .row) (c .pre .known))

@@ -1,4 +1,4 @@
--- `checks::listing_verdict` meets its contract: each test passed goes on, the first that fails is told. Assumes nothing.
+-- `checks::listing::listing_verdict` meets its contract: each test passed goes on, the first that fails is told. Assumes nothing.
 use borrow.Author.Needs.{needs}
 use borrow.Author.Tests.{eqb-true, not-true, not-false}
 use mathlib.Core.Path.{_≡_, sym, _∙_}
@@ -7,8 +7,8 @@ use denote.Ref.{now}
 use Rattle.rules.specs.Checks.{shapeIn, valuesLong, listingsLong}
 use Rattle.rules.specs.Listing.{listingTests}
 use Rattle.checks.specs.Tests.{and-both, passes, fails, none-failed, rows-low}
-use Rattle.checks.proofs.listing_verdict.Statement.{statement}
-use Rattle.checks.proofs.listing_verdict.Tie as tie
+use Rattle.checks.proofs.listing.listing_verdict.Statement.{statement}
+use Rattle.checks.proofs.listing.listing_verdict.Tie as tie
 
 shaped : (c : tie.Else1) → shapeIn (c .before .before .before .before .args .shape) ≡ true
 shaped c = sym (c .before .shape-in .ensures) ∙ not-false _ (c .if1 .left)

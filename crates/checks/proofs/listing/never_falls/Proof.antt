@@ -1,4 +1,4 @@
--- `checks::never_falls` meets its contract: what is left to ask is asked from the row whose value is held. Assumes nothing.
+-- `checks::listing::never_falls` meets its contract: what is left to ask is asked from the row whose value is held. Assumes nothing.
 use borrow.Author.Needs.{needs}
 use native.Mathlib.Omega.{arith}
 use mathlib.Core.Path.{_≡_, sym, ap, _∙_}
@@ -13,8 +13,8 @@ use Rattle.rules.specs.Lent.{cell}
 use Rattle.rules.specs.Listing.{neverFalls}
 use Rattle.laws.specs.Lists.{every-at}
 use Rattle.checks.specs.Scans.{along-none, along-starts, along-goes, along-stops, along-ends}
-use Rattle.checks.proofs.never_falls.Statement.{statement}
-use Rattle.checks.proofs.never_falls.Tie as tie
+use Rattle.checks.proofs.listing.never_falls.Statement.{statement}
+use Rattle.checks.proofs.listing.never_falls.Tie as tie
 
 module _ (value : ℕ → Float) (l : List ℕ) where
   abbrev holds : ℕ → ℕ → Bool

@@ -1,4 +1,4 @@
--- `checks::listings_good` meets its contract: what is left to ask is asked of the features from j on. Assumes nothing.
+-- `checks::listing::listings_good` meets its contract: what is left to ask is asked of the features from j on. Assumes nothing.
 use borrow.Author.Needs.{needs}
 use borrow.Author.Tests.{not-true, not-false}
 use native.Mathlib.Omega.{arith}
@@ -7,8 +7,8 @@ use Prim.Native.Nat.{_≤_, _-_}
 use denote.Ref.{now}
 use Rattle.rules.specs.Listing.{goodListing, listingsGood}
 use Rattle.checks.specs.Scans.{everyOn, count-goes, count-stops, count-ends, count-starts}
-use Rattle.checks.proofs.listings_good.Statement.{statement}
-use Rattle.checks.proofs.listings_good.Tie as tie
+use Rattle.checks.proofs.listing.listings_good.Statement.{statement}
+use Rattle.checks.proofs.listing.listings_good.Tie as tie
 
 abbrev Inv-loop : tie.InvT-loop
 Inv-loop shape x listings features j₀ j = (j ≤ features) × (listingsGood shape x listings ≡ everyOn (goodListing shape x listings) features j)

@@ -1,9 +1,9 @@
--- `checks::both_long` meets its contract: values first, then listings. Assumes nothing.
+-- `checks::listing::both_long` meets its contract: values first, then listings. Assumes nothing.
 use borrow.Author.Needs.{needs}
 use mathlib.Core.Path.{sym, _∙_}
 use Rattle.checks.specs.Tests.{and-on, and-off}
-use Rattle.checks.proofs.both_long.Statement.{statement}
-use Rattle.checks.proofs.both_long.Tie as tie
+use Rattle.checks.proofs.listing.both_long.Statement.{statement}
+use Rattle.checks.proofs.listing.both_long.Tie as tie
 
 values-long-requires : tie.Need-values-long-requires
 values-long-requires c κs = search needs

@@ -1,4 +1,4 @@
--- `checks::good_listing` meets its contract: the part that is looked at is the listing of feature j, and a listing with each row once can be walked. Assumes nothing.
+-- `checks::listing::good_listing` meets its contract: the part that is looked at is the listing of feature j, and a listing with each row once can be walked. Assumes nothing.
 use native.Mathlib.Omega.{arith}
 use mathlib.Core.Path.{_≡_, sym, _∙_, subst}
 use Prim.Native.Nat.{_≤_, _-_, _+_, _*_}
@@ -10,8 +10,8 @@ use Rattle.rules.specs.Lent.{listingAt}
 use Rattle.laws.specs.Once.{once-below}
 use Rattle.checks.specs.Tests.{and-on, and-off}
 use Rattle.checks.specs.Cells.{stretch-within, listing-lies}
-use Rattle.checks.proofs.good_listing.Statement.{statement}
-use Rattle.checks.proofs.good_listing.Tie as tie
+use Rattle.checks.proofs.listing.good_listing.Statement.{statement}
+use Rattle.checks.proofs.listing.good_listing.Tie as tie
 
 -- feature j's listing ends within the listings
 ends : (a : tie.Start) → a .args .j * a .args .shape .rows + a .args .shape .rows ≤ length (now (a .args .listings))
