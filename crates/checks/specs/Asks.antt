@@ -1,10 +1,12 @@
 -- What the checks ask of their callers.
 use Prim.Native.Nat.{ℕ, _*_, _<_, _≤_}
 use mathlib.Core.Path.{_≡_}
+use mathlib.Core.Bool.{true}
 use mathlib.Core.List.{List}
 use lib.ListN.{length}
 use lib.Ieee.{Float}
 use Rattle.rules.specs.declared.Shape.{Shape}
+use Rattle.rules.specs.Checks.{shapeIn}
 use Rattle.laws.specs.Lists.{Every}
 
 -- a cell of a table of feature values
@@ -29,3 +31,8 @@ pub record Laid (S : Shape) (xs : List Float) (ls : List ℕ) : Type 0 where
 pub record Listed (S : Shape) (j : ℕ) (xs : List Float) (ls : List ℕ) : Type 0 where
   pub laid : Laid S xs ls
   pub known : j < S .features
+
+-- a shape and trees in range
+pub record Ranges (S : Shape) (trees : ℕ) : Type 0 where
+  pub shape : shapeIn S ≡ true
+  pub few : trees ≤ 1024

@@ -3,5 +3,7 @@ pub mod Scans
 pub mod Tests
 -- where things lie
 pub mod Cells
+-- what is lent
+pub mod Lent
 -- what the checks ask of their callers
 pub mod Asks

@@ -5,6 +5,7 @@ ghost use Rattle.rules.specs.Checks.{replies, within, featuresIn, treesIn, shap
 use rules::Reply;
 use rules::Shape;
 
+pub mod inputs;
 pub mod listing;
 
 // The answer of a call that only checks.
