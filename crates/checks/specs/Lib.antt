@@ -5,5 +5,6 @@ pub mod Tests
 pub mod Cells
 -- what is lent
 pub mod Lent
+pub mod Rooms
 -- what the checks ask of their callers
 pub mod Asks

@@ -7,6 +7,26 @@ use rules::Shape;
 
 pub mod inputs;
 pub mod listing;
+pub mod rooms;
+
+// How long the rooms of a fit are: node room and waiting list as their shortest column.
+pub struct Lengths {
+    pub nodes: usize,
+    pub order: usize,
+    pub scratch: usize,
+    pub flags: usize,
+    pub waiting: usize,
+}
+
+// How long a forest's report columns are.
+pub struct ReportLengths {
+    pub nodes: usize,
+    pub depth: usize,
+    pub mass: usize,
+    pub searches: usize,
+    pub words: usize,
+    pub thresholds: usize,
+}
 
 // The answer of a call that only checks.
 pub fn reply_of(n: u32) -> Reply
