@@ -6,5 +6,6 @@ pub mod Cells
 -- what is lent
 pub mod Lent
 pub mod Rooms
+pub mod Verdicts
 -- what the checks ask of their callers
 pub mod Asks

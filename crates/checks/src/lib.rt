@@ -8,6 +8,7 @@ use rules::Shape;
 pub mod inputs;
 pub mod listing;
 pub mod rooms;
+pub mod verdicts;
 
 // How long the rooms of a fit are: node room and waiting list as their shortest column.
 pub struct Lengths {
