@@ -1,7 +1,7 @@
 // The rooms that a fit asks: node room by kept rows, work room by shape, report columns by trees.
 ghost use mathlib.Core.Path.{_≡_};
 ghost use mathlib.Core.Bool.{true, _&&_};
-ghost use Prim.Native.Nat.{suc, max};
+ghost use Prim.Native.Nat.{suc, min, max};
 ghost use lib.ListN.{length};
 ghost use lib.Dec.{leb};
 ghost use Rattle.rules.specs.Lent.{Work, Reports, Stack, stack};
@@ -54,6 +54,23 @@ pub fn forest_room(weights: &[f64], counts: &[u32], rows: usize, trees: usize) -
         t += 1;
     }
     sum
+}
+
+pub fn least(a: usize, b: usize) -> usize
+    ensures { λ r. ⌜ r ≡ min a b ⌝ }
+{
+    if a <= b { a } else { b }
+}
+
+// Node room is as long as its shortest column.
+pub fn shortest_of(value: usize, feature: usize, threshold: usize, score: usize, on: usize, off: usize) -> usize
+    ensures { λ r. ⌜ r ≡ min value (min feature (min threshold (min score (min on off)))) ⌝ }
+{
+    let children = least(on, off);
+    let scored = least(score, children);
+    let cut = least(threshold, scored);
+    let known = least(feature, cut);
+    least(value, known)
 }
 
 fn larger(a: usize, b: usize) -> usize

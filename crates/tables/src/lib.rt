@@ -1,11 +1,12 @@
 // The table check: refusal 8, the calls that make it alone, and a node read out.
 ghost use mathlib.Core.Path.{_≡_};
-ghost use Prim.Native.Nat.{_≤_, min};
+ghost use Prim.Native.Nat.{_≤_};
+ghost use lib.Dec.{ltb};
 ghost use Rattle.rules.specs.Words.{along};
-ghost use Rattle.rules.specs.Lent.{entriesAt};
-ghost use Rattle.rules.specs.Table.{goodEntry, goodTree};
+ghost use Rattle.rules.specs.Lent.{Columns, shortest, entriesAt};
+ghost use Rattle.rules.specs.Table.{goodEntry, goodTree, startsGood};
 ghost use Rattle.tables.specs.Laws.{goodSplit};
-ghost use Rattle.tables.specs.Table.{columnsOf, bare, Within};
+ghost use Rattle.tables.specs.Table.{columnsOf, tableOf, bare, Within, Started};
 
 fn wide(n: u32) -> usize
     ensures { λ r. ⌜ (r ≡ n) × (r ≤ 4294967295) ⌝ }
@@ -69,4 +70,40 @@ pub fn tree_good(
         k += 1;
     }
     true
+}
+
+// ---- a forest
+
+fn starts_rise(starts: &[u32]) -> bool
+    ensures { λ r. ⌜ r ≡ along ltb (now (starts .entry)) ⌝ }
+{
+    if starts.len() == 0 {
+        return true;
+    }
+    let mut last = starts[0];
+    let mut i: usize = 1;
+    while i < starts.len() {
+        let next = starts[i];
+        if next <= last {
+            return false;
+        }
+        last = next;
+        i += 1;
+    }
+    true
+}
+
+// The start table's rule, over columns of n entries.
+pub fn starts_good(trees: usize, starts: &[u32], n: usize) -> bool
+    requires { ⌜ Started trees (now starts) ⌝ }
+    ensures { λ r. ⌜ ((c : Columns) → shortest c ≡ n → r ≡ startsGood (tableOf trees (now (starts .entry)) c)) ⌝ }
+{
+    if starts[0] != 0 {
+        return false;
+    }
+    let end = trees + 1;
+    if !starts_rise(&starts[..end]) {
+        return false;
+    }
+    wide(starts[trees]) <= n
 }
