@@ -2,18 +2,25 @@
 use Prim.Native.Nat.{ℕ, zero, suc, _+_, _-_, _<_, _≤_}
 use native.Mathlib.Nat.{add-zero, not-suc-le-zero, le-of-suc-le-suc}
 use native.Mathlib.Numerals.{add-one}
+use native.Mathlib.Decide.{ℕ-discrete}
 use native.Mathlib.Omega.{arith}
 use mathlib.Core.Path.{_≡_, refl, sym, ap, _∙_, subst}
-use mathlib.Core.Bool.{Bool, true, false, _&&_, _||_}
+use mathlib.Core.Bool.{Bool, true, false, _&&_, _||_, cond}
 use mathlib.Core.List.{List, [], _∷_, map}
-use lib.ListN.{length, getD, length-map}
-use lib.Dec.{T, ltb, eqb, ltb→lt}
-use borrow.Author.Tests.{lt-ltb, le-ltb, eq-eqb, ne-eqb}
+use lib.ListN.{length, getD, take, length-map}
+use lib.Seq.{getD-take, length-take-le}
+use lib.Dec.{T, leb, ltb, eqb, ltb→lt}
+use borrow.Author.Tests.{lt-ltb, le-ltb, eq-eqb, ne-eqb, leb-true}
+use lib.Ieee.{Float}
+use Rattle.rules.specs.declared.Kind.the-variants.{Leaf, Split}
+use Rattle.rules.specs.declared.Node.{Node}
+use Rattle.rules.specs.declared.NodeReply.{NodeReply}
 use Rattle.rules.specs.Words.{from, every, along}
-use Rattle.rules.specs.Lent.{Columns, Entry, entryAt, entriesAt}
-use Rattle.rules.specs.Table.{isLeaf, goodEntry, goodFrom, goodTree}
+use Rattle.rules.specs.Lent.{Columns, Entry, shortest, entryAt, entriesAt}
+use Rattle.rules.specs.Table.{isLeaf, goodEntry, goodFrom, goodTree, ForestTable, startsGood, nodeOf, nodeRead}
 use Rattle.laws.specs.Lists.{Ordered, every-all, every-at, ordered-along, length-from}
-use Rattle.tables.specs.Table.{bare}
+use Rattle.checks.specs.Tests.{and-both, same-default}
+use Rattle.tables.specs.Table.{entryIs, bare, Lying}
 
 -- ---- one entry
 
@@ -113,3 +120,78 @@ pub every-mapped {ℓ κ} : {A : Type ℓ} {B : Type κ} (p : B → Bool) (f : A
 unfolding every
 every-mapped p f [] = refl
 every-mapped p f (x ∷ l) = ap (λ b. p (f x) && b) (every-mapped p f l)
+
+-- ---- where the trees of a good start table lie
+
+module _ (F : ForestTable) (h : Lying F) where
+  abbrev high : ℕ
+  high = shortest (F .nodes)
+
+  says : (along ltb (take (suc (F .trees)) (F .starts)) ≡ true) × (leb (getD (F .starts) (F .trees) (suc high)) high ≡ true)
+  unfolding startsGood
+  says =
+      and-both (along ltb (take (suc (F .trees)) (F .starts))) (leb (getD (F .starts) (F .trees) (suc high)) high)
+      (and-both (eqb (getD (F .starts) 0 1) 0) (along ltb (take (suc (F .trees)) (F .starts)) && leb (getD (F .starts) (F .trees) (suc high)) high) (h .good) .1)
+
+  above : (i j : ℕ) → i < j → j < suc (F .trees) → getD (F .starts) i 0 < getD (F .starts) j 0
+  above i j a b =
+      subst (λ x. x < getD (F .starts) j 0) (getD-take (suc (F .trees)) (F .starts) i 0 (before i j (F .trees) a b))
+      (subst (λ y. getD (take (suc (F .trees)) (F .starts)) i 0 < y) (getD-take (suc (F .trees)) (F .starts) j 0 b)
+      (rising-at (take (suc (F .trees)) (F .starts)) (says .0) i j a (subst (λ n. j < n) (sym (length-take-le (suc (F .trees)) (F .starts) (h .started .long))) b)))
+    where
+      before : (i j n : ℕ) → i < j → j < suc n → i < suc n
+      before i j n a b = omega arith
+
+  -- tree t's two starts
+  pub start-below : (t : ℕ) → t < F .trees → getD (F .starts) t 0 < getD (F .starts) (suc t) 0
+  start-below t a = above t (suc t) (omega arith) (omega arith)
+
+  pub start-inside : (t : ℕ) → t < F .trees → getD (F .starts) (suc t) 0 ≤ high
+  start-inside t a = go (ℕ-discrete (suc t) (F .trees))
+    where
+      end : getD (F .starts) (F .trees) 0 ≤ high
+      end = subst (λ x. x ≤ high) (same-default (F .starts) (F .trees) (suc (high)) 0 (h .started .long)) (leb-true _ _ (says .1))
+
+      go : Dec (suc t ≡ F .trees) → getD (F .starts) (suc t) 0 ≤ high
+      go (yes e) = subst (λ x. getD (F .starts) x 0 ≤ high) (sym e) end
+      go (no d) = omega (arith, end, above (suc t) (F .trees) (omega (arith, d)) (omega arith))
+
+-- ---- a node read out
+
+module _ (v : Float) (j : ℕ) (t s : Float) (y o : ℕ) where
+  node-by : (b : Bool) → isLeaf (entryIs v j t s y o) ≡ b
+      → record { value = v; kind = cond b Leaf (Split (record { cut = record { feature = j; threshold = t }; score = s; children = y })) } ≡ nodeOf (entryIs v j t s y o)
+  unfolding nodeOf
+  node-by b h = λ i. record { value = v; kind = cond (sym h i) Leaf (Split (record { cut = record { feature = j; threshold = t }; score = s; children = y })) }
+
+  pub node-leaf : y ≡ 0 → o ≡ 0 → record { value = v; kind = Leaf } ≡ nodeOf (entryIs v j t s y o)
+  unfolding isLeaf
+  node-leaf h g = node-by true (λ i. eq-eqb y 0 h i && eq-eqb o 0 g i)
+
+  abbrev pub splitNode : Node
+  splitNode = record { value = v; kind = Split (record { cut = record { feature = j; threshold = t }; score = s; children = y }) }
+
+  pub node-half : y ≡ 0 → (o ≡ 0 → ⊥) → splitNode ≡ nodeOf (entryIs v j t s y o)
+  unfolding isLeaf
+  node-half h g = node-by false (λ i. eq-eqb y 0 h i && ne-eqb o 0 g i)
+
+  pub node-split : (y ≡ 0 → ⊥) → splitNode ≡ nodeOf (entryIs v j t s y o)
+  unfolding isLeaf
+  node-split h = node-by false (λ i. ne-eqb y 0 h i && eqb o 0)
+
+module _ (c : Columns) (k n : ℕ) where
+  pub read-refused : (n ≡ 0 → ⊥) → NodeReply.Refused n ≡ nodeRead n c k
+  unfolding nodeRead
+  read-refused h = go n h
+    where
+      go : (n : ℕ) → (n ≡ 0 → ⊥) → NodeReply.Refused n ≡ nodeRead n c k
+      go zero h = absurd (h refl)
+      go (suc n) h = refl
+
+  pub read-missing : n ≡ 0 → shortest c ≤ k → NodeReply.Missing ≡ nodeRead n c k
+  unfolding nodeRead
+  read-missing h g = sym (ap (λ b. cond b (NodeReply.Read (nodeOf (entryAt c k))) NodeReply.Missing) (le-ltb k (shortest c) g)) ∙ ap (λ m. nodeRead m c k) (sym h)
+
+  pub read-there : n ≡ 0 → k < shortest c → NodeReply.Read (nodeOf (entryAt c k)) ≡ nodeRead n c k
+  unfolding nodeRead
+  read-there h g = sym (ap (λ b. cond b (NodeReply.Read (nodeOf (entryAt c k))) NodeReply.Missing) (lt-ltb k (shortest c) g)) ∙ ap (λ m. nodeRead m c k) (sym h)

@@ -15,9 +15,12 @@ columnsOf v j t s y n = record { value = v; feature = j; threshold = t; score = 
 abbrev pub tableOf : ℕ → List ℕ → Columns → ForestTable
 tableOf trees starts c = record { trees = trees; nodes = c; starts = starts }
 
+abbrev pub entryIs : Float → ℕ → Float → Float → ℕ → ℕ → Entry
+entryIs v j t s y n = record { value = v; feature = j; threshold = t; score = s; trueChild = y; falseChild = n }
+
 -- what is looked at of an entry; the rest does not matter
 abbrev pub bare : ℕ → ℕ → ℕ → Entry
-bare j y n = record { value = nought; feature = j; threshold = nought; score = nought; trueChild = y; falseChild = n }
+bare j y n = entryIs nought j nought nought y n
 
 -- n entries from place a on lie in the columns
 pub record Within (c : Columns) (a n : ℕ) : Type 0 where

@@ -1,12 +1,20 @@
 // The table check: refusal 8, the calls that make it alone, and a node read out.
 ghost use mathlib.Core.Path.{_≡_};
+ghost use mathlib.Core.Bool.{_&&_};
 ghost use Prim.Native.Nat.{_≤_};
 ghost use lib.Dec.{ltb};
-ghost use Rattle.rules.specs.Words.{along};
+ghost use Rattle.rules.specs.Words.{every, along};
 ghost use Rattle.rules.specs.Lent.{Columns, shortest, entriesAt};
-ghost use Rattle.rules.specs.Table.{goodEntry, goodTree, startsGood};
+ghost use Rattle.rules.specs.Checks.{firstFailed, featuresIn, treesIn};
+ghost use Rattle.rules.specs.Table.{goodEntry, goodTree, startsGood, treesOf, goodForest, treeTableTests, forestTableTests, checkTree, checkForest, nodeOf, readNode};
 ghost use Rattle.tables.specs.Laws.{goodSplit};
-ghost use Rattle.tables.specs.Table.{columnsOf, tableOf, bare, Within, Started};
+ghost use Rattle.tables.specs.Table.{columnsOf, tableOf, entryIs, bare, Within, Started, Lying};
+use rules::Cut;
+use rules::Fork;
+use rules::Kind;
+use rules::Node;
+use rules::NodeReply;
+use rules::Reply;
 
 fn wide(n: u32) -> usize
     ensures { λ r. ⌜ (r ≡ n) × (r ≤ 4294967295) ⌝ }
@@ -106,4 +114,215 @@ pub fn starts_good(trees: usize, starts: &[u32], n: usize) -> bool
         return false;
     }
     wide(starts[trees]) <= n
+}
+
+// Each tree between its two starts.
+pub fn trees_good(
+    features: usize,
+    trees: usize,
+    starts: &[u32],
+    value: &[f64],
+    feature: &[u32],
+    threshold: &[f64],
+    score: &[f64],
+    on: &[u32],
+    off: &[u32],
+) -> bool
+    requires { ⌜ Lying (tableOf trees (now starts) (columnsOf (now value) (now feature) (now threshold) (now score) (now on) (now off))) ⌝ }
+    ensures { λ r. ⌜ r ≡ every (goodTree features) (treesOf (tableOf trees (now (starts .entry)) (columnsOf (now (value .entry)) (now (feature .entry)) (now (threshold .entry)) (now (score .entry)) (now (on .entry)) (now (off .entry))))) ⌝ }
+{
+    let mut t: usize = 0;
+    while t < trees {
+        let next = t + 1;
+        let a = wide(starts[t]);
+        let e = wide(starts[next]);
+        let n = e - a;
+        if !tree_good(features, a, n, value, feature, threshold, score, on, off) {
+            return false;
+        }
+        t += 1;
+    }
+    true
+}
+
+pub fn forest_good(
+    features: usize,
+    trees: usize,
+    starts: &[u32],
+    value: &[f64],
+    feature: &[u32],
+    threshold: &[f64],
+    score: &[f64],
+    on: &[u32],
+    off: &[u32],
+) -> bool
+    requires { ⌜ Started trees (now starts) ⌝ }
+    ensures { λ r. ⌜ r ≡ goodForest features (tableOf trees (now (starts .entry)) (columnsOf (now (value .entry)) (now (feature .entry)) (now (threshold .entry)) (now (score .entry)) (now (on .entry)) (now (off .entry)))) ⌝ }
+{
+    let n = checks::rooms::shortest_of(
+        value.len(),
+        feature.len(),
+        threshold.len(),
+        score.len(),
+        on.len(),
+        off.len(),
+    );
+    if starts_good(trees, starts, n) {
+        trees_good(features, trees, starts, value, feature, threshold, score, on, off)
+    } else {
+        false
+    }
+}
+
+// ---- the calls
+
+// All that is lent is the tree.
+fn tree_verdict(
+    features: usize,
+    value: &[f64],
+    feature: &[u32],
+    threshold: &[f64],
+    score: &[f64],
+    on: &[u32],
+    off: &[u32],
+) -> u32
+    ensures { λ r. ⌜ r ≡ firstFailed (treeTableTests features (columnsOf (now (value .entry)) (now (feature .entry)) (now (threshold .entry)) (now (score .entry)) (now (on .entry)) (now (off .entry)))) ⌝ }
+{
+    if !checks::features_in(features) {
+        return 1;
+    }
+    let n = checks::rooms::shortest_of(
+        value.len(),
+        feature.len(),
+        threshold.len(),
+        score.len(),
+        on.len(),
+        off.len(),
+    );
+    if !tree_good(features, 0, n, value, feature, threshold, score, on, off) {
+        return 8;
+    }
+    0
+}
+
+// Whether six columns hold a good tree: refusals 1 and 8.
+pub fn check_tree(
+    features: usize,
+    value: &[f64],
+    feature: &[u32],
+    threshold: &[f64],
+    score: &[f64],
+    on: &[u32],
+    off: &[u32],
+) -> Reply
+    ensures { λ r. ⌜ r ≡ checkTree features (columnsOf (now (value .entry)) (now (feature .entry)) (now (threshold .entry)) (now (score .entry)) (now (on .entry)) (now (off .entry))) ⌝ }
+{
+    let number = tree_verdict(features, value, feature, threshold, score, on, off);
+    checks::reply_of(number)
+}
+
+fn forest_in(features: usize, trees: usize) -> bool
+    ensures { λ r. ⌜ r ≡ (featuresIn features && treesIn trees) ⌝ }
+{
+    if checks::features_in(features) {
+        checks::trees_in(trees)
+    } else {
+        false
+    }
+}
+
+fn forest_verdict(
+    features: usize,
+    trees: usize,
+    starts: &[u32],
+    value: &[f64],
+    feature: &[u32],
+    threshold: &[f64],
+    score: &[f64],
+    on: &[u32],
+    off: &[u32],
+) -> u32
+    ensures { λ r. ⌜ r ≡ firstFailed (forestTableTests features (tableOf trees (now (starts .entry)) (columnsOf (now (value .entry)) (now (feature .entry)) (now (threshold .entry)) (now (score .entry)) (now (on .entry)) (now (off .entry))))) ⌝ }
+{
+    if !forest_in(features, trees) {
+        return 1;
+    }
+    if starts.len() < trees + 1 {
+        return 6;
+    }
+    if !forest_good(features, trees, starts, value, feature, threshold, score, on, off) {
+        return 8;
+    }
+    0
+}
+
+// Whether a start table and six columns hold a good forest: refusals 1, 6 and 8.
+pub fn check_forest(
+    features: usize,
+    trees: usize,
+    starts: &[u32],
+    value: &[f64],
+    feature: &[u32],
+    threshold: &[f64],
+    score: &[f64],
+    on: &[u32],
+    off: &[u32],
+) -> Reply
+    ensures { λ r. ⌜ r ≡ checkForest features (tableOf trees (now (starts .entry)) (columnsOf (now (value .entry)) (now (feature .entry)) (now (threshold .entry)) (now (score .entry)) (now (on .entry)) (now (off .entry)))) ⌝ }
+{
+    let number = forest_verdict(features, trees, starts, value, feature, threshold, score, on, off);
+    checks::reply_of(number)
+}
+
+// ---- a node read out
+
+pub fn node_of(value: f64, feature: u32, threshold: f64, score: f64, on: u32, off: u32) -> Node
+    ensures { λ r. ⌜ r ≡ nodeOf (entryIs value feature threshold score on off) ⌝ }
+{
+    if on == 0 {
+        if off == 0 {
+            let kind = Kind::Leaf;
+            return Node { value, kind };
+        }
+    }
+    let cut = Cut { feature, threshold };
+    let fork = Fork {
+        cut,
+        score,
+        children: on,
+    };
+    let kind = Kind::Split(fork);
+    Node { value, kind }
+}
+
+// Node k of a good tree, if it has one: refusals 1 and 8.
+pub fn read_node(
+    features: usize,
+    value: &[f64],
+    feature: &[u32],
+    threshold: &[f64],
+    score: &[f64],
+    on: &[u32],
+    off: &[u32],
+    k: usize,
+) -> NodeReply
+    ensures { λ r. ⌜ r ≡ readNode features (columnsOf (now (value .entry)) (now (feature .entry)) (now (threshold .entry)) (now (score .entry)) (now (on .entry)) (now (off .entry))) k ⌝ }
+{
+    let number = tree_verdict(features, value, feature, threshold, score, on, off);
+    if number != 0 {
+        return NodeReply::Refused(number);
+    }
+    let n = checks::rooms::shortest_of(
+        value.len(),
+        feature.len(),
+        threshold.len(),
+        score.len(),
+        on.len(),
+        off.len(),
+    );
+    if n <= k {
+        return NodeReply::Missing;
+    }
+    let node = node_of(value[k], feature[k], threshold[k], score[k], on[k], off[k]);
+    NodeReply::Read(node)
 }
