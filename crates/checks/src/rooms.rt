@@ -63,7 +63,14 @@ pub fn least(a: usize, b: usize) -> usize
 }
 
 // Node room is as long as its shortest column.
-pub fn shortest_of(value: usize, feature: usize, threshold: usize, score: usize, on: usize, off: usize) -> usize
+pub fn shortest_of(
+    value: usize,
+    feature: usize,
+    threshold: usize,
+    score: usize,
+    on: usize,
+    off: usize,
+) -> usize
     ensures { λ r. ⌜ r ≡ min value (min feature (min threshold (min score (min on off)))) ⌝ }
 {
     let children = least(on, off);

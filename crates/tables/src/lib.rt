@@ -168,7 +168,17 @@ pub fn forest_good(
         off.len(),
     );
     if starts_good(trees, starts, n) {
-        trees_good(features, trees, starts, value, feature, threshold, score, on, off)
+        trees_good(
+            features,
+            trees,
+            starts,
+            value,
+            feature,
+            threshold,
+            score,
+            on,
+            off,
+        )
     } else {
         false
     }
@@ -250,7 +260,17 @@ fn forest_verdict(
     if starts.len() < trees + 1 {
         return 6;
     }
-    if !forest_good(features, trees, starts, value, feature, threshold, score, on, off) {
+    if !forest_good(
+        features,
+        trees,
+        starts,
+        value,
+        feature,
+        threshold,
+        score,
+        on,
+        off,
+    ) {
         return 8;
     }
     0
@@ -270,7 +290,17 @@ pub fn check_forest(
 ) -> Reply
     ensures { λ r. ⌜ r ≡ checkForest features (tableOf trees (now (starts .entry)) (columnsOf (now (value .entry)) (now (feature .entry)) (now (threshold .entry)) (now (score .entry)) (now (on .entry)) (now (off .entry)))) ⌝ }
 {
-    let number = forest_verdict(features, trees, starts, value, feature, threshold, score, on, off);
+    let number = forest_verdict(
+        features,
+        trees,
+        starts,
+        value,
+        feature,
+        threshold,
+        score,
+        on,
+        off,
+    );
     checks::reply_of(number)
 }
 
