@@ -5,10 +5,11 @@ ghost use Rattle.rules.specs.Checks.{replies, within, featuresIn, treesIn, shap
 use rules::Reply;
 use rules::Shape;
 
+pub mod forest;
 pub mod inputs;
 pub mod listing;
 pub mod rooms;
-pub mod verdicts;
+pub mod tree;
 
 // How long the rooms of a fit are: node room and waiting list as their shortest column.
 pub struct Lengths {

@@ -1,9 +1,9 @@
--- `checks::verdicts::both_cuts` meets its contract: the words' table first, then the thresholds'. Assumes nothing.
+-- `checks::forest::both_cuts` meets its contract: the words' table first, then the thresholds'. Assumes nothing.
 use borrow.Author.Needs.{needs}
 use mathlib.Core.Path.{sym, _∙_}
 use Rattle.checks.specs.Tests.{and-on, and-off}
-use Rattle.checks.proofs.verdicts.both_cuts.Statement.{statement}
-use Rattle.checks.proofs.verdicts.both_cuts.Tie as tie
+use Rattle.checks.proofs.forest.both_cuts.Statement.{statement}
+use Rattle.checks.proofs.forest.both_cuts.Tie as tie
 
 cuts-good-requires : tie.Need-cuts-good-requires
 cuts-good-requires c κs = search needs

@@ -1,8 +1,8 @@
--- `checks::verdicts::forest_long` meets its contract: lengths first, then cut tables. Assumes nothing.
+-- `checks::forest::forest_long` meets its contract: lengths first, then cut tables. Assumes nothing.
 use mathlib.Core.Path.{sym, _∙_}
 use Rattle.checks.specs.Tests.{and-on, and-off}
-use Rattle.checks.proofs.verdicts.forest_long.Statement.{statement}
-use Rattle.checks.proofs.verdicts.forest_long.Tie as tie
+use Rattle.checks.proofs.forest.forest_long.Statement.{statement}
+use Rattle.checks.proofs.forest.forest_long.Tie as tie
 
 lengths-good-requires : tie.Need-lengths-good-requires
 lengths-good-requires c κs = c .before .before .before .before .before .before .before .pre

@@ -1,9 +1,9 @@
--- `checks::verdicts::forest_in` meets its contract: shape first, then trees. Assumes nothing.
+-- `checks::forest::forest_in` meets its contract: shape first, then trees. Assumes nothing.
 use borrow.Author.Needs.{needs}
 use mathlib.Core.Path.{sym, _∙_}
 use Rattle.checks.specs.Tests.{and-on, and-off}
-use Rattle.checks.proofs.verdicts.forest_in.Statement.{statement}
-use Rattle.checks.proofs.verdicts.forest_in.Tie as tie
+use Rattle.checks.proofs.forest.forest_in.Statement.{statement}
+use Rattle.checks.proofs.forest.forest_in.Tie as tie
 
 shape-in-requires : tie.Need-shape-in-requires
 shape-in-requires c κs = search needs

@@ -1,4 +1,4 @@
--- `checks::verdicts::tree_verdict` meets its contract: each check passed goes on to the next, and the first that fails is told. Assumes nothing.
+-- `checks::tree::tree_verdict` meets its contract: each check passed goes on to the next, and the first that fails is told. Assumes nothing.
 use borrow.Author.Needs.{needs}
 use borrow.Author.Tests.{not-true, not-false}
 use native.Mathlib.Omega.{arith}
@@ -11,8 +11,8 @@ use Rattle.rules.specs.Lent.{Given}
 use Rattle.checks.specs.Tests.{passes, fails, none-failed}
 use Rattle.checks.specs.Lent.{givenOf}
 use Rattle.checks.specs.Verdicts.{long-laid, long-counted, tree-same}
-use Rattle.checks.proofs.verdicts.tree_verdict.Statement.{statement}
-use Rattle.checks.proofs.verdicts.tree_verdict.Tie as tie
+use Rattle.checks.proofs.tree.tree_verdict.Statement.{statement}
+use Rattle.checks.proofs.tree.tree_verdict.Tie as tie
 
 abbrev given : tie.Start → Given
 given s = givenOf (now (s .args .values)) (now (s .args .targets)) (now (s .args .weights)) (now (s .args .counts)) (now (s .args .listings))
