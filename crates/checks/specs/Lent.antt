@@ -1,0 +1,44 @@
+-- What is lent, put together as the rules have it, and the lengths by which the checks know of it.
+use Prim.Native.Nat.{ℕ, _*_, _<_, _≤_}
+use mathlib.Core.Path.{_≡_}
+use mathlib.Core.List.{List}
+use lib.ListN.{length}
+use lib.Ieee.{Float}
+use Rattle.rules.specs.Lent.{Given, Work, Reports, Stack, stack}
+use Rattle.checks.specs.declared.Lengths.{Lengths}
+use Rattle.checks.specs.declared.ReportLengths.{ReportLengths}
+
+abbrev pub givenOf : List Float → List Float → List Float → List ℕ → List ℕ → Given
+givenOf values targets weights counts listings =
+    record { inputs = record { values = values; targets = targets; listings = listings }; weights = weights; counts = counts }
+
+-- ---- counts and weights that are long enough
+
+-- of one tree
+pub record Counted (rows : ℕ) (weights : List Float) (counts : List ℕ) : Type 0 where
+  pub few : rows ≤ 65535
+  pub counted : rows ≤ length counts
+  pub weighed : 0 < length weights → rows ≤ length weights
+
+-- of the trees of a forest
+pub record Grown (rows trees : ℕ) (weights : List Float) (counts : List ℕ) : Type 0 where
+  pub few : rows ≤ 65535
+  pub fewTrees : trees ≤ 1024
+  pub counted : length counts ≡ trees * rows
+  pub weighed : 0 < length weights → rows ≤ length weights
+
+-- ---- rooms of these lengths
+
+pub record WorkHas (L : Lengths) (w : Work Stack) : Type 0 where
+  pub order : length (w .order) ≡ L .order
+  pub scratch : length (w .scratch) ≡ L .scratch
+  pub flags : length (w .flags) ≡ L .flags
+  pub waiting : stack .places (w .waiting) ≡ L .waiting
+
+pub record ReportsHave (L : ReportLengths) (c : Reports) : Type 0 where
+  pub nodes : length (c .nodes) ≡ L .nodes
+  pub depth : length (c .depth) ≡ L .depth
+  pub mass : length (c .mass) ≡ L .mass
+  pub searches : length (c .searches) ≡ L .searches
+  pub words : length (c .words) ≡ L .words
+  pub thresholds : length (c .thresholds) ≡ L .thresholds

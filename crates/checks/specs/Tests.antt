@@ -1,0 +1,101 @@
+-- Chains of tests, as code makes them: the first that fails decides. And what a shape in range says. Assumes nothing.
+use Prim.Native.Nat.{ℕ, zero, suc, _*_, _<_, _≤_}
+use native.Mathlib.Nat.{mul-le-mul, not-suc-le-zero, le-of-suc-le-suc}
+use native.Mathlib.Omega.{arith}
+use mathlib.Core.Path.{_≡_, refl, sym, ap, _∙_, subst}
+use mathlib.Core.Bool.{Bool, true, false, not, _&&_, _||_, cond}
+use mathlib.Core.List.{List, [], _∷_}
+use lib.ListN.{length, getD}
+use lib.Dec.{T, leb, leb→le}
+use lib.Ieee.{Float}
+use lib.Ieee.Fits.{and-l, and-r}
+use Rattle.rules.specs.declared.Shape.{Shape}
+use Rattle.rules.specs.declared.Reply.{Reply}
+use Rattle.rules.specs.Lent.{unweighted}
+use Rattle.rules.specs.Checks.{Test, test, firstFailed, replies, within, rowsIn, featuresIn, shapeIn}
+
+-- ---- bools
+
+pub and-on : (a rest : Bool) {r : Bool} → a ≡ true → r ≡ rest → r ≡ (a && rest)
+and-on a rest h e = e ∙ sym (ap (λ b. b && rest) h)
+
+pub and-off : (a rest : Bool) → a ≡ false → false ≡ (a && rest)
+and-off a rest h = sym (ap (λ b. b && rest) h)
+
+pub or-done : (a rest : Bool) → a ≡ true → true ≡ (a || rest)
+or-done a rest h = sym (ap (λ b. b || rest) h)
+
+pub or-on : (a rest : Bool) {r : Bool} → a ≡ false → r ≡ rest → r ≡ (a || rest)
+or-on a rest h e = e ∙ sym (ap (λ b. b || rest) h)
+
+pub and-both : (a b : Bool) → (a && b) ≡ true → (a ≡ true) × (b ≡ true)
+and-both true b h = (refl, h)
+and-both false true h = (h, refl)
+and-both false false h = (h, h)
+
+-- ---- lists of tests
+
+module _ (n : ℕ) (b : Bool) (ts : List Test) where
+  pub passes : {r : ℕ} → b ≡ true → r ≡ firstFailed ts → r ≡ firstFailed (test n b ∷ ts)
+  unfolding firstFailed
+  passes h e = e ∙ sym (ap (λ z. cond z (firstFailed ts) n) h)
+
+  pub fails : b ≡ false → n ≡ firstFailed (test n b ∷ ts)
+  unfolding firstFailed
+  fails h = sym (ap (λ z. cond z (firstFailed ts) n) h)
+
+pub none-failed : 0 ≡ firstFailed []
+unfolding firstFailed
+none-failed = refl
+
+pub replies-done : (n : ℕ) → n ≡ 0 → Reply.Done ≡ replies n
+unfolding replies
+replies-done n h = sym (ap replies h)
+
+pub replies-refused : (n : ℕ) → (n ≡ 0 → ⊥) → Reply.Refused n ≡ replies n
+unfolding replies
+replies-refused zero h = absurd (h refl)
+replies-refused (suc n) h = refl
+
+-- ---- an empty slice says that there are no weights
+
+pub no-weights : (ws : List Float) → length ws ≡ 0 → unweighted ws ≡ true
+unfolding unweighted
+no-weights [] h = refl
+no-weights (w ∷ ws) h = absurd (no (length ws) h)
+  where
+    no : (n : ℕ) → suc n ≡ 0 → ⊥
+    no n h = omega arith
+
+pub some-weights : (ws : List Float) → (length ws ≡ 0 → ⊥) → unweighted ws ≡ false
+unfolding unweighted
+some-weights [] h = absurd (h refl)
+some-weights (w ∷ ws) h = refl
+
+-- ---- what a list has at a place does not hang on the default
+
+pub same-default {ℓ} : {A : Type ℓ} (l : List A) (i : ℕ) (d e : A) → i < length l → getD l i d ≡ getD l i e
+same-default [] i d e h = absurd (not-suc-le-zero h)
+same-default (x ∷ l) zero d e h = refl
+same-default (x ∷ l) (suc i) d e h = same-default l i d e (le-of-suc-le-suc h)
+
+-- ---- ranges
+
+pub within-top : (top n : ℕ) → within top n ≡ true → n ≤ top
+unfolding within
+within-top top n h = leb→le n top (and-r (leb 1 n) (leb n top) (subst T (sym h) tt))
+
+module _ (S : Shape) (h : shapeIn S ≡ true) where
+  pub rows-low : S .rows ≤ 65535
+  unfolding within
+  rows-low = leb→le (S .rows) 65535 (and-r (leb 1 (S .rows)) (leb (S .rows) 65535) (and-l (rowsIn (S .rows)) (featuresIn (S .features)) (subst T (sym h) tt)))
+
+  pub features-low : S .features ≤ 1024
+  unfolding within
+  features-low = leb→le (S .features) 1024 (and-r (leb 1 (S .features)) (leb (S .features) 1024) (and-r (rowsIn (S .rows)) (featuresIn (S .features)) (subst T (sym h) tt)))
+
+  pub cells-low : S .rows * S .features ≤ 67107840
+  cells-low = mul-le-mul rows-low features-low
+
+  pub entries-low : S .features * S .rows ≤ 67107840
+  entries-low = mul-le-mul features-low rows-low

@@ -1,0 +1,130 @@
+// The verdict of a forest's fit: the first of checks 1 to 6 that fails, or 0.
+ghost use mathlib.Core.Path.{_≡_};
+ghost use mathlib.Core.Bool.{_&&_, _||_};
+ghost use Prim.Native.Nat.{_≤_};
+ghost use lib.Dec.{leb, eqb};
+ghost use Rattle.rules.specs.Words.{every};
+ghost use Rattle.rules.specs.Lent.{ForestRooms, Stack, stack, unweighted};
+ghost use Rattle.rules.specs.Checks.{firstFailed, treesIn, shapeIn, lengths, goodCuts};
+ghost use Rattle.rules.specs.Forest.{ForestCall, forestTests};
+ghost use Rattle.checks.specs.Asks.{Ranges};
+ghost use Rattle.checks.specs.Lent.{givenOf};
+ghost use Rattle.checks.specs.Verdicts.{ForestHas};
+use crate::Lengths;
+use crate::ReportLengths;
+use rules::Shape;
+
+fn forest_in(shape: Shape, trees: usize) -> bool
+    ensures { λ r. ⌜ r ≡ (shapeIn shape && treesIn trees) ⌝ }
+{
+    if crate::shape_in(shape) {
+        crate::trees_in(trees)
+    } else {
+        false
+    }
+}
+
+fn both_cuts(
+    trees: usize,
+    words: usize,
+    thresholds: usize,
+    wordcuts: &[usize],
+    thresholdcuts: &[usize],
+) -> bool
+    requires { ⌜ trees ≤ 1024 ⌝ }
+    ensures { λ r. ⌜ r ≡ (goodCuts trees words (now (wordcuts .entry)) && goodCuts trees thresholds (now (thresholdcuts .entry))) ⌝ }
+{
+    if crate::inputs::cuts_good(trees, words, wordcuts) {
+        crate::inputs::cuts_good(trees, thresholds, thresholdcuts)
+    } else {
+        false
+    }
+}
+
+fn forest_long(
+    shape: Shape,
+    trees: usize,
+    values: &[f64],
+    targets: &[f64],
+    weights: &[f64],
+    counts: &[u32],
+    listings: &[u32],
+    words: usize,
+    thresholds: usize,
+    wordcuts: &[usize],
+    thresholdcuts: &[usize],
+) -> bool
+    requires { ⌜ Ranges shape trees ⌝ }
+    ensures { λ r. ⌜ r ≡ (lengths shape trees (givenOf (now (values .entry)) (now (targets .entry)) (now (weights .entry)) (now (counts .entry)) (now (listings .entry)))
+        && (goodCuts trees words (now (wordcuts .entry)) && goodCuts trees thresholds (now (thresholdcuts .entry)))) ⌝ }
+{
+    if crate::inputs::lengths_good(shape, trees, values, targets, weights, counts, listings) {
+        both_cuts(trees, words, thresholds, wordcuts, thresholdcuts)
+    } else {
+        false
+    }
+}
+
+fn forest_counts(weights: &[f64], counts: &[u32]) -> bool
+    ensures { λ r. ⌜ r ≡ (every (λ k. leb k 65535) (now (counts .entry)) && (unweighted (now (weights .entry)) || every (λ k. eqb k 1) (now (counts .entry)))) ⌝ }
+{
+    if crate::inputs::counts_low(counts) {
+        crate::inputs::counts_one(weights, counts)
+    } else {
+        false
+    }
+}
+
+pub fn forest_verdict(
+    shape: Shape,
+    trees: usize,
+    values: &[f64],
+    targets: &[f64],
+    weights: &[f64],
+    counts: &[u32],
+    listings: &[u32],
+    words: usize,
+    thresholds: usize,
+    wordcuts: &[usize],
+    thresholdcuts: &[usize],
+    room: Lengths,
+    starts: usize,
+    reports: ReportLengths,
+) -> u32
+    ensures { λ r. ⌜ ((C : ForestCall) (R : ForestRooms Stack)
+        → ForestHas shape trees (givenOf (now (values .entry)) (now (targets .entry)) (now (weights .entry)) (now (counts .entry)) (now (listings .entry)))
+        words thresholds (now (wordcuts .entry)) (now (thresholdcuts .entry)) room starts reports C R
+        → r ≡ firstFailed (forestTests stack C R)) ⌝ }
+{
+    if !forest_in(shape, trees) {
+        return 1;
+    }
+    if !forest_long(
+        shape,
+        trees,
+        values,
+        targets,
+        weights,
+        counts,
+        listings,
+        words,
+        thresholds,
+        wordcuts,
+        thresholdcuts,
+    ) {
+        return 2;
+    }
+    if !crate::inputs::numbers_good(values, targets, weights) {
+        return 3;
+    }
+    if !forest_counts(weights, counts) {
+        return 4;
+    }
+    if !crate::listing::listings_good(shape, values, listings) {
+        return 5;
+    }
+    if !crate::rooms::forest_rooms(shape, trees, weights, counts, room, starts, reports) {
+        return 6;
+    }
+    0
+}

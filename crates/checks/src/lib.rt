@@ -1,0 +1,90 @@
+// The checks of all calls. They read shared slices and lengths alone, so that a refusal leaves all that was lent as it was.
+ghost use mathlib.Core.Path.{_≡_};
+ghost use mathlib.Core.Bool.{true};
+ghost use Rattle.rules.specs.Checks.{replies, within, featuresIn, treesIn, shapeIn, valuesLong, listingsLong};
+use rules::Reply;
+use rules::Shape;
+
+pub mod forest;
+pub mod inputs;
+pub mod listing;
+pub mod rooms;
+pub mod tree;
+
+// How long the rooms of a fit are: node room and waiting list as their shortest column.
+pub struct Lengths {
+    pub nodes: usize,
+    pub order: usize,
+    pub scratch: usize,
+    pub flags: usize,
+    pub waiting: usize,
+}
+
+// How long a forest's report columns are.
+pub struct ReportLengths {
+    pub nodes: usize,
+    pub depth: usize,
+    pub mass: usize,
+    pub searches: usize,
+    pub words: usize,
+    pub thresholds: usize,
+}
+
+// The answer of a call that only checks.
+pub fn reply_of(n: u32) -> Reply
+    ensures { λ r. ⌜ r ≡ replies n ⌝ }
+{
+    if n == 0 {
+        Reply::Done
+    } else {
+        Reply::Refused(n)
+    }
+}
+
+// ---- ranges
+
+fn in_range(top: usize, n: usize) -> bool
+    ensures { λ r. ⌜ r ≡ within top n ⌝ }
+{
+    if 1 <= n { n <= top } else { false }
+}
+
+pub fn features_in(n: usize) -> bool
+    ensures { λ r. ⌜ r ≡ featuresIn n ⌝ }
+{
+    in_range(1024, n)
+}
+
+pub fn trees_in(n: usize) -> bool
+    ensures { λ r. ⌜ r ≡ treesIn n ⌝ }
+{
+    in_range(1024, n)
+}
+
+pub fn shape_in(shape: Shape) -> bool
+    ensures { λ r. ⌜ r ≡ shapeIn shape ⌝ }
+{
+    if in_range(65535, shape.rows) {
+        features_in(shape.features)
+    } else {
+        false
+    }
+}
+
+// ---- lengths
+
+pub fn values_long(shape: Shape, x: &[f64]) -> bool
+    requires { ⌜ shapeIn shape ≡ true ⌝ }
+    ensures { λ r. ⌜ r ≡ valuesLong shape (now (x .entry)) ⌝ }
+{
+    let cells = shape.rows * shape.features;
+    x.len() == cells
+}
+
+pub fn listings_long(shape: Shape, listings: &[u32]) -> bool
+    requires { ⌜ shapeIn shape ≡ true ⌝ }
+    ensures { λ r. ⌜ r ≡ listingsLong shape (now (listings .entry)) ⌝ }
+{
+    let cells = shape.features * shape.rows;
+    listings.len() == cells
+}
