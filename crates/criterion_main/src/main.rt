@@ -1,0 +1,115 @@
+// Totals and scores, thresholds, held candidates and features tried on small vectors. Written out and compared with the file `stdout`.
+use rules::Cut;
+use rules::Held;
+use rules::Totals;
+use rules::Tried;
+
+fn tell(name: &[u8], holds: bool) {
+    io::write_all(1, name);
+    if holds {
+        io::write_all(1, b": yes\n");
+    } else {
+        io::write_all(1, b": no\n");
+    }
+}
+
+fn number(name: &[u8], n: u32) {
+    io::write_all(1, name);
+    io::write_all(1, b": ");
+    io::print_decimal(1, n as u64);
+    io::write_all(1, b"\n");
+}
+
+// Targets 0, 0, 10, 10: the true side has the first two, the rest is what the true side leaves of the whole.
+fn totals() {
+    let none = criterion::no_rows();
+    let one = criterion::take_in(none, 0.0, 1.0);
+    let yes = criterion::take_in(one, 0.0, 1.0);
+    let three = criterion::take_in(yes, 10.0, 1.0);
+    let all = criterion::take_in(three, 10.0, 1.0);
+    let no = criterion::less_of(all, yes);
+    tell(b"whole", all.sum == 20.0);
+    tell(b"mass", all.mass == 4.0);
+    tell(b"rest", no.sum == 20.0);
+    tell(b"value", criterion::value_of(all) == 5.0);
+    tell(b"value of nothing", criterion::value_of(none) == 0.0);
+    tell(b"proxy", criterion::proxy_of(yes, no) == 400.0);
+    tell(
+        b"proxy beside nothing",
+        criterion::proxy_of(yes, none) == 0.0,
+    );
+    tell(b"score", criterion::score_of(yes, no, all.mass) == 100.0);
+}
+
+// A mass that is no number passes the test of the proxy, and not the one of the value.
+fn no_number() {
+    let nan = 0.0 / 0.0;
+    let odd = Totals {
+        sum: 1.0,
+        mass: nan,
+    };
+    let q = criterion::proxy_of(odd, odd);
+    tell(b"proxy of a NaN mass is a NaN", q != q);
+    tell(b"value at a NaN mass", criterion::value_of(odd) == 0.0);
+    tell(b"NaN is finite", criterion::is_finite(nan));
+    tell(b"NaN is a weight", criterion::weight_good(nan));
+    tell(b"infinity is finite", criterion::is_finite(1.0 / 0.0));
+    tell(b"-0 is a weight", criterion::weight_good(-0.0));
+    tell(b"-1 is a weight", criterion::weight_good(-1.0));
+}
+
+// Halfway; between neighbours, where halfway rounds up to the higher; and across all of the format, where the gap is infinite.
+fn thresholds() {
+    tell(b"between 1 and 2", criterion::threshold_of(1.0, 2.0) == 1.5);
+    let p = 1.0000000000000002;
+    let x = 1.0000000000000004;
+    tell(b"between neighbours", criterion::threshold_of(p, x) == p);
+    let low = -1.7e308;
+    tell(
+        b"across the format",
+        criterion::threshold_of(low, 1.7e308) == low,
+    );
+}
+
+// On a tie the earlier is kept; the first is held whatever its proxy.
+fn holding() {
+    let first = Cut {
+        feature: 0,
+        threshold: 1.5,
+    };
+    let later = Cut {
+        feature: 1,
+        threshold: 2.5,
+    };
+    let nothing = Held::Nothing;
+    let low = criterion::better_of(nothing, first, -1.0);
+    number(b"alone", held(low));
+    let tie = criterion::better_of(low, later, -1.0);
+    number(b"on a tie", held(tie));
+    let more = criterion::better_of(tie, later, 0.0);
+    number(b"when better", held(more));
+}
+
+fn held(h: Held) -> u32 {
+    match h {
+        Held::Nothing => 9,
+        Held::Holds(c, q) => c.feature,
+    }
+}
+
+fn tried() {
+    number(b"of 1", criterion::tried_of(1, Tried::Unsaid));
+    number(b"of 3", criterion::tried_of(3, Tried::Unsaid));
+    number(b"of 4", criterion::tried_of(4, Tried::Unsaid));
+    number(b"of 1023", criterion::tried_of(1023, Tried::Unsaid));
+    number(b"of 1024", criterion::tried_of(1024, Tried::Unsaid));
+    number(b"of 3, told 2", criterion::tried_of(3, Tried::Number(2)));
+}
+
+fn main() {
+    totals();
+    no_number();
+    thresholds();
+    holding();
+    tried();
+}
