@@ -1,4 +1,4 @@
--- `search::best_in` meets its contract: an empty stretch keeps what is held; else the walk starts at the first value. Assumes nothing.
+-- `search::best::best_in` meets its contract: an empty stretch keeps what is held; else the walk starts at the first value. Assumes nothing.
 use native.Mathlib.Omega.{arith}
 use mathlib.Core.Path.{sym, subst}
 use Prim.Native.Nat.{_<_}
@@ -6,8 +6,8 @@ use lib.ListN.{getD}
 use Rattle.search.specs.Flat.{elementOf}
 use Rattle.search.specs.Laws.{place, value-is, best-none, best-walk}
 use borrow.Author.Needs.{needs}
-use Rattle.search.proofs.best_in.Statement.{statement}
-use Rattle.search.proofs.best_in.Tie as tie
+use Rattle.search.proofs.best.best_in.Statement.{statement}
+use Rattle.search.proofs.best.best_in.Tie as tie
 
 returns : tie.Need-returns
 returns c = let a = c .before .before .before .before .before .before .args in best-none (elementOf (a .features) (record { x = a .x .now; y = a .y .now; weights = a .weights .now; counts = a .counts .now })) (a .col .now) (c .if1 .taken) (a .p) (a .a) (a .j) (a .h)

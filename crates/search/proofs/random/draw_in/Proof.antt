@@ -1,10 +1,10 @@
--- `search::draw_in` meets its contract: a threshold that is there and between lowest and highest is judged by the side it makes. Assumes nothing.
+-- `search::random::draw_in` meets its contract: a threshold that is there and between lowest and highest is judged by the side it makes. Assumes nothing.
 use mathlib.Core.List.{map}
 use Rattle.search.specs.Flat.{elementOf}
 use Rattle.search.specs.Tries.{draw-none, draw-low, draw-high, draw-good}
 use borrow.Author.Needs.{needs}
-use Rattle.search.proofs.draw_in.Statement.{statement}
-use Rattle.search.proofs.draw_in.Tie as tie
+use Rattle.search.proofs.random.draw_in.Statement.{statement}
+use Rattle.search.proofs.random.draw_in.Tie as tie
 
 returns : tie.Need-returns
 returns c = λ W s. let a = c .before .before .before .before .before .before .before .args in draw-none (a .p) (a .a) (a .j) (a .h) (map (elementOf (a .features) (record { x = a .x .now; y = a .y .now; weights = a .weights .now; counts = a .counts .now })) (a .col .now)) W (a .thresholds .now) s (a .m) (a .lo) (a .hi) (c .if1 .taken)

@@ -1,4 +1,4 @@
--- `search::true_side` meets its contract: the loop's invariant: the side so far, then the rest of the column, makes the whole side. Assumes nothing.
+-- `search::random::true_side` meets its contract: the loop's invariant: the side so far, then the rest of the column, makes the whole side. Assumes nothing.
 use native.Mathlib.Omega.{arith}
 use mathlib.Core.Path.{_≡_, refl, sym, _∙_, subst}
 use Prim.Native.Nat.{_+_, _-_, _≤_, _<_}
@@ -9,8 +9,8 @@ use Rattle.rules.specs.Search.{tally}
 use Rattle.rules.specs.Totals.{empty}
 use Rattle.search.specs.Laws.{cell-here, turn-fits, onto, turn-side, turn-most, side-end}
 use borrow.Author.Needs.{needs}
-use Rattle.search.proofs.true_side.Statement.{statement}
-use Rattle.search.proofs.true_side.Tie as tie
+use Rattle.search.proofs.random.true_side.Statement.{statement}
+use Rattle.search.proofs.random.true_side.Tie as tie
 
 abbrev Inv-loop : tie.InvT-loop
 Inv-loop x y weights counts col rows features j t most s₀ i₀ s i =

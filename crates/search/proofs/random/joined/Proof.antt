@@ -1,9 +1,9 @@
--- `search::joined` meets its contract: one row more. Assumes nothing.
+-- `search::random::joined` meets its contract: one row more. Assumes nothing.
 use Prim.Native.Nat.{_+_}
 use Rattle.search.specs.Flat.{joinIn}
 use borrow.Author.Needs.{needs}
-use Rattle.search.proofs.joined.Statement.{statement}
-use Rattle.search.proofs.joined.Tie as tie
+use Rattle.search.proofs.random.joined.Statement.{statement}
+use Rattle.search.proofs.random.joined.Tie as tie
 
 add-n : tie.Need-add-n
 add-n c = search needs

@@ -1,4 +1,4 @@
--- `search::walk_column` meets its contract: the loop's invariant: the walk from here along the rest is the walk of the whole. Assumes nothing.
+-- `search::best::walk_column` meets its contract: the loop's invariant: the walk from here along the rest is the walk of the whole. Assumes nothing.
 use native.Mathlib.Omega.{arith}
 use mathlib.Core.Path.{_≡_, refl, sym, _∙_, subst}
 use Prim.Native.Nat.{_+_, _-_, _≤_, _<_}
@@ -8,8 +8,8 @@ use Rattle.search.specs.Flat.{elementOf, bare}
 use Rattle.rules.specs.Search.{walk, tally}
 use Rattle.search.specs.Laws.{cell-here, turn-fits, turn-room, turn-walk, turn-end}
 use borrow.Author.Needs.{needs}
-use Rattle.search.proofs.walk_column.Statement.{statement}
-use Rattle.search.proofs.walk_column.Tie as tie
+use Rattle.search.proofs.best.walk_column.Statement.{statement}
+use Rattle.search.proofs.best.walk_column.Tie as tie
 
 abbrev Inv-loop : tie.InvT-loop
 Inv-loop x y weights counts col rows features p j a v₀ i₀ v i =

@@ -1,4 +1,4 @@
--- `search::random_in` meets its contract: a threshold is taken only where the lowest value is below the highest. Assumes nothing.
+-- `search::random::random_in` meets its contract: a threshold is taken only where the lowest value is below the highest. Assumes nothing.
 use native.Mathlib.Omega.{arith}
 use mathlib.Core.Path.{sym, subst}
 use Prim.Native.Nat.{_-_, _<_}
@@ -7,8 +7,8 @@ use Rattle.search.specs.Flat.{elementOf, bare, left}
 use Rattle.search.specs.Laws.{place, value-is}
 use Rattle.search.specs.Tries.{random-none, random-flat, random-draws}
 use borrow.Author.Needs.{needs}
-use Rattle.search.proofs.random_in.Statement.{statement}
-use Rattle.search.proofs.random_in.Tie as tie
+use Rattle.search.proofs.random.random_in.Statement.{statement}
+use Rattle.search.proofs.random.random_in.Tie as tie
 
 returns : tie.Need-returns
 returns c = λ W s. let a = c .before .before .before .before .before .before .before .args in random-none (elementOf (a .features) (record { x = a .x .now; y = a .y .now; weights = a .weights .now; counts = a .counts .now })) (a .col .now) (c .if1 .taken) (a .p) (bare (a .a)) (a .j) (record { best = a .h; left = left W (a .thresholds .now) s (a .m) })

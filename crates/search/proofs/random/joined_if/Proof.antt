@@ -1,8 +1,8 @@
--- `search::joined_if` meets its contract: by the side of the threshold. Assumes nothing.
+-- `search::random::joined_if` meets its contract: by the side of the threshold. Assumes nothing.
 use Rattle.search.specs.Flat.{sideStep}
 use borrow.Author.Needs.{needs}
-use Rattle.search.proofs.joined_if.Statement.{statement}
-use Rattle.search.proofs.joined_if.Tie as tie
+use Rattle.search.proofs.random.joined_if.Statement.{statement}
+use Rattle.search.proofs.random.joined_if.Tie as tie
 
 joined-requires : tie.Need-joined-requires
 joined-requires c κs = search needs

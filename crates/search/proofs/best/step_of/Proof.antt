@@ -1,8 +1,8 @@
--- `search::step_of` meets its contract: by whether the value differs. Assumes nothing.
+-- `search::best::step_of` meets its contract: by whether the value differs. Assumes nothing.
 use Rattle.search.specs.Laws.{step-same, step-new}
 use borrow.Author.Needs.{needs}
-use Rattle.search.proofs.step_of.Statement.{statement}
-use Rattle.search.proofs.step_of.Tie as tie
+use Rattle.search.proofs.best.step_of.Statement.{statement}
+use Rattle.search.proofs.best.step_of.Tie as tie
 
 add-n : tie.Need-add-n
 add-n c = search needs

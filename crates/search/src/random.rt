@@ -1,0 +1,181 @@
+// Random search: one threshold drawn between the lowest value and the highest, and the side that passes its test.
+ghost use mathlib.Core.Path.{_≡_};
+ghost use mathlib.Core.List.{List, map};
+ghost use Prim.Native.Nat.{ℕ, _+_, _≤_, _<_};
+ghost use Rattle.rules.specs.Draws.{tape};
+ghost use Rattle.rules.specs.Search.{tally, randomIn, trueSide};
+ghost use Rattle.search.specs.Flat.{Shaped, Below, elementOf, bare, joinIn, sideStep, sideOn, meantTries, left, drawAt};
+use crate::Asked;
+use crate::Cell;
+use crate::Tried;
+use criterion::take_in;
+use rules::Cut;
+use rules::Held;
+use rules::Params;
+use rules::Totals;
+
+// One more row of a side's totals and count.
+pub fn joined(s: Asked, e: Cell) -> Asked
+    requires { ⌜ s .count + e .count < 4294967296 ⌝ }
+    ensures { λ r. ⌜ r ≡ joinIn s e ⌝ }
+{
+    let n = s.count + e.count;
+    let t = s.totals;
+    let now = take_in(t, e.target, e.mass);
+    Asked {
+        totals: now,
+        count: n,
+    }
+}
+
+// The same, where the row is on the true side of t.
+pub fn joined_if(s: Asked, e: Cell, t: f64) -> Asked
+    requires { ⌜ s .count + e .count < 4294967296 ⌝ }
+    ensures { λ r. ⌜ r ≡ sideStep t s e ⌝ }
+{
+    if e.value <= t {
+        return joined(s, e);
+    }
+    s
+}
+
+// The true side of a column's stretch, by feature j and threshold t: its totals and count.
+pub fn true_side(
+    x: &[f64],
+    y: &[f64],
+    weights: &[f64],
+    counts: &[u32],
+    col: &[u32],
+    rows: usize,
+    features: usize,
+    j: u32,
+    t: f64,
+    most: u32,
+) -> Asked
+    requires rows { ⌜ Below rows (now col) ⌝ }
+    requires shape { ⌜ Shaped rows features (record { x = now x; y = now y; weights = now weights; counts = now counts }) × (j < features) ⌝ }
+    requires room { ⌜ tally (map (elementOf features (record { x = now x; y = now y; weights = now weights; counts = now counts })) (now col)) ≤ most ⌝ }
+    ensures { λ r. ⌜ (r ≡ sideOn (trueSide (record { feature = j; threshold = t }) (map (elementOf features (record { x = now (x .entry); y = now (y .entry); weights = now (weights .entry); counts = now (counts .entry) })) (now (col .entry))))) × (r .count ≤ most) ⌝ }
+{
+    let mut s = Asked {
+        totals: Totals {
+            sum: 0.0,
+            mass: 0.0,
+        },
+        count: 0,
+    };
+    let mut i = 0;
+    while i < col.len() {
+        let e = crate::cell_of(
+            x,
+            y,
+            weights,
+            counts,
+            rows,
+            features,
+            crate::wide(j),
+            crate::wide(col[i]),
+        );
+        s = joined_if(s, e, t);
+        i += 1;
+    }
+    s
+}
+
+// A threshold off the tape, judged by the side that it makes. lo is the stretch's lowest value, hi its highest.
+pub fn draw_in(
+    x: &[f64],
+    y: &[f64],
+    weights: &[f64],
+    counts: &[u32],
+    col: &[u32],
+    thresholds: &[f64],
+    rows: usize,
+    features: usize,
+    p: Params,
+    j: u32,
+    a: Asked,
+    h: Held,
+    m: usize,
+    lo: f64,
+    hi: f64,
+) -> Tried
+    requires rows { ⌜ Below rows (now col) ⌝ }
+    requires shape { ⌜ Shaped rows features (record { x = now x; y = now y; weights = now weights; counts = now counts }) × (j < features) ⌝ }
+    requires room { ⌜ tally (map (elementOf features (record { x = now x; y = now y; weights = now weights; counts = now counts })) (now col)) ≤ a .count ⌝ }
+    ensures { λ r. ⌜ ((W : List ℕ) (s : ℕ) → meantTries W (now (thresholds .entry)) s r ≡ drawAt p (bare a) j h (map (elementOf features (record { x = now (x .entry); y = now (y .entry); weights = now (weights .entry); counts = now (counts .entry) })) (now (col .entry))) (left W (now (thresholds .entry)) s m) lo hi) ⌝ }
+{
+    if thresholds.len() <= m {
+        return Tried::Refused;
+    }
+    let t = thresholds[m];
+    if lo <= t {
+        if t < hi {
+            let s = true_side(x, y, weights, counts, col, rows, features, j, t, a.count);
+            let side = s.totals;
+            let b = crate::judge_of(
+                p,
+                a,
+                h,
+                side,
+                s.count,
+                Cut {
+                    feature: j,
+                    threshold: t,
+                },
+            );
+            return Tried::Goes(b, m + 1);
+        }
+        return Tried::Refused;
+    }
+    Tried::Refused
+}
+
+// The random splitter along a column's stretch.
+pub fn random_in(
+    x: &[f64],
+    y: &[f64],
+    weights: &[f64],
+    counts: &[u32],
+    col: &[u32],
+    thresholds: &[f64],
+    rows: usize,
+    features: usize,
+    p: Params,
+    j: u32,
+    a: Asked,
+    h: Held,
+    m: usize,
+) -> Tried
+    requires rows { ⌜ Below rows (now col) ⌝ }
+    requires shape { ⌜ Shaped rows features (record { x = now x; y = now y; weights = now weights; counts = now counts }) × (j < features) ⌝ }
+    requires room { ⌜ tally (map (elementOf features (record { x = now x; y = now y; weights = now weights; counts = now counts })) (now col)) ≤ a .count ⌝ }
+    ensures { λ r. ⌜ ((W : List ℕ) (s : ℕ) → meantTries W (now (thresholds .entry)) s r ≡ randomIn (tape (p .features)) p (bare a) j (record { best = h; left = left W (now (thresholds .entry)) s m }) (map (elementOf features (record { x = now (x .entry); y = now (y .entry); weights = now (weights .entry); counts = now (counts .entry) })) (now (col .entry)))) ⌝ }
+{
+    let n = col.len();
+    if n == 0 {
+        return Tried::Goes(h, m);
+    }
+    let lo = crate::value_of(x, features, crate::wide(j), crate::wide(col[0]));
+    let hi = crate::value_of(x, features, crate::wide(j), crate::wide(col[n - 1]));
+    if lo < hi {
+        return draw_in(
+            x,
+            y,
+            weights,
+            counts,
+            col,
+            thresholds,
+            rows,
+            features,
+            p,
+            j,
+            a,
+            h,
+            m,
+            lo,
+            hi,
+        );
+    }
+    Tried::Goes(h, m)
+}
