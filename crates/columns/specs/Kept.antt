@@ -8,14 +8,18 @@ use mathlib.Core.List.{List, [], _∷_, _++_, map}
 use lib.ListN.{length, getD, set, take, drop, length-append}
 use lib.Seq.{drop-cons, set-at, append-snoc, take-all, take-at, length-take-le}
 use lib.Dec.{T}
-use Rattle.rules.specs.Words.{from, keep, eachOnce, stretch, front}
-use Rattle.rules.specs.Lent.{Data, Frame, listingAt, kept, keptIn}
-use Rattle.rules.specs.Fit.{element, listing, column, root}
+use Rattle.rules.specs.declared.Totals.{Totals}
+use Rattle.rules.specs.Words.{from, keep, total, eachOnce, stretch, front}
+use Rattle.rules.specs.Lent.{Data, Frame, listingAt, countIn, kept, keptIn, keptRows}
+use Rattle.rules.specs.Totals.{empty}
+use Rattle.rules.specs.Search.{totals}
+use Rattle.rules.specs.Fit.{elementIn, element, listing, column, root}
 use Rattle.laws.specs.Lists.{Every, every-imp, every-keep, map-same, length-total, from-below}
 use Rattle.laws.specs.Once.{once-length, once-below, once-keep}
 use Rattle.laws.specs.Written.{front-length}
-use Rattle.columns.specs.Columns.{part, columnsAt, KeptTo, KeptAll}
+use Rattle.columns.specs.Columns.{part, columnsAt, bare, KeptTo, KeptAll}
 use Rattle.columns.specs.Fronts.{keep-yes, keep-no, keep-both}
+use Rattle.columns.specs.Setup.{totals-bare}
 use Rattle.columns.specs.Stretches.{Keeps, part-in, in-here}
 
 -- ---- one listing: the promise itself, of the rows passed, holds in the loop
@@ -101,15 +105,25 @@ module _ (p : ℕ → Bool) (rows features : ℕ) (listings before after : List 
   kept-below j h =
       subst (Every (λ i. i < rows)) (sym (kept-part j h)) (every-keep (λ i. i < rows) p (listingAt rows listings j) (once-below rows (listingAt rows listings j) (once j h)))
 
--- so the columns stand for the root's
-pub kept-root : (F : Frame) (D : Data) (before after : List ℕ) (r : ℕ)
+-- so columns, totals and count are the root's
+pub root-made : (F : Frame) (D : Data) (before after : List ℕ) (r : ℕ) (t : Totals) (n : ℕ)
     → KeptAll (keptIn (F .weights) (F .counts)) (F .rows) (F .params .features) (D .listings) before after r
     → F .params .features * F .rows ≤ length before → ((j : ℕ) → j < F .params .features → T (eachOnce (F .rows) (listing F D j)))
-    → columnsAt (element F D) (F .rows) (F .params .features) 0 r after ≡ root F D .columns
-unfolding columnsAt root column listing kept
-kept-root F D before after r s long once =
-    map-same _ _ (from 0 (F .params .features))
-    (every-imp _ _ (λ j h. ap (map (element F D)) (kept-part (keptIn (F .weights) (F .counts)) (F .rows) (F .params .features) (D .listings) before after r s long once j (small j h))) (from 0 (F .params .features)) (from-below 0 (F .params .features)))
+    → t ≡ totals empty (map (bare (D .targets) (F .weights) (F .counts)) (from 0 (F .rows)))
+    → n ≡ total (countIn (F .counts)) (keep (keptIn (F .weights) (F .counts)) (from 0 (F .rows)))
+    → root F D ≡ record {
+      columns = columnsAt (elementIn (F .params .features) (D .values) (D .targets) (F .weights) (F .counts)) (F .rows) (F .params .features) 0 r after;
+      totals = t;
+      count = n;
+    }
+unfolding columnsAt root element column listing kept keptRows
+root-made F D before after r t n s long once et en =
+    λ i. record { columns = sym columns i; totals = (totals-bare (F .params .features) (D .values) (D .targets) (F .weights) (F .counts) empty (from 0 (F .rows)) ∙ sym et) i; count = sym en i }
   where
     small : (j : ℕ) → j < 0 + F .params .features → j < F .params .features
     small j h = omega arith
+
+    columns : map (λ k. map (element F D) (part (F .rows) k 0 r after)) (from 0 (F .params .features)) ≡ map (column F D) (from 0 (F .params .features))
+    columns =
+        map-same _ _ (from 0 (F .params .features))
+        (every-imp _ _ (λ j h. ap (map (element F D)) (kept-part (keptIn (F .weights) (F .counts)) (F .rows) (F .params .features) (D .listings) before after r s long once j (small j h))) (from 0 (F .params .features)) (from-below 0 (F .params .features)))

@@ -11,10 +11,10 @@ use lib.Dec.{T, leb, leb→le}
 use lib.Ieee.{Float}
 use Rattle.rules.specs.declared.Totals.{Totals}
 use Rattle.rules.specs.Words.{from, keep, putIf, total}
-use Rattle.rules.specs.Lent.{Data, Frame, unweighted, countIn}
+use Rattle.rules.specs.Lent.{unweighted, countIn}
 use Rattle.rules.specs.Totals.{empty, takeIn}
 use Rattle.rules.specs.Search.{Element, totals}
-use Rattle.rules.specs.Fit.{elementIn, element, root}
+use Rattle.rules.specs.Fit.{elementIn}
 use Rattle.laws.specs.Lists.{Every, every-all, every-or, total-le, length-from}
 use Rattle.criterion.specs.Bounds.{Weighed}
 use Rattle.columns.specs.Columns.{bare, Counted}
@@ -64,11 +64,6 @@ unfolding totals elementIn
 totals-bare features values targets weights counts t [] = refl
 totals-bare features values targets weights counts t (i ∷ l) =
     totals-bare features values targets weights counts (takeIn t (elementIn features values targets weights counts i .target) (elementIn features values targets weights counts i .mass)) l
-
--- the root's totals
-pub root-totals-same : (F : Frame) (D : Data) → totals empty (map (bare (D .targets) (F .weights) (F .counts)) (from 0 (F .rows))) ≡ root F D .totals
-unfolding root element
-root-totals-same F D = sym (totals-bare (F .params .features) (D .values) (D .targets) (F .weights) (F .counts) empty (from 0 (F .rows)))
 
 -- a loop that takes in one row after another
 pub record Adding (el : ℕ → Element) (n : ℕ) (t : Totals) (i : ℕ) : Type 0 where

@@ -15,6 +15,20 @@ ghost use Rattle.columns.specs.Split.{CellAsks, joined, none, sided, Sid
 use rules::Cut;
 use rules::Totals;
 
+// A side's totals and count.
+pub struct Side {
+    pub totals: Totals,
+    pub count: u32,
+}
+
+// The true side and the false one, the whole node's totals, and how many rows the true side has.
+pub struct Sides {
+    pub yes: Side,
+    pub no: Side,
+    pub all: Totals,
+    pub rows: u32,
+}
+
 // ---- rooms filled with zero, the whole of each
 
 pub fn zero_f64(s: &mut [f64])
@@ -215,20 +229,6 @@ pub fn partition_columns(
 }
 
 // ---- the split pass
-
-// A side's totals and count.
-pub struct Side {
-    pub totals: Totals,
-    pub count: u32,
-}
-
-// The true side and the false one, the whole node's totals, and how many rows the true side has.
-pub struct Sides {
-    pub yes: Side,
-    pub no: Side,
-    pub all: Totals,
-    pub rows: u32,
-}
 
 fn wide(x: u32) -> usize
     ensures { λ r. ⌜ r ≡ x ⌝ }

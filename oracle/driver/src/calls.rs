@@ -117,6 +117,8 @@ pub struct Read {
     pub root_mass: f64,
     pub targets: Vec<f64>,
     pub means: Vec<f64>,
+    /// The number of the node to be read out.
+    pub node: usize,
     /// The result room's length.
     pub out: usize,
 }

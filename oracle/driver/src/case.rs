@@ -1,6 +1,6 @@
 //! A case: a call, the refusal that its maker knows of, and the answer that should come out.
 
-use crate::calls::{Call, Fit, Read, Reader};
+use crate::calls::{Call, Fit, Read};
 use crate::expect;
 use crate::library::Library;
 use crate::run;
@@ -27,21 +27,13 @@ impl Case {
         }
     }
 
-    /// The first judge's answer, or the maker's.
+    /// The first judge's answer, or the maker's. Its first number is the refusal.
     pub fn expected(&self) -> Vec<u64> {
         expect::expect(&self.call, self.refusal).encode()
     }
 
     pub fn answer(&self, library: &dyn Library) -> Vec<u64> {
         run::run(library, &self.call).encode()
-    }
-
-    /// The refusal in an answer; a node read out has none.
-    pub fn told_refusal(&self, answer: &[u64]) -> usize {
-        match &self.call {
-            Call::Read(read) if read.reader == Reader::Node => 0,
-            _ => answer[0] as usize,
-        }
     }
 
     /// The call as numbers, its kind first.

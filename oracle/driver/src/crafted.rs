@@ -25,6 +25,7 @@ pub fn cases() -> Vec<Case> {
     }
     cases.extend(own_parts());
     cases.extend(orders());
+    cases.extend(nodes_read());
     cases
 }
 
@@ -254,4 +255,57 @@ fn splits(by: [u32; 3], features: usize) -> Read {
         out: features,
         ..Read::default()
     }
+}
+
+/// A node read out of three that are a root and its leaves, the leaves with entries that are not theirs to tell.
+fn node_of(change: impl Fn(&mut Read)) -> Read {
+    let mut read = Read {
+        reader: Reader::Node,
+        features: 2,
+        table: Table {
+            value: THREE.to_vec(),
+            feature: vec![1, 1, 7],
+            threshold: vec![-0.0, 1.5, 2.5],
+            score: vec![4.0, 5.0, 6.0],
+            true_child: vec![1, 0, 0],
+            false_child: vec![2, 0, 0],
+        },
+        ..Read::default()
+    };
+    change(&mut read);
+    read
+}
+
+/// Each node, and what there is none of; features at and past their ends; faults in another node than the one
+/// asked for, or beside a number that no node has.
+fn nodes_read() -> Vec<Case> {
+    let case = |refusal: u32, change: fn(&mut Read)| Case::read(node_of(change), refusal);
+    vec![
+        case(0, |_| ()),
+        case(0, |read| read.node = 1),
+        case(0, |read| read.node = 2),
+        case(0, |read| read.node = 3),
+        case(0, |read| read.node = 1 << 32),
+        case(0, |read| read.node = usize::MAX),
+        case(0, |read| read.features = 1_024),
+        case(1, |read| read.features = 0),
+        case(1, |read| read.features = 1_025),
+        case(1, |read| (read.features, read.node) = (1_025, 3)),
+        // the feature is past the last, in the node asked for and in another
+        case(8, |read| read.features = 1),
+        case(8, |read| (read.features, read.node) = (1, 2)),
+        case(8, |read| (read.features, read.node) = (1, 3)),
+        case(8, |read| read.table.true_child[2] = 1),
+        case(8, |read| (read.table.true_child[2], read.node) = (1, 3)),
+        // the shortest column counts: a child is cut off, all is, or four columns go on behind the last node
+        case(8, |read| read.table.score.truncate(2)),
+        case(8, |read| read.table.value.clear()),
+        case(0, |read| {
+            read.table.value.push(0.5);
+            read.table.feature.push(1);
+            read.table.true_child.push(0);
+            read.table.false_child.push(0);
+            read.node = 3;
+        }),
+    ]
 }

@@ -14,18 +14,14 @@ fn order(reader: Reader) -> &'static [u32] {
         }
         Reader::OutOfBagError => &[1, 2],
         Reader::CheckListings => &[1, 2, 5],
-        Reader::CheckTree => &[1, 8],
+        Reader::CheckTree | Reader::Node => &[1, 8],
         Reader::CheckForest => &[1, 6, 8],
-        Reader::Node => &[],
     }
 }
 
 /// Damage in one to three ways, the last check's first; the first check's is what should come out.
 pub fn damage(chance: &mut Chance, read: &mut Read) -> u32 {
     let order = order(read.reader);
-    if order.is_empty() {
-        return 0;
-    }
     let mut checks: Vec<usize> = (0..chance.within(1, 3))
         .map(|_| chance.below(order.len()))
         .collect();
@@ -76,6 +72,7 @@ fn sizes(chance: &mut Chance, read: &mut Read) -> bool {
             | Reader::ForestImportances
             | Reader::CheckTree
             | Reader::CheckForest
+            | Reader::Node
     );
     match chance.below(3) {
         0 if rows => read.rows = chance.pick(&[0, 65_536, usize::MAX]),

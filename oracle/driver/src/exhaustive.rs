@@ -129,7 +129,8 @@ pub fn words(mut each: impl FnMut(Case)) {
     }
 }
 
-/// Every table of up to three nodes with children from 0 to 3 and a feature of two, one in range.
+/// Every table of up to three nodes with children from 0 to 3 and a feature of two, one in range: its check, and
+/// each of its nodes read out, and the one past its end.
 /// The good ones are known by listing what a good node can hold.
 pub fn tables(mut each: impl FnMut(Case)) {
     let mut entries = Vec::new();
@@ -146,23 +147,33 @@ pub fn tables(mut each: impl FnMut(Case)) {
                 leaves.into_iter().chain(splits).any(|held| held == *entry)
             };
             let all = (0..nodes).all(|number| good(number, &tree[number as usize]));
-            let float = vec![0.0; nodes as usize];
-            let table = Table {
-                value: float.clone(),
-                feature: tree.iter().map(|entry| entry.2).collect(),
-                threshold: float.clone(),
-                score: float,
-                true_child: tree.iter().map(|entry| entry.0).collect(),
-                false_child: tree.iter().map(|entry| entry.1).collect(),
-            };
-            let read = Read {
+            let refusal = if all { 0 } else { 8 };
+            let mut read = Read {
                 reader: Reader::CheckTree,
                 features: 1,
-                table,
+                table: table(&tree),
                 ..Read::default()
             };
-            each(Case::read(read, if all { 0 } else { 8 }));
+            each(Case::read(read.clone(), refusal));
+            read.reader = Reader::Node;
+            for node in 0..=tree.len() {
+                read.node = node;
+                each(Case::read(read.clone(), refusal));
+            }
         }
+    }
+}
+
+/// Of children and features, with floats that tell nodes and columns apart.
+fn table(tree: &[(u32, u32, u32)]) -> Table {
+    let floats = |from: f64| (0..tree.len()).map(|at| from + at as f64).collect();
+    Table {
+        value: floats(0.5),
+        feature: tree.iter().map(|entry| entry.2).collect(),
+        threshold: floats(10.5),
+        score: floats(20.5),
+        true_child: tree.iter().map(|entry| entry.0).collect(),
+        false_child: tree.iter().map(|entry| entry.1).collect(),
     }
 }
 

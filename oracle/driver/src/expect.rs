@@ -201,7 +201,7 @@ fn expect_read(read: &Read, refusal: u32) -> Outcome {
     let mut rooms = Vec::new();
     match read.reader {
         Reader::OutOfBagError => told.push(expect_error(read, refusal)),
-        Reader::Node => told = expect_node(read),
+        Reader::Node => told.extend(expect_node(read, refusal)),
         Reader::CheckListings | Reader::CheckTree | Reader::CheckForest => (),
         _ => {
             let mut room = untouched(read.out, true);
@@ -240,11 +240,15 @@ fn expect_error(read: &Read, refusal: u32) -> u64 {
     bits(sum / read.rows as f64)
 }
 
-fn expect_node(read: &Read) -> Vec<u64> {
-    let column = columns(&records(read, 0, 1));
+/// After the refusal: whether the node is there, and its entries, of a leaf the value alone.
+fn expect_node(read: &Read, refusal: u32) -> [u64; 7] {
+    if refusal != 0 || read.node >= read.table.room() {
+        return [0; 7];
+    }
+    let column = columns(&records(read, read.node, read.node + 1));
     let [value, feature, threshold, score, on_true, on_false] = column.map(|c| c[0]);
     match on_true | on_false {
-        0 => vec![value, 0],
-        _ => vec![value, 1, feature, threshold, score, on_true, on_false],
+        0 => [1, value, 0, 0, 0, 0, 0],
+        _ => [1, value, feature, threshold, score, on_true, on_false],
     }
 }

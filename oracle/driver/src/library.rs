@@ -1,7 +1,8 @@
 //! A library of the public calls, by lent slices: the second judge is one, and the proved library can be another.
 
 use paper::{
-    Divisor, ForestAnswer, ForestCall, ForestRooms, Node, Table, TreeAnswer, TreeCall, TreeRooms,
+    Divisor, ForestAnswer, ForestCall, ForestRooms, NodeRead, Table, TreeAnswer, TreeCall,
+    TreeRooms,
 };
 
 #[allow(clippy::too_many_arguments)]
@@ -46,7 +47,7 @@ pub trait Library {
     fn check_listings(&self, rows: usize, features: usize, x: &[f64], listings: &[u32]) -> u32;
     fn check_tree(&self, features: usize, t: &Table) -> u32;
     fn check_forest(&self, features: usize, trees: usize, t: &Table, starts: &[u32]) -> u32;
-    fn node(&self, value: f64, feature: u32, cut: [f64; 2], children: [u32; 2]) -> Node;
+    fn read_node(&self, features: usize, t: &Table, number: usize) -> NodeRead;
 }
 
 /// The second judge.
@@ -115,7 +116,7 @@ impl Library for Paper {
     fn check_forest(&self, features: usize, trees: usize, t: &Table, starts: &[u32]) -> u32 {
         paper::check_forest(features, trees, t, starts)
     }
-    fn node(&self, value: f64, feature: u32, cut: [f64; 2], children: [u32; 2]) -> Node {
-        paper::node(value, feature, cut[0], cut[1], children[0], children[1])
+    fn read_node(&self, features: usize, t: &Table, number: usize) -> NodeRead {
+        paper::read_node(features, t, number)
     }
 }

@@ -21,16 +21,23 @@ pub fn read(chance: &mut Chance) -> Read {
             nan_somewhere(chance, &mut read);
         }
         Reader::Node => {
-            let nodes = chance.within(1, 4);
-            read.table = tree(chance, nodes, 3, 0);
-            if chance.one_in(3) {
-                read.table.true_child[0] = chance.pick(&[0, 1, u32::MAX]);
-                read.table.false_child[0] = chance.pick(&[0, 2]);
-            }
+            over_table(chance, &mut read, rows);
+            read.node = node(chance, read.table.room());
         }
         _ => over_table(chance, &mut read, rows),
     }
     read
+}
+
+/// The number of a node inside the tree, or of one that it has not: just past its end, or far out.
+fn node(chance: &mut Chance, nodes: usize) -> usize {
+    match chance.below(6) {
+        0 => nodes + chance.below(2),
+        // the last 32 bits of 1 << 32 are a node's number
+        1 => chance.pick(&[usize::MAX, 1 << 32, u32::MAX as usize]),
+        2 => nodes - 1,
+        _ => chance.below(nodes),
+    }
 }
 
 /// The listing check alone takes NaN values, and nothing is below a NaN.
@@ -57,7 +64,7 @@ fn error(chance: &mut Chance, read: &mut Read, rows: usize) {
 
 fn over_table(chance: &mut Chance, read: &mut Read, rows: usize) {
     let features = match read.reader {
-        Reader::CheckTree | Reader::CheckForest => chance.pick(&[1, 2, 3, 1_024]),
+        Reader::CheckTree | Reader::CheckForest | Reader::Node => chance.pick(&[1, 2, 3, 1_024]),
         _ => chance.within(1, 3),
     };
     let takes_x = matches!(

@@ -4,12 +4,13 @@
 use crate::calls::{Call, Fit, Read, Reader, Table};
 use crate::chance::Chance;
 use crate::compare::Tally;
+use crate::expect;
 use crate::floats;
 use crate::library::Library;
 use crate::make_fit::{self, data, params};
 use crate::outcome::{Outcome, bits};
 use crate::run;
-use copy::harness::{self, Tape};
+use copy::harness::{self, NodeRecord, Tape};
 
 pub fn hold(library: &dyn Library, chance: &mut Chance, count: usize, tally: &mut Tally) {
     for _ in 0..count {
@@ -45,11 +46,15 @@ fn played(library: &dyn Library, chance: &mut Chance, fit: &mut Fit, tapes: &[Ta
     run::run(library, &Call::Fit(fit.clone()))
 }
 
-/// The table that a fit left, for the readers.
-fn table(left: &Outcome, nodes: usize) -> Table {
-    let entries = |room: usize| left.rooms[room].entries[..nodes].iter();
-    let floats = |room: usize| entries(room).map(|e| f64::from_bits(*e)).collect();
-    let numbers = |room: usize| entries(room).map(|e| *e as u32).collect();
+/// The node columns that a fit left.
+fn left_columns(left: &Outcome, nodes: usize) -> [&[u64]; 6] {
+    std::array::from_fn(|room| &left.rooms[room].entries[..nodes])
+}
+
+/// Columns of numbers as a table for the readers.
+fn table(columns: [&[u64]; 6]) -> Table {
+    let floats = |column: usize| columns[column].iter().map(|e| f64::from_bits(*e)).collect();
+    let numbers = |column: usize| columns[column].iter().map(|e| *e as u32).collect();
     Table {
         value: floats(0),
         feature: numbers(1),
@@ -68,8 +73,9 @@ fn forest(library: &dyn Library, chance: &mut Chance) -> (Fit, bool) {
     fit.counts = own.counts;
     let tapes: Vec<Tape> = own.trees.iter().map(|tree| tree.made.clone()).collect();
     let left = played(library, chance, &mut fit, &tapes);
-    let nodes: Vec<_> = own.trees.iter().flat_map(|tree| tree.nodes()).collect();
-    let columns = crate::expect::columns(&nodes);
+    let trees: Vec<Vec<NodeRecord>> = own.trees.iter().map(|tree| tree.nodes()).collect();
+    let nodes = trees.concat();
+    let columns = expect::columns(&nodes);
     let starts = left.rooms[6].entries[..=fit.trees].iter();
     let read = Read {
         rows: fit.rows,
@@ -77,7 +83,7 @@ fn forest(library: &dyn Library, chance: &mut Chance) -> (Fit, bool) {
         trees: fit.trees,
         x: fit.x.clone(),
         counts: fit.counts.clone(),
-        table: table(&left, nodes.len()),
+        table: table(left_columns(&left, nodes.len())),
         starts: starts.map(|start| *start as u32).collect(),
         ..Read::default()
     };
@@ -86,8 +92,31 @@ fn forest(library: &dyn Library, chance: &mut Chance) -> (Fit, bool) {
         && rooms.all(|(room, column)| room.entries.starts_with(column))
         && reads(library, &read, Reader::ForestMeans, &own.means)
         && reads(library, &read, Reader::OutOfBagMeans, &own.means_oob)
-        && reads(library, &read, Reader::ForestImportances, &own.importances);
+        && reads(library, &read, Reader::ForestImportances, &own.importances)
+        && trees
+            .iter()
+            .all(|nodes| nodes_told(library, fit.features, nodes));
     (fit, same)
+}
+
+/// Whether a tree's nodes are read out as the crate has them, and none past the last.
+/// Of the crate's own leaves all but the value are 0.
+fn nodes_told(library: &dyn Library, features: usize, nodes: &[NodeRecord]) -> bool {
+    let columns = expect::columns(nodes);
+    let mut read = Read {
+        reader: Reader::Node,
+        features,
+        table: table(columns.each_ref().map(Vec::as_slice)),
+        ..Read::default()
+    };
+    (0..=nodes.len()).all(|node| {
+        read.node = node;
+        let there = u64::from(node < nodes.len());
+        let entry = |column: &Vec<u64>| column.get(node).copied().unwrap_or(0);
+        let told = [0, there].into_iter().chain(columns.iter().map(entry));
+        let left = run::run(library, &Call::Read(read.clone()));
+        left.told.into_iter().eq(told)
+    })
 }
 
 fn tree(library: &dyn Library, chance: &mut Chance) -> (Fit, bool) {
@@ -100,7 +129,7 @@ fn tree(library: &dyn Library, chance: &mut Chance) -> (Fit, bool) {
         rows: fit.rows,
         features: fit.features,
         x: fit.x.clone(),
-        table: table(&left, left.told[3] as usize),
+        table: table(left_columns(&left, left.told[3] as usize)),
         root_mass: f64::from_bits(left.told[5]),
         ..Read::default()
     };

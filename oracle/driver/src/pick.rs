@@ -6,13 +6,13 @@ use std::collections::BTreeMap;
 
 /// How many cases should find an edit, where the pool has so many.
 const FINDERS: usize = 3;
-/// How many cases of a kind with one refusal are taken at least: most of what the Rust answers.
+/// How many cases of a kind with one refusal are taken at least: most of what is not refused.
 fn of_a_kind(kind: u64, refusal: usize) -> usize {
     match (kind, refusal) {
         (1, 0) => 190,
         (2, 0) => 60,
         (1 | 2, 7) => 25,
-        (3..=8, 0) => 15,
+        (3..=8 | 13, 0) => 15,
         _ => 6,
     }
 }
@@ -61,7 +61,7 @@ fn of_each_kind(pool: &[&str], taken: &mut [bool]) {
     let pool: Vec<case::Listed> = pool.iter().map(|line| case::parse(line)).collect();
     let mut have: BTreeMap<(u64, usize), usize> = BTreeMap::new();
     let kind = |listed: &case::Listed| {
-        let refusal = listed.case.told_refusal(&listed.answer);
+        let refusal = listed.answer[0] as usize;
         (wire::kind(&listed.case.call), refusal)
     };
     for (place, listed) in pool.iter().enumerate() {

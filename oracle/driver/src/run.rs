@@ -4,8 +4,8 @@ use crate::calls::{Call, Fit, Lengths, Read, Reader, Table};
 use crate::library::Library;
 use crate::outcome::{FILL, FILL_FLOAT, Outcome, Room, bits};
 use paper::{
-    Columns, Cuts, Divisor, Draws, ForestCall, ForestRooms, Given, Kind, Reports, Settings,
-    Splitter, TreeCall, TreeRooms, Waiting, Work,
+    Columns, Cuts, Divisor, Draws, ForestCall, ForestRooms, Given, Kind, NodeRead, Reports,
+    Settings, Splitter, TreeCall, TreeRooms, Waiting, Work,
 };
 
 pub fn run(library: &dyn Library, call: &Call) -> Outcome {
@@ -240,7 +240,7 @@ fn run_read(library: &dyn Library, read: &Read) -> Outcome {
             let refusal = library.check_forest(features, trees, &t, starts);
             return told_only(vec![u64::from(refusal)]);
         }
-        Reader::Node => return told_only(run_node(library, &read.table)),
+        Reader::Node => return told_only(node_told(library.read_node(features, &t, read.node))),
     };
     Outcome {
         told: vec![u64::from(refusal)],
@@ -255,18 +255,20 @@ fn told_only(told: Vec<u64>) -> Outcome {
     }
 }
 
-/// The first node: its value, then 0 for a leaf, or 1 and its cut.
-fn run_node(library: &dyn Library, t: &Table) -> Vec<u64> {
-    let children = [t.true_child[0], t.false_child[0]];
-    let cut = [t.threshold[0], t.score[0]];
-    let node = library.node(t.value[0], t.feature[0], cut, children);
-    let mut told = vec![bits(node.value)];
-    match node.kind {
-        Kind::Leaf => told.push(0),
-        Kind::Split(cut) => {
-            told.extend([1, u64::from(cut.feature)]);
-            told.extend([bits(cut.threshold), bits(cut.score)]);
-            told.extend([cut.true_child, cut.false_child].map(u64::from));
+/// The refusal, whether the node is there, and its six values: zeros where it has none.
+fn node_told(read: NodeRead) -> Vec<u64> {
+    let mut told = vec![0; 8];
+    match read {
+        NodeRead::Refused(refusal) => told[0] = u64::from(refusal),
+        NodeRead::Missing => (),
+        NodeRead::Read(node) => {
+            told[1..3].copy_from_slice(&[1, bits(node.value)]);
+            if let Kind::Split(cut) = node.kind {
+                let [on_true, on_false] = [cut.true_child, cut.false_child].map(u64::from);
+                let [threshold, score] = [cut.threshold, cut.score].map(bits);
+                let rest = [u64::from(cut.feature), threshold, score, on_true, on_false];
+                told[3..].copy_from_slice(&rest);
+            }
         }
     }
     told

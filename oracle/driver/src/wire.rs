@@ -1,6 +1,6 @@
 //! Calls as numbers and back. One description of the fields serves both ways.
 
-use crate::calls::{Call, Fit, READERS, Read, Table};
+use crate::calls::{Call, Fit, READERS, Read, Reader, Table};
 
 /// Either takes the fields down as numbers, or fills them from numbers.
 pub enum Wire<'a> {
@@ -108,7 +108,16 @@ fn table_fields(table: &mut Table, w: &mut Wire) {
     w.smalls(&mut table.false_child);
 }
 
+fn node_fields(read: &mut Read, w: &mut Wire) {
+    w.size(&mut read.features);
+    table_fields(&mut read.table, w);
+    w.size(&mut read.node);
+}
+
 fn read_fields(read: &mut Read, w: &mut Wire) {
+    if read.reader == Reader::Node {
+        return node_fields(read, w);
+    }
     w.size(&mut read.rows);
     w.size(&mut read.features);
     w.size(&mut read.trees);

@@ -22,4 +22,4 @@ pub use readers::{
     tree_importances,
 };
 pub use rooms::{Columns, ForestRooms, Reports, Table, TreeRooms, Waiting, Work};
-pub use tables::{Cut, Kind, Node, check_forest, check_tree, node};
+pub use tables::{Cut, Kind, Node, NodeRead, check_forest, check_tree, read_node};

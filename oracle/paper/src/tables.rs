@@ -25,38 +25,31 @@ pub struct Cut {
     pub false_child: u32,
 }
 
+/// What comes of asking for a node. A good tree may not have it, which is no refusal.
+#[derive(Clone, Copy, Debug)]
+pub enum NodeRead {
+    Refused(u32),
+    Missing,
+    Read(Node),
+}
+
 /// A node out of its six entries: both children 0 is a leaf, whose other entries are not looked at.
-pub fn node(
-    value: f64,
-    feature: u32,
-    threshold: f64,
-    score: f64,
-    true_child: u32,
-    false_child: u32,
-) -> Node {
+pub fn node_at(table: &Table, number: usize) -> Node {
     let cut = Cut {
-        feature,
-        threshold,
-        score,
-        true_child,
-        false_child,
+        feature: table.feature[number],
+        threshold: table.threshold[number],
+        score: table.score[number],
+        true_child: table.true_child[number],
+        false_child: table.false_child[number],
     };
-    let kind = match (true_child, false_child) {
+    let kind = match (cut.true_child, cut.false_child) {
         (0, 0) => Kind::Leaf,
         _ => Kind::Split(cut),
     };
-    Node { value, kind }
-}
-
-pub fn node_at(table: &Table, number: usize) -> Node {
-    node(
-        table.value[number],
-        table.feature[number],
-        table.threshold[number],
-        table.score[number],
-        table.true_child[number],
-        table.false_child[number],
-    )
+    Node {
+        value: table.value[number],
+        kind,
+    }
 }
 
 fn node_good(table: &Table, number: usize, nodes: usize, features: usize) -> bool {
@@ -105,4 +98,13 @@ pub fn check_forest(features: usize, trees: usize, table: &Table, starts: &[u32]
         (6, &|| starts.len() > trees),
         (8, &|| forest_good(table, starts, trees, features)),
     ])
+}
+
+/// A node of one tree by its number: refused as the tree's table check is, refusals 1, 8.
+pub fn read_node(features: usize, table: &Table, number: usize) -> NodeRead {
+    match check_tree(features, table) {
+        0 if number < table.room() => NodeRead::Read(node_at(table, number)),
+        0 => NodeRead::Missing,
+        refusal => NodeRead::Refused(refusal),
+    }
 }
