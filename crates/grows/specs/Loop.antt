@@ -23,7 +23,7 @@ use Rattle.columns.specs.Stretches.{part-every}
 use Rattle.search.specs.Flat.{Shaped, Fair}
 use Rattle.growth.specs.Rooms.{Ground, waitAt, waitingOf, stackOf, Laid, BelowTo, LongAll, NodesIn}
 use Rattle.growth.specs.Steps.{bind-through, laid-more}
-use Rattle.growth.specs.Both.{long-less}
+use Rattle.growth.specs.Both.{long-less, onto}
 use Rattle.growth.specs.Frames.{withCols}
 use Rattle.growth.specs.Nodes.{then-bind, expand-number}
 use Rattle.grows.specs.declared.At.{At}
@@ -75,9 +75,6 @@ Stands g₀ P W M top c₀ wholes₀ reals₀ at₀ g c wholes reals at =
 
 less-one : (n : ℕ) → 0 < n → n ≡ suc (n - 1)
 less-one n h = omega arith
-
-abbrev onto : {D : Type 0} → List Waiting → List Waiting × D → Out (List Waiting × D)
-onto ws o = ok (o .0 ++ ws, o .1)
 
 then-onto : {S : Type 0} (m : Out (List Waiting × S)) (ws : List Waiting) (Q : List Waiting → S → Type 0) (x : List Waiting) (y : S) → bind m (onto ws) ≡ ok (x, y) → Then m (λ r. Q (r .0 ++ ws) (r .1)) → Q x y
 then-onto m ws Q x y p t = subst (λ o. Then o (λ z. Q (z .0) (z .1))) p (then-bind m (onto ws) (λ z. Q (z .0) (z .1)) t)

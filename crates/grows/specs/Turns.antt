@@ -27,21 +27,16 @@ use Rattle.growth.specs.declared.Step.{Step}
 use Rattle.growth.specs.declared.Step.the-variants.{Refused, Goes}
 use Rattle.growth.specs.Rooms.{Ground, waitAt, cutOf, nodeTask, waitingOf, stackOf, Laid, meantStep, LaidStep, FairStep, BelowTo, askedOf, LongAll, putRow, wroteSplit, rowFor, NodesIn, BothAsks, BothDone}
 use Rattle.growth.specs.Nodes.{columnOf}
-use Rattle.growth.specs.Frames.{withCols, task-of, frame, good-column, good-alike, good-room, good-asks, three, part-short, ones-map, rows-of}
+use Rattle.growth.specs.Both.{onto, chain}
+use Rattle.growth.specs.Frames.{column-at, withCols, task-of, frame, good-alike, good-room, good-asks, three, part-short, ones-map, rows-of}
 use Rattle.grows.specs.declared.At.{At}
 use Rattle.grows.specs.declared.Turned.the-variants as U
 use Rattle.grows.specs.Places.{TurnAsks, stateAt, TurnDone}
 
 -- ---- answers put together
 
-abbrev onto : {D : Type 0} → List Waiting → List Waiting × D → Out (List Waiting × D)
-onto ws o = ok (o .0 ++ ws, o .1)
-
 abbrev fin : {D S : Type 0} → (D → S) → List Waiting × D → Out (List Waiting × S)
 fin mk o = ok (o .0, mk (o .1))
-
-abbrev chain : {D : Type 0} → (D → Out (List Waiting × D)) → List Waiting × D → Out (List Waiting × D)
-chain k t = bind (k (t .1)) (onto (t .0))
 
 abbrev chainTo : {D S : Type 0} → (D → S) → (D → Out (List Waiting × D)) → List Waiting × D → Out (List Waiting × S)
 chainTo mk k t = bind (k (t .1)) (λ f. ok (f .0 ++ t .0, mk (f .1)))
@@ -95,7 +90,7 @@ module _ (g : Ground) (P : Params) (W : List ℕ) (sc fl : ℕ) (c : Columns) (w
     where
       some-rows : e .start < e .end
       some-rows = rows-of (g .rows) (g .cols) (e .start) (e .end) (e .feature) el (goesTrue (cutOf e))
-          (subst (λ z. 0 < total (λ x. 1) (trueSide (cutOf e) z)) (sym (good-column g P (q .same) (e .start) (e .end) (askedOf e) (q .ripe .good) (e .feature) known)) (q .ripe .fine .someTrue))
+          (subst (λ z. 0 < total (λ x. 1) (trueSide (cutOf e) z)) (sym (column-at g (e .start) (e .end) (e .feature) known)) (q .ripe .fine .someTrue))
 
   pub turn-halves : HalveAsks (g .rows) (g .features) (e .start) (e .end) (g .tables) (g .cols) (cutOf e) (e .count) sc fl
   turn-halves =
@@ -121,7 +116,7 @@ module _ (g : Ground) (P : Params) (W : List ℕ) (sc fl : ℕ) (c : Columns) (w
     no-task = task-of g e cols′ not (h .mid) (e .end) (h .no) known (d .no-part) (d .no)
 
     mine : map el (part (g .rows) (g .cols) (e .start) (e .end) (e .feature)) ≡ getD (w .task .columns) (e .feature) []
-    mine = good-column g P (q .same) (e .start) (e .end) (askedOf e) (q .ripe .good) (e .feature) known
+    mine = column-at g (e .start) (e .end) (e .feature) known
 
     starts : e .start < h .mid
     starts =

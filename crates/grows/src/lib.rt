@@ -41,7 +41,7 @@ pub fn greater(a: u32, b: u32) -> u32
     a
 }
 
-// One turn: the last to join is split, and its children are asked.
+// One turn: the last to join is split, and its children are searched.
 pub fn turn(
     x: &[f64],
     y: &[f64],

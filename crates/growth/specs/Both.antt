@@ -58,9 +58,9 @@ pub halved-at : (rows features : ℕ) (t : Tables) (cols cols′ : List ℕ) (c 
 halved-at rows features t cols cols′ c h a e {a′} {e′} ea ee d =
     subst (λ z. Halved rows features a z t cols cols′ c h) ee (subst (λ z. Halved rows features z e′ t cols cols′ c h) ea d)
 
--- ---- two asks
+-- ---- two searches
 
-abbrev onto : {D : Type 0} → List Waiting → List Waiting × D → Out (List Waiting × D)
+abbrev pub onto : {D : Type 0} → List Waiting → List Waiting × D → Out (List Waiting × D)
 onto ws o = ok (o .0 ++ ws, o .1)
 
 two-end : {D : Type 0} (m : Out (List Waiting × D)) (xs ws : List Waiting) → bind (bind m (onto xs)) (onto ws) ≡ bind m (onto (xs ++ ws))
@@ -68,7 +68,7 @@ unfolding bind
 two-end (bad n) xs ws = refl
 two-end (ok f) xs ws = ap (λ z. ok (z, f .1)) (append-assoc (f .0) xs ws)
 
-abbrev chain : {D : Type 0} → (D → Out (List Waiting × D)) → List Waiting × D → Out (List Waiting × D)
+abbrev pub chain : {D : Type 0} → (D → Out (List Waiting × D)) → List Waiting × D → Out (List Waiting × D)
 chain k t = bind (k (t .1)) (onto (t .0))
 
 two : {D : Type 0} (m : Out (List Waiting × D)) (k : D → Out (List Waiting × D)) (ws : List Waiting) → bind (bind m (chain k)) (onto ws) ≡ bind (bind m (onto ws)) (chain k)

@@ -1,26 +1,25 @@
 -- A node in the work columns: its columns by its stretch, what a split leaves of them and of those below, and what a good node gives the code. Assumes nothing.
 use Prim.Native.Nat.{ℕ, zero, suc, _+_, _-_, _*_, _<_, _≤_}
-use native.Mathlib.Nat.{le-trans}
+use native.Mathlib.Nat.{le-trans, zero-add}
 use native.Mathlib.Omega.{arith}
 use mathlib.Core.Path.{_≡_, refl, sym, ap, _∙_, subst}
 use mathlib.Core.Bool.{Bool, true}
-use mathlib.Core.List.{List, [], _∷_, _++_, map, append-assoc}
+use mathlib.Core.List.{List, [], _∷_, _++_, map, map-map, append-assoc}
 use lib.ListN.{length, getD, set, length-set, length-append, length-take}
 use lib.Ieee.{Float}
 use Rattle.rules.specs.declared.Params.{Params}
-use Rattle.rules.specs.declared.Splitter.the-variants.{Best}
+use Rattle.rules.specs.declared.Cut.{Cut}
 use Rattle.rules.specs.Fit.{elementIn}
 use Rattle.rules.specs.Search.{Element, Column, goesTrue, tally, totals, sideOf}
 use Rattle.rules.specs.Growth.{TreeNode, child}
 use Rattle.rules.specs.Words.{keep, putIf, total, from}
 use Rattle.rules.specs.Totals.{empty}
-use Rattle.laws.specs.Lists.{every-at, keep-map}
+use Rattle.laws.specs.Lists.{every-at, every-imp, map-same, keep-map, getD-from, from-below}
 use Rattle.laws.specs.Cuts.{Good}
 use Rattle.columns.specs.Split.{Alike}
 use Rattle.columns.specs.Stretches.{part-every}
 use Rattle.search.specs.declared.Asked.{Asked}
 use Rattle.search.specs.Flat.{Tables, Shaped, elementOf, part, columnsAt, NodeAsks, sideOn}
-use Rattle.search.specs.Tries.{column-of}
 use Rattle.growth.specs.declared.Wait.{Wait}
 use Rattle.growth.specs.Rooms.{Ground, waitAt, cutOf, nodeTask, waitingOf, stackOf, Laid, BelowTo}
 use Rattle.growth.specs.Nodes.{columnOf, store-node, add-node}
@@ -30,38 +29,29 @@ withCols g cols = record { rows = g .rows; features = g .features; tables = g .t
 
 -- ---- columns, one by one
 
-map-range : (f f′ : ℕ → Column) (s : Column → Column) (i n : ℕ) → ((k : ℕ) → k < i + n → f′ k ≡ s (f k)) → map f′ (from i n) ≡ map s (map f (from i n))
-unfolding from
-map-range f f′ s i zero h = refl
-map-range f f′ s i (suc n) h =
-    ap (λ z. z ∷ map f′ (from (suc i) n)) (h i (here i n)) ∙ ap (λ z. s (f i) ∷ z) (map-range f f′ s (suc i) n (λ k l. h k (there i n k l)))
-  where
-    here : (i n : ℕ) → i < i + suc n
-    here i n = omega arith
-
-    there : (i n k : ℕ) → k < suc i + n → k < i + suc n
-    there i n k l = omega arith
-
-map-alike : (f f′ : ℕ → Column) (i n : ℕ) → ((k : ℕ) → k < i + n → f′ k ≡ f k) → map f′ (from i n) ≡ map f (from i n)
-unfolding from
-map-alike f f′ i zero h = refl
-map-alike f f′ i (suc n) h = ap (λ z. z ∷ map f′ (from (suc i) n)) (h i (here i n)) ∙ ap (λ z. f i ∷ z) (map-alike f f′ (suc i) n (λ k l. h k (there i n k l)))
-  where
-    here : (i n : ℕ) → i < i + suc n
-    here i n = omega arith
-
-    there : (i n k : ℕ) → k < suc i + n → k < i + suc n
-    there i n k l = omega arith
-
 pub cols-alike : (el : ℕ → Element) (rows features : ℕ) (cols′ cols : List ℕ) (a e : ℕ) → ((k : ℕ) → k < features → part rows cols′ a e k ≡ part rows cols a e k)
     → columnsAt el rows features cols′ a e ≡ columnsAt el rows features cols a e
 unfolding columnsAt
-cols-alike el rows features cols′ cols a e h = map-alike (λ k. map el (part rows cols a e k)) (λ k. map el (part rows cols′ a e k)) 0 features (λ k l. ap (map el) (h k (below k features l)))
-  where
-    below : (k n : ℕ) → k < 0 + n → k < n
-    below k n l = omega arith
+cols-alike el rows features cols′ cols a e h =
+    map-same _ _ (from 0 features) (every-imp _ _ (λ k u. ap (map el) (h k (omega arith))) (from 0 features) (from-below 0 features))
 
--- a side of a Split is the definition's child
+-- one side of every column, as rows and as elements
+side-columns : (el : ℕ → Element) (c : Cut) (b : Bool → Bool) (n : ℕ) (old new : ℕ → List ℕ) → ((k : ℕ) → k < n → new k ≡ keep (λ r. b (goesTrue c (el r))) (old k))
+    → map (λ k. map el (new k)) (from 0 n) ≡ map (sideOf b c) (map (λ k. map el (old k)) (from 0 n))
+side-columns el c b n old new h =
+    map-same _ _ (from 0 n) (every-imp _ _ (λ k u. ap (map el) (h k (omega arith)) ∙ sym (keep-map (λ e. b (goesTrue c e)) el (old k))) (from 0 n) (from-below 0 n))
+    ∙ sym (map-map (sideOf b c) (λ k. map el (old k)) (from 0 n))
+
+-- a node's column k
+pub column-at : (g : Ground) (a e k : ℕ) → k < g .features
+    → map (elementOf (g .features) (g .tables)) (part (g .rows) (g .cols) a e k) ≡ getD (columnsAt (elementOf (g .features) (g .tables)) (g .rows) (g .features) (g .cols) a e) k []
+unfolding columnsAt
+column-at g a e k h = sym (getD-from mine 0 (g .features) k [] h ∙ ap mine (zero-add k))
+  where
+    mine : ℕ → Column
+    mine j = map (elementOf (g .features) (g .tables)) (part (g .rows) (g .cols) a e j)
+
+-- a side of a split is the definition's child
 pub task-of : (g : Ground) (e : Wait) (cols′ : List ℕ) (b : Bool → Bool) (a′ e′ : ℕ) (h : Asked) → e .feature < g .features
     → ((k : ℕ) → k < g .features → part (g .rows) cols′ a′ e′ k ≡ keep (λ r. b (goesTrue (cutOf e) (elementOf (g .features) (g .tables) r))) (part (g .rows) (g .cols) (e .start) (e .end) k))
     → h ≡ sideOn (sideOf b (cutOf e) (map (elementOf (g .features) (g .tables)) (part (g .rows) (g .cols) (e .start) (e .end) (e .feature))))
@@ -69,8 +59,7 @@ pub task-of : (g : Ground) (e : Wait) (cols′ : List ℕ) (b : Bool → Bool) (
 unfolding child columnsAt
 task-of g e cols′ b a′ e′ h hj hp eh = λ i.
     record {
-      columns = map-range (λ k. map el (part (g .rows) (g .cols) (e .start) (e .end) k)) (λ k. map el (part (g .rows) cols′ a′ e′ k)) (sideOf b (cutOf e)) 0 (g .features)
-          (λ k l. ap (map el) (hp k (below k (g .features) l)) ∙ sym (keep-map (λ x. b (goesTrue (cutOf e) x)) el (part (g .rows) (g .cols) (e .start) (e .end) k))) i;
+      columns = side-columns el (cutOf e) b (g .features) (λ k. part (g .rows) (g .cols) (e .start) (e .end) k) (λ k. part (g .rows) cols′ a′ e′ k) hp i;
       totals = (ap (λ (z : Asked). z .totals) eh ∙ ap (λ z. totals empty (sideOf b (cutOf e) z)) mine) i;
       count = (ap (λ (z : Asked). z .count) eh ∙ ap (λ z. tally (sideOf b (cutOf e) z)) mine) i;
     }
@@ -78,13 +67,10 @@ task-of g e cols′ b a′ e′ h hj hp eh = λ i.
     el : ℕ → Element
     el = elementOf (g .features) (g .tables)
 
-    below : (k n : ℕ) → k < 0 + n → k < n
-    below k n l = omega arith
-
     mine : map el (part (g .rows) (g .cols) (e .start) (e .end) (e .feature)) ≡ getD (columnsAt el (g .rows) (g .features) (g .cols) (e .start) (e .end)) (e .feature) []
-    mine = column-of (g .rows) (g .features) (e .start) (e .end) (g .tables) (g .cols) h (record { limit = 0; leaf = 0; split = 0; tried = 0; features = 0; splitter = Best }) (e .feature) hj refl
+    mine = column-at g (e .start) (e .end) (e .feature) hj
 
--- what lies below the Split stretch is as it was
+-- what lies below the split stretch is as it was
 pub frame : (g : Ground) (cols′ : List ℕ) (a : ℕ) → ((k b f : ℕ) → b ≤ f → f ≤ a → part (g .rows) cols′ b f k ≡ part (g .rows) (g .cols) b f k)
     → (wholes : List (List ℕ)) (reals : List (List Float)) (high m : ℕ) → high ≤ a → Laid wholes reals high m → stackOf (withCols g cols′) wholes reals m ≡ stackOf g wholes reals m
 frame g cols′ a beside wholes reals high zero hh l = refl
@@ -104,19 +90,16 @@ level-sum f t g [] = refl
 level-sum f t g (x ∷ l) = ap (λ n. g x + n) (level-sum f t g l)
 
 module _ (g : Ground) (P : Params) (sm : g .features ≡ P .features) (a e : ℕ) (q : Asked) (gd : Good P (nodeTask g a e q)) where
-  pub good-column : (k : ℕ) → k < g .features → map (elementOf (g .features) (g .tables)) (part (g .rows) (g .cols) a e k) ≡ getD (nodeTask g a e q .columns) k []
-  good-column k h = column-of (g .rows) (g .features) a e (g .tables) (g .cols) q P k h refl
-
   pub good-alike : (i j : ℕ) → i < g .features → j < g .features → Alike (part (g .rows) (g .cols) a e i) (part (g .rows) (g .cols) a e j)
   good-alike i j hi hj f =
       sym (level-sum (g .features) (g .tables) f (part (g .rows) (g .cols) a e i))
-      ∙ ap (λ z. total (λ x. f (x .row)) (keep (λ x. true) z)) (good-column i hi)
+      ∙ ap (λ z. total (λ x. f (x .row)) (keep (λ x. true) z)) (column-at g a e i hi)
       ∙ gd .level i j (subst (λ n. i < n) sm hi) (subst (λ n. j < n) sm hj) (λ x. f (x .row)) (λ x. true)
-      ∙ sym (ap (λ z. total (λ x. f (x .row)) (keep (λ x. true) z)) (good-column j hj))
+      ∙ sym (ap (λ z. total (λ x. f (x .row)) (keep (λ x. true) z)) (column-at g a e j hj))
       ∙ level-sum (g .features) (g .tables) f (part (g .rows) (g .cols) a e j)
 
   pub good-room : (k : ℕ) → k < g .features → tally (map (elementOf (g .features) (g .tables)) (part (g .rows) (g .cols) a e k)) ≤ q .count
-  good-room k h = let n = ap tally (good-column k h) in let c = gd .sound k (subst (λ n. k < n) sm h) .counted in omega (arith, n, c)
+  good-room k h = let n = ap tally (column-at g a e k h) in let c = gd .sound k (subst (λ n. k < n) sm h) .counted in omega (arith, n, c)
 
   pub good-asks : Shaped (g .rows) (g .features) (g .tables) → length (g .cols) ≡ g .features * g .rows → (n : ℕ) → e ≤ n → BelowTo g n → a ≤ e → e ≤ g .rows
       → NodeAsks (g .rows) (g .features) a e (g .tables) (g .cols) (q .count)

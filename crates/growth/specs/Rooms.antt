@@ -190,7 +190,7 @@ pub record BothAsks (g : Ground) (P : Params) (W : List ℕ) (node a m e : ℕ) 
   pub reals : s .waiting + 1 < roomReals
   pub small : node + 1 < 4294967296
 
--- two asks, one after the other
+-- two searches, one after the other
 abbrev pub searchTwo : Ground → Params → ℕ → ℕ → ℕ → ℕ → ℕ → Asked → Asked → Tapes → Out (List Waiting × Tapes)
 searchTwo g P node level a m e q r d =
     bind (searchIf P (search (tape (P .features)) P) (searchable P level (nodeTask g a m q)) node level (nodeTask g a m q) d)

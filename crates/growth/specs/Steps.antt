@@ -105,7 +105,7 @@ module _ (wholes : List (List ℕ)) (reals : List (List Float)) (n node level a 
         fair = λ W f. f;
       })))
 
--- ---- a child is searchable
+-- ---- a child is searched
 
 pub bind-through : {A B C : Type 0} (m : Out A) (f : A → B) (k : B → Out C) → bind (bind m (λ o. ok (f o))) k ≡ bind m (λ o. k (f o))
 unfolding bind

@@ -1,6 +1,6 @@
 // A node of a tree that grows: the waiting list in two slices of arrays, six node columns, and work columns that are split in place.
 ghost use mathlib.Core.Path.{_≡_};
-ghost use Prim.Native.Nat.{_+_, _≤_, _<_};
+ghost use Prim.Native.Nat.{_+_, _<_};
 ghost use lib.ListN.{length, set};
 ghost use Rattle.rules.specs.Lent.{Columns};
 ghost use Rattle.growth.specs.Halve.{HalveAsks, Halved};
@@ -394,7 +394,7 @@ pub fn split_node(
     h
 }
 
-// Both children are asked, the true one first.
+// Both children are searched, the true one first.
 pub fn search_both(
     x: &[f64],
     y: &[f64],
