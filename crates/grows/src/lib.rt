@@ -71,7 +71,7 @@ pub fn turn(
     let m = at.waiting - 1;
     let n = at.nodes;
     let d = at.drawn;
-    let w = growth::top(wholes, reals, m);
+    let w = growth::nodes::top(wholes, reals, m);
     let h = growth::split_node(
         x,
         y,
@@ -285,7 +285,7 @@ pub fn grow_tree(
     ensures { λ r. ⌜ TreeDone (record { rows = rows; features = features; tables = (record { x = now (x .entry); y = now (y .entry); weights = now (weights .entry); counts = now (counts .entry) }); cols = now (cols .entry) }) p (now (words .entry)) (now (thresholds .entry)) (record { value = now (value .entry); feature = now (feature .entry); threshold = now (threshold .entry); score = now (score .entry); trueChild = now (yes .entry); falseChild = now (no .entry) }) (record { value = now (value .exit); feature = now (feature .exit); threshold = now (threshold .exit); score = now (score .exit); trueChild = now (yes .exit); falseChild = now (no .exit) }) kept root r ⌝ }
 {
     let t = root.totals;
-    growth::put_leaf(value, feature, threshold, score, yes, no, 0, t);
+    growth::nodes::put_leaf(value, feature, threshold, score, yes, no, 0, t);
     let r = start_tree(
         x,
         y,

@@ -1,16 +1,17 @@
 // A node of a tree that grows: the waiting list in two slices of arrays, six node columns, and work columns that are split in place.
 ghost use mathlib.Core.Path.{_≡_};
 ghost use Prim.Native.Nat.{_+_, _<_};
-ghost use lib.ListN.{length, set};
+ghost use lib.ListN.{length};
 ghost use Rattle.rules.specs.Lent.{Columns};
 ghost use Rattle.growth.specs.Halve.{HalveAsks, Halved};
-ghost use Rattle.growth.specs.Rooms.{wholesOf, realsOf, waitAt, putRow, LongAll, PushDone, ChildAsks, ChildDone, leafRow, wroteSplit, BothAsks, BothDone};
+ghost use Rattle.growth.specs.Rooms.{LongAll, PushDone, ChildAsks, ChildDone, wroteSplit, BothAsks, BothDone};
 use rules::Cut;
 use rules::Params;
-use rules::Totals;
 use search::Asked;
 use search::Drawn;
 use search::Search;
+
+pub mod nodes;
 
 // A node that waits: its number, where its rows lie, its level and count, its totals, and the cut that its search found.
 pub struct Wait {
@@ -45,54 +46,6 @@ pub struct Stand {
 pub enum Step {
     Refused(usize),
     Goes(Stand),
-}
-
-pub fn push(wholes: &mut [[u32; 6]], reals: &mut [[f64; 3]], n: usize, w: Wait)
-    requires { ⌜ (n < length (now wholes)) × (n < length (now reals)) ⌝ }
-    ensures { λ _. ⌜ (now (wholes .exit) ≡ set (now (wholes .entry)) n (wholesOf w)) × (now (reals .exit) ≡ set (now (reals .entry)) n (realsOf w)) ⌝ }
-{
-    wholes[n] = [w.node, w.start, w.end, w.level, w.count, w.feature];
-    reals[n] = [w.sum, w.mass, w.cut];
-}
-
-pub fn top(wholes: &[[u32; 6]], reals: &[[f64; 3]], i: usize) -> Wait
-    requires { ⌜ (i < length (now wholes)) × (i < length (now reals)) ⌝ }
-    ensures { λ r. ⌜ r ≡ waitAt (now (wholes .entry)) (now (reals .entry)) i ⌝ }
-{
-    let w = wholes[i];
-    let r = reals[i];
-    Wait {
-        node: w[0],
-        start: w[1],
-        end: w[2],
-        level: w[3],
-        count: w[4],
-        feature: w[5],
-        sum: r[0],
-        mass: r[1],
-        cut: r[2],
-    }
-}
-
-pub fn put_row(
-    value: &mut [f64],
-    feature: &mut [u32],
-    threshold: &mut [f64],
-    score: &mut [f64],
-    yes: &mut [u32],
-    no: &mut [u32],
-    i: usize,
-    r: Row,
-)
-    requires { ⌜ LongAll (i + 1) (record { value = now (value); feature = now (feature); threshold = now (threshold); score = now (score); trueChild = now (yes); falseChild = now (no) }) ⌝ }
-    ensures { λ _. ⌜ _≡_ {A = Columns} (record { value = now (value .exit); feature = now (feature .exit); threshold = now (threshold .exit); score = now (score .exit); trueChild = now (yes .exit); falseChild = now (no .exit) }) (putRow i r (record { value = now (value .entry); feature = now (feature .entry); threshold = now (threshold .entry); score = now (score .entry); trueChild = now (yes .entry); falseChild = now (no .entry) })) ⌝ }
-{
-    value[i] = r.value;
-    feature[i] = r.feature;
-    threshold[i] = r.threshold;
-    score[i] = r.score;
-    yes[i] = r.yes;
-    no[i] = r.no;
 }
 
 // What a search of the node found joins the waiting list.
@@ -130,7 +83,7 @@ pub fn push_found(
                 mass: t.mass,
                 cut: c.threshold,
             };
-            push(wholes, reals, n, w);
+            crate::nodes::push(wholes, reals, n, w);
             Step::Goes(Stand {
                 waiting: n + 1,
                 drawn: e,
@@ -187,82 +140,6 @@ pub fn search_child(
         return Step::Goes(s);
     }
     Step::Goes(s)
-}
-
-pub fn put_leaf(
-    value: &mut [f64],
-    feature: &mut [u32],
-    threshold: &mut [f64],
-    score: &mut [f64],
-    yes: &mut [u32],
-    no: &mut [u32],
-    i: usize,
-    t: Totals,
-)
-    requires { ⌜ LongAll (i + 1) (record { value = now (value); feature = now (feature); threshold = now (threshold); score = now (score); trueChild = now (yes); falseChild = now (no) }) ⌝ }
-    ensures { λ _. ⌜ _≡_ {A = Columns} (record { value = now (value .exit); feature = now (feature .exit); threshold = now (threshold .exit); score = now (score .exit); trueChild = now (yes .exit); falseChild = now (no .exit) }) (putRow i (leafRow t) (record { value = now (value .entry); feature = now (feature .entry); threshold = now (threshold .entry); score = now (score .entry); trueChild = now (yes .entry); falseChild = now (no .entry) })) ⌝ }
-{
-    let v = criterion::value_of(t);
-    put_row(
-        value,
-        feature,
-        threshold,
-        score,
-        yes,
-        no,
-        i,
-        Row {
-            value: v,
-            feature: 0,
-            threshold: 0.0,
-            score: 0.0,
-            yes: 0,
-            no: 0,
-        },
-    );
-}
-
-// A split node and its two children, n and n + 1, in the node columns.
-pub fn write_split(
-    value: &mut [f64],
-    feature: &mut [u32],
-    threshold: &mut [f64],
-    score: &mut [f64],
-    yes: &mut [u32],
-    no: &mut [u32],
-    w: Wait,
-    t: Totals,
-    f: Totals,
-    q: f64,
-    n: u32,
-)
-    requires { ⌜ LongAll (n + 2) (record { value = now (value); feature = now (feature); threshold = now (threshold); score = now (score); trueChild = now (yes); falseChild = now (no) }) × (w .node < n) × (n + 2 < 4294967296) ⌝ }
-    ensures { λ _. ⌜ _≡_ {A = Columns} (record { value = now (value .exit); feature = now (feature .exit); threshold = now (threshold .exit); score = now (score .exit); trueChild = now (yes .exit); falseChild = now (no .exit) }) (wroteSplit w t f q n (record { value = now (value .entry); feature = now (feature .entry); threshold = now (threshold .entry); score = now (score .entry); trueChild = now (yes .entry); falseChild = now (no .entry) })) ⌝ }
-{
-    let v = criterion::value_of(Totals {
-        sum: w.sum,
-        mass: w.mass,
-    });
-    let k = search::wide(n);
-    put_row(
-        value,
-        feature,
-        threshold,
-        score,
-        yes,
-        no,
-        search::wide(w.node),
-        Row {
-            value: v,
-            feature: w.feature,
-            threshold: w.cut,
-            score: q,
-            yes: n,
-            no: n + 1,
-        },
-    );
-    put_leaf(value, feature, threshold, score, yes, no, k, t);
-    put_leaf(value, feature, threshold, score, yes, no, k + 1, f);
 }
 
 // A node split: the true side's rows now lie before mid, the false side's from mid on.
@@ -378,7 +255,7 @@ pub fn split_node(
     let b = h.no;
     let t = a.totals;
     let f = b.totals;
-    write_split(
+    crate::nodes::write_split(
         value,
         feature,
         threshold,

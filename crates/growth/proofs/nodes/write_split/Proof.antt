@@ -1,11 +1,11 @@
--- `growth::write_split` meets its contract: three rows are written, each in its place. Assumes nothing.
+-- `growth::nodes::write_split` meets its contract: three rows are written, each in its place. Assumes nothing.
 use Prim.Native.Nat.{_-_}
 use native.Mathlib.Omega.{arith}
 use mathlib.Core.Path.{_∙_}
 use borrow.Author.Needs.{needs}
 use Rattle.growth.specs.Both.{long-less, wrote}
-use Rattle.growth.proofs.write_split.Statement.{statement}
-use Rattle.growth.proofs.write_split.Tie as tie
+use Rattle.growth.proofs.nodes.write_split.Statement.{statement}
+use Rattle.growth.proofs.nodes.write_split.Tie as tie
 
 value-of-requires : tie.Need-value-of-requires
 value-of-requires c κs = search needs

@@ -1,9 +1,9 @@
--- `growth::put_leaf` meets its contract: a leaf is a row of which only the value is told. Assumes nothing.
+-- `growth::nodes::put_leaf` meets its contract: a leaf is a row of which only the value is told. Assumes nothing.
 use Prim.Native.Nat.{_-_}
 use borrow.Author.Needs.{needs}
 use Rattle.growth.specs.Both.{leaf-is}
-use Rattle.growth.proofs.put_leaf.Statement.{statement}
-use Rattle.growth.proofs.put_leaf.Tie as tie
+use Rattle.growth.proofs.nodes.put_leaf.Statement.{statement}
+use Rattle.growth.proofs.nodes.put_leaf.Tie as tie
 
 value-of-requires : tie.Need-value-of-requires
 value-of-requires c κs = search needs

@@ -1,10 +1,10 @@
--- `growth::put_row` meets its contract: each column gets its field at place i. Assumes nothing.
+-- `growth::nodes::put_row` meets its contract: each column gets its field at place i. Assumes nothing.
 use Prim.Native.Nat.{_-_}
 use mathlib.Core.Path.{refl}
 use borrow.Author.Needs.{needs}
 use Rattle.growth.specs.Rooms.{putRow}
-use Rattle.growth.proofs.put_row.Statement.{statement}
-use Rattle.growth.proofs.put_row.Tie as tie
+use Rattle.growth.proofs.nodes.put_row.Statement.{statement}
+use Rattle.growth.proofs.nodes.put_row.Tie as tie
 
 mul-value : tie.Need-mul-value
 mul-value c = search needs
