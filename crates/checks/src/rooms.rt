@@ -2,7 +2,6 @@
 ghost use mathlib.Core.Path.{_≡_};
 ghost use mathlib.Core.Bool.{true, _&&_};
 ghost use Prim.Native.Nat.{suc, min, max};
-ghost use lib.ListN.{length};
 ghost use lib.Dec.{leb};
 ghost use Rattle.rules.specs.Lent.{Work, Reports, Stack, stack};
 ghost use Rattle.rules.specs.Checks.{shapeIn, workEnough, reportsExact};
