@@ -67,12 +67,12 @@ pub fn shortest_of(
     feature: usize,
     threshold: usize,
     score: usize,
-    on: usize,
-    off: usize,
+    yes: usize,
+    no: usize,
 ) -> usize
-    ensures { λ r. ⌜ r ≡ min value (min feature (min threshold (min score (min on off)))) ⌝ }
+    ensures { λ r. ⌜ r ≡ min value (min feature (min threshold (min score (min yes no)))) ⌝ }
 {
-    let children = least(on, off);
+    let children = least(yes, no);
     let scored = least(score, children);
     let cut = least(threshold, scored);
     let known = least(feature, cut);

@@ -84,16 +84,25 @@ fn fits() {
 
 // ---- a tree of three nodes, over two features
 
-fn tree(feature: u32, on: u32, off: u32) {
+fn tree(feature: u32, yes: u32, no: u32) {
     let values = [5.0, 0.0, 10.0];
     let features = [feature, 0, 0];
     let thresholds = [2.5, 0.0, 0.0];
     let scores = [100.0, 0.0, 0.0];
-    let ons = [on, 0, 0];
-    let offs = [off, 0, 0];
-    let r = tables::check_tree(2, &values, &features, &thresholds, &scores, &ons, &offs);
+    let yeses = [yes, 0, 0];
+    let noes = [no, 0, 0];
+    let r = tables::check_tree(2, &values, &features, &thresholds, &scores, &yeses, &noes);
     tell(number_of(r));
-    let node = tables::read_node(2, &values, &features, &thresholds, &scores, &ons, &offs, 2);
+    let node = tables::read_node(
+        2,
+        &values,
+        &features,
+        &thresholds,
+        &scores,
+        &yeses,
+        &noes,
+        2,
+    );
     tell(node_number(node));
 }
 

@@ -23,11 +23,11 @@ fn wide(n: u32) -> usize
 }
 
 // A split at node k of a tree of n nodes. Its children are widened first: one more than the largest u32 must not wrap.
-fn split_good(features: usize, n: usize, k: usize, feature: u32, on: u32, off: u32) -> bool
-    ensures { λ r. ⌜ r ≡ goodSplit features n k feature on off ⌝ }
+fn split_good(features: usize, n: usize, k: usize, feature: u32, yes: u32, no: u32) -> bool
+    ensures { λ r. ⌜ r ≡ goodSplit features n k feature yes no ⌝ }
 {
-    let y = wide(on);
-    let o = wide(off);
+    let y = wide(yes);
+    let o = wide(no);
     let j = wide(feature);
     if y <= k {
         return false;
@@ -42,13 +42,13 @@ fn split_good(features: usize, n: usize, k: usize, feature: u32, on: u32, off: u
 }
 
 // Node k of a tree of n nodes, by its feature, its true child and its false child.
-pub fn entry_good(features: usize, n: usize, k: usize, feature: u32, on: u32, off: u32) -> bool
-    ensures { λ r. ⌜ r ≡ goodEntry features n k (bare feature on off) ⌝ }
+pub fn entry_good(features: usize, n: usize, k: usize, feature: u32, yes: u32, no: u32) -> bool
+    ensures { λ r. ⌜ r ≡ goodEntry features n k (bare feature yes no) ⌝ }
 {
-    if on == 0 {
-        return off == 0;
+    if yes == 0 {
+        return no == 0;
     }
-    split_good(features, n, k, feature, on, off)
+    split_good(features, n, k, feature, yes, no)
 }
 
 // The n entries from place a on, as a tree.
@@ -60,11 +60,11 @@ pub fn tree_good(
     feature: &[u32],
     threshold: &[f64],
     score: &[f64],
-    on: &[u32],
-    off: &[u32],
+    yes: &[u32],
+    no: &[u32],
 ) -> bool
-    requires { ⌜ Within (columnsOf (now value) (now feature) (now threshold) (now score) (now on) (now off)) a n ⌝ }
-    ensures { λ r. ⌜ r ≡ goodTree features (entriesAt (columnsOf (now (value .entry)) (now (feature .entry)) (now (threshold .entry)) (now (score .entry)) (now (on .entry)) (now (off .entry))) a n) ⌝ }
+    requires { ⌜ Within (columnsOf (now value) (now feature) (now threshold) (now score) (now yes) (now no)) a n ⌝ }
+    ensures { λ r. ⌜ r ≡ goodTree features (entriesAt (columnsOf (now (value .entry)) (now (feature .entry)) (now (threshold .entry)) (now (score .entry)) (now (yes .entry)) (now (no .entry))) a n) ⌝ }
 {
     if n == 0 {
         return false;
@@ -72,7 +72,7 @@ pub fn tree_good(
     let mut k: usize = 0;
     while k < n {
         let at = a + k;
-        if !entry_good(features, n, k, feature[at], on[at], off[at]) {
+        if !entry_good(features, n, k, feature[at], yes[at], no[at]) {
             return false;
         }
         k += 1;
@@ -125,11 +125,11 @@ pub fn trees_good(
     feature: &[u32],
     threshold: &[f64],
     score: &[f64],
-    on: &[u32],
-    off: &[u32],
+    yes: &[u32],
+    no: &[u32],
 ) -> bool
-    requires { ⌜ Lying (tableOf trees (now starts) (columnsOf (now value) (now feature) (now threshold) (now score) (now on) (now off))) ⌝ }
-    ensures { λ r. ⌜ r ≡ every (goodTree features) (treesOf (tableOf trees (now (starts .entry)) (columnsOf (now (value .entry)) (now (feature .entry)) (now (threshold .entry)) (now (score .entry)) (now (on .entry)) (now (off .entry))))) ⌝ }
+    requires { ⌜ Lying (tableOf trees (now starts) (columnsOf (now value) (now feature) (now threshold) (now score) (now yes) (now no))) ⌝ }
+    ensures { λ r. ⌜ r ≡ every (goodTree features) (treesOf (tableOf trees (now (starts .entry)) (columnsOf (now (value .entry)) (now (feature .entry)) (now (threshold .entry)) (now (score .entry)) (now (yes .entry)) (now (no .entry))))) ⌝ }
 {
     let mut t: usize = 0;
     while t < trees {
@@ -137,7 +137,7 @@ pub fn trees_good(
         let a = wide(starts[t]);
         let e = wide(starts[next]);
         let n = e - a;
-        if !tree_good(features, a, n, value, feature, threshold, score, on, off) {
+        if !tree_good(features, a, n, value, feature, threshold, score, yes, no) {
             return false;
         }
         t += 1;
@@ -153,19 +153,19 @@ pub fn forest_good(
     feature: &[u32],
     threshold: &[f64],
     score: &[f64],
-    on: &[u32],
-    off: &[u32],
+    yes: &[u32],
+    no: &[u32],
 ) -> bool
     requires { ⌜ Started trees (now starts) ⌝ }
-    ensures { λ r. ⌜ r ≡ goodForest features (tableOf trees (now (starts .entry)) (columnsOf (now (value .entry)) (now (feature .entry)) (now (threshold .entry)) (now (score .entry)) (now (on .entry)) (now (off .entry)))) ⌝ }
+    ensures { λ r. ⌜ r ≡ goodForest features (tableOf trees (now (starts .entry)) (columnsOf (now (value .entry)) (now (feature .entry)) (now (threshold .entry)) (now (score .entry)) (now (yes .entry)) (now (no .entry)))) ⌝ }
 {
     let n = checks::rooms::shortest_of(
         value.len(),
         feature.len(),
         threshold.len(),
         score.len(),
-        on.len(),
-        off.len(),
+        yes.len(),
+        no.len(),
     );
     if starts_good(trees, starts, n) {
         trees_good(
@@ -176,8 +176,8 @@ pub fn forest_good(
             feature,
             threshold,
             score,
-            on,
-            off,
+            yes,
+            no,
         )
     } else {
         false
@@ -193,10 +193,10 @@ fn tree_verdict(
     feature: &[u32],
     threshold: &[f64],
     score: &[f64],
-    on: &[u32],
-    off: &[u32],
+    yes: &[u32],
+    no: &[u32],
 ) -> u32
-    ensures { λ r. ⌜ r ≡ firstFailed (treeTableTests features (columnsOf (now (value .entry)) (now (feature .entry)) (now (threshold .entry)) (now (score .entry)) (now (on .entry)) (now (off .entry)))) ⌝ }
+    ensures { λ r. ⌜ r ≡ firstFailed (treeTableTests features (columnsOf (now (value .entry)) (now (feature .entry)) (now (threshold .entry)) (now (score .entry)) (now (yes .entry)) (now (no .entry)))) ⌝ }
 {
     if !checks::features_in(features) {
         return 1;
@@ -206,10 +206,10 @@ fn tree_verdict(
         feature.len(),
         threshold.len(),
         score.len(),
-        on.len(),
-        off.len(),
+        yes.len(),
+        no.len(),
     );
-    if !tree_good(features, 0, n, value, feature, threshold, score, on, off) {
+    if !tree_good(features, 0, n, value, feature, threshold, score, yes, no) {
         return 8;
     }
     0
@@ -222,12 +222,12 @@ pub fn check_tree(
     feature: &[u32],
     threshold: &[f64],
     score: &[f64],
-    on: &[u32],
-    off: &[u32],
+    yes: &[u32],
+    no: &[u32],
 ) -> Reply
-    ensures { λ r. ⌜ r ≡ checkTree features (columnsOf (now (value .entry)) (now (feature .entry)) (now (threshold .entry)) (now (score .entry)) (now (on .entry)) (now (off .entry))) ⌝ }
+    ensures { λ r. ⌜ r ≡ checkTree features (columnsOf (now (value .entry)) (now (feature .entry)) (now (threshold .entry)) (now (score .entry)) (now (yes .entry)) (now (no .entry))) ⌝ }
 {
-    let number = tree_verdict(features, value, feature, threshold, score, on, off);
+    let number = tree_verdict(features, value, feature, threshold, score, yes, no);
     checks::reply_of(number)
 }
 
@@ -249,10 +249,10 @@ fn forest_verdict(
     feature: &[u32],
     threshold: &[f64],
     score: &[f64],
-    on: &[u32],
-    off: &[u32],
+    yes: &[u32],
+    no: &[u32],
 ) -> u32
-    ensures { λ r. ⌜ r ≡ firstFailed (forestTableTests features (tableOf trees (now (starts .entry)) (columnsOf (now (value .entry)) (now (feature .entry)) (now (threshold .entry)) (now (score .entry)) (now (on .entry)) (now (off .entry))))) ⌝ }
+    ensures { λ r. ⌜ r ≡ firstFailed (forestTableTests features (tableOf trees (now (starts .entry)) (columnsOf (now (value .entry)) (now (feature .entry)) (now (threshold .entry)) (now (score .entry)) (now (yes .entry)) (now (no .entry))))) ⌝ }
 {
     if !forest_in(features, trees) {
         return 1;
@@ -268,8 +268,8 @@ fn forest_verdict(
         feature,
         threshold,
         score,
-        on,
-        off,
+        yes,
+        no,
     ) {
         return 8;
     }
@@ -285,10 +285,10 @@ pub fn check_forest(
     feature: &[u32],
     threshold: &[f64],
     score: &[f64],
-    on: &[u32],
-    off: &[u32],
+    yes: &[u32],
+    no: &[u32],
 ) -> Reply
-    ensures { λ r. ⌜ r ≡ checkForest features (tableOf trees (now (starts .entry)) (columnsOf (now (value .entry)) (now (feature .entry)) (now (threshold .entry)) (now (score .entry)) (now (on .entry)) (now (off .entry)))) ⌝ }
+    ensures { λ r. ⌜ r ≡ checkForest features (tableOf trees (now (starts .entry)) (columnsOf (now (value .entry)) (now (feature .entry)) (now (threshold .entry)) (now (score .entry)) (now (yes .entry)) (now (no .entry)))) ⌝ }
 {
     let number = forest_verdict(
         features,
@@ -298,19 +298,19 @@ pub fn check_forest(
         feature,
         threshold,
         score,
-        on,
-        off,
+        yes,
+        no,
     );
     checks::reply_of(number)
 }
 
 // ---- a node read out
 
-pub fn node_of(value: f64, feature: u32, threshold: f64, score: f64, on: u32, off: u32) -> Node
-    ensures { λ r. ⌜ r ≡ nodeOf (entryIs value feature threshold score on off) ⌝ }
+pub fn node_of(value: f64, feature: u32, threshold: f64, score: f64, yes: u32, no: u32) -> Node
+    ensures { λ r. ⌜ r ≡ nodeOf (entryIs value feature threshold score yes no) ⌝ }
 {
-    if on == 0 {
-        if off == 0 {
+    if yes == 0 {
+        if no == 0 {
             let kind = Kind::Leaf;
             return Node { value, kind };
         }
@@ -319,7 +319,7 @@ pub fn node_of(value: f64, feature: u32, threshold: f64, score: f64, on: u32, of
     let fork = Fork {
         cut,
         score,
-        children: on,
+        children: yes,
     };
     let kind = Kind::Split(fork);
     Node { value, kind }
@@ -332,13 +332,13 @@ pub fn read_node(
     feature: &[u32],
     threshold: &[f64],
     score: &[f64],
-    on: &[u32],
-    off: &[u32],
+    yes: &[u32],
+    no: &[u32],
     k: usize,
 ) -> NodeReply
-    ensures { λ r. ⌜ r ≡ readNode features (columnsOf (now (value .entry)) (now (feature .entry)) (now (threshold .entry)) (now (score .entry)) (now (on .entry)) (now (off .entry))) k ⌝ }
+    ensures { λ r. ⌜ r ≡ readNode features (columnsOf (now (value .entry)) (now (feature .entry)) (now (threshold .entry)) (now (score .entry)) (now (yes .entry)) (now (no .entry))) k ⌝ }
 {
-    let number = tree_verdict(features, value, feature, threshold, score, on, off);
+    let number = tree_verdict(features, value, feature, threshold, score, yes, no);
     if number != 0 {
         return NodeReply::Refused(number);
     }
@@ -347,12 +347,12 @@ pub fn read_node(
         feature.len(),
         threshold.len(),
         score.len(),
-        on.len(),
-        off.len(),
+        yes.len(),
+        no.len(),
     );
     if n <= k {
         return NodeReply::Missing;
     }
-    let node = node_of(value[k], feature[k], threshold[k], score[k], on[k], off[k]);
+    let node = node_of(value[k], feature[k], threshold[k], score[k], yes[k], no[k]);
     NodeReply::Read(node)
 }

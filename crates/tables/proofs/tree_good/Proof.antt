@@ -14,13 +14,13 @@ use Rattle.tables.proofs.tree_good.Statement.{statement}
 use Rattle.tables.proofs.tree_good.Tie as tie
 
 abbrev Inv-loop : tie.InvT-loop
-Inv-loop features a n value feature threshold score on off k₀ k = (k ≤ n) × (goodTree features (entriesAt (columnsOf value feature threshold score on off) a n) ≡ goodOn features (columnsOf value feature threshold score on off) a n k)
+Inv-loop features a n value feature threshold score trues falses k₀ k = (k ≤ n) × (goodTree features (entriesAt (columnsOf value feature threshold score trues falses) a n) ≡ goodOn features (columnsOf value feature threshold score trues falses) a n k)
 
 abbrev μ-loop : tie.MeasureT-loop
-μ-loop features a n value feature threshold score on off k₀ k = n - k
+μ-loop features a n value feature threshold score trues falses k₀ k = n - k
 
 abbrev columns : tie.Start Inv-loop μ-loop → Columns
-columns s = columnsOf (now (s .args .value)) (now (s .args .feature)) (now (s .args .threshold)) (now (s .args .score)) (now (s .args .on)) (now (s .args .off))
+columns s = columnsOf (now (s .args .value)) (now (s .args .feature)) (now (s .args .threshold)) (now (s .args .score)) (now (s .args .yes)) (now (s .args .no))
 
 returns : tie.Need-returns Inv-loop μ-loop
 returns c = let s = c .before .before .before .before .before .before .before in tree-none (s .args .features) (columns s) (s .args .a) (s .args .n) (c .if1 .taken)

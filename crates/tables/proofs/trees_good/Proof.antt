@@ -26,13 +26,13 @@ within : (a e x y n : ℕ) → a ≡ x → e ≡ y → x < y → y ≤ n → a +
 within a e x y n p q h g = omega arith
 
 abbrev Inv-loop : tie.InvT-loop
-Inv-loop features trees starts value feature threshold score on off t₀ t = (t ≤ trees) × (every (goodTree features) (treesOf (tableOf trees starts (columnsOf value feature threshold score on off))) ≡ everyOn (goodAt features (columnsOf value feature threshold score on off) starts) trees t)
+Inv-loop features trees starts value feature threshold score trues falses t₀ t = (t ≤ trees) × (every (goodTree features) (treesOf (tableOf trees starts (columnsOf value feature threshold score trues falses))) ≡ everyOn (goodAt features (columnsOf value feature threshold score trues falses) starts) trees t)
 
 abbrev μ-loop : tie.MeasureT-loop
-μ-loop features trees starts value feature threshold score on off t₀ t = trees - t
+μ-loop features trees starts value feature threshold score trues falses t₀ t = trees - t
 
 abbrev columns : tie.Start Inv-loop μ-loop → Columns
-columns s = columnsOf (now (s .args .value)) (now (s .args .feature)) (now (s .args .threshold)) (now (s .args .score)) (now (s .args .on)) (now (s .args .off))
+columns s = columnsOf (now (s .args .value)) (now (s .args .feature)) (now (s .args .threshold)) (now (s .args .score)) (now (s .args .yes)) (now (s .args .no))
 
 abbrev table : tie.Start Inv-loop μ-loop → ForestTable
 table s = tableOf (s .args .trees) (now (s .args .starts)) (columns s)
