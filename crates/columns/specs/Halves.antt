@@ -1,24 +1,21 @@
 -- A split of every column: columns that hold the same rows are parted alike, by the test that set the flags, and the two sides are the children's columns. Assumes nothing.
 use Prim.Native.Nat.{ℕ, zero, suc, _+_, _-_, _*_, _<_, _≤_}
-use native.Mathlib.Nat.{zero-add}
 use native.Mathlib.Decide.{ℕ-discrete}
 use native.Mathlib.Omega.{arith}
 use mathlib.Core.Path.{_≡_, refl, sym, ap, _∙_, subst}
 use mathlib.Core.Logic.{_⊎_, inl, inr}
 use mathlib.Core.Bool.{Bool, true, false, not, cond}
-use mathlib.Core.List.{List, [], _∷_, _++_, map, map-map}
+use mathlib.Core.List.{List, [], _∷_, _++_, map}
 use lib.Ieee.{Float}
-use lib.ListN.{length, getD, set, take, drop, length-set}
+use lib.ListN.{length, set, take, drop, length-set}
 use lib.Seq.{getD-set-same, getD-set-other, take-at, drop-at, take-all}
 use Rattle.rules.specs.declared.Cut.{Cut}
-use Rattle.rules.specs.Words.{from, keep, putIf, total, stretch}
-use Rattle.rules.specs.Totals.{empty}
-use Rattle.rules.specs.Search.{Element, totals, tally, goesTrue, same, sideOf}
+use Rattle.rules.specs.Words.{keep, putIf, total, stretch}
+use Rattle.rules.specs.Search.{Element, tally}
 use Rattle.rules.specs.Fit.{elementIn}
-use Rattle.rules.specs.Growth.{Waiting, child}
-use Rattle.laws.specs.Lists.{Every, every-imp, every-append, every-keep, map-same, keep-map, total-keep, length-total, getD-from, from-below}
+use Rattle.laws.specs.Lists.{Every, every-imp, every-append, every-keep, total-keep, length-total}
 use Rattle.columns.specs.declared.Sides.{Sides}
-use Rattle.columns.specs.Columns.{part, changed, inColumns, columnsAt, flagged, fails, parted, partedColumns, ColumnsAsk}
+use Rattle.columns.specs.Columns.{part, changed, inColumns, flagged, fails, parted, partedColumns, ColumnsAsk}
 use Rattle.columns.specs.Split.{Alike, goes, sidesOf, marked, PassAsks, PassDone, SplitAsks, SplitDone}
 use Rattle.columns.specs.Fronts.{keep-both, parted-long}
 use Rattle.columns.specs.Stretches.{column-end, Keeps, part-in, part-join, part-long, part-every, in-long, in-later, in-beside, in-here}
@@ -198,13 +195,6 @@ module _ (rows features a e : ℕ) (values targets weights : List Float) (counts
 
 -- ---- after a split
 
--- one side of every column, as rows and as elements
-side-columns : (el : ℕ → Element) (c : Cut) (b : Bool → Bool) (n : ℕ) (old new : ℕ → List ℕ) → ((k : ℕ) → k < n → new k ≡ keep (λ r. b (goes el c r)) (old k))
-    → map (λ k. map el (new k)) (from 0 n) ≡ map (sideOf b c) (map (λ k. map el (old k)) (from 0 n))
-side-columns el c b n old new h =
-    map-same _ _ (from 0 n) (every-imp _ _ (λ k u. ap (map el) (h k (omega arith)) ∙ sym (keep-map (λ e. b (goesTrue c e)) el (old k))) (from 0 n) (from-below 0 n))
-    ∙ sym (map-map (sideOf b c) (λ k. map el (old k)) (from 0 n))
-
 module _ (rows features a e : ℕ) (values targets weights : List Float) (counts : List ℕ) (c : Cut) (before after : List ℕ) (scratch : ℕ) (flags flags′ : List Bool) (s : Sides)
     (q : SplitAsks rows features a e values targets weights counts c before scratch (length flags))
     (d : SplitDone rows features a e (elementIn features values targets weights counts) c before after flags flags′ s) where
@@ -266,46 +256,3 @@ module _ (rows features a e : ℕ) (values targets weights : List Float) (counts
     where
       mine : Every Q (part rows k a e before)
       mine = part-every Q rows k 0 n a e before (omega arith) g (q .order) z
-
-  -- the children's columns
-  pub true-columns : columnsAt el rows features a (a + s .rows) after ≡ map (sideOf same c) (columnsAt el rows features a e before)
-  unfolding columnsAt
-  true-columns = side-columns el c same features (λ k. part rows k a e before) (λ k. part rows k a (a + s .rows) after) true-part
-
-  pub false-columns : columnsAt el rows features (a + s .rows) e after ≡ map (sideOf not c) (columnsAt el rows features a e before)
-  unfolding columnsAt
-  false-columns = side-columns el c not features (λ k. part rows k a e before) (λ k. part rows k (a + s .rows) e after) false-part
-
-  -- and the children, of a node that these columns stand for
-  module _ (w : Waiting) (cut-is : w .cut ≡ c) (columns-are : w .task .columns ≡ columnsAt el rows features a e before) where
-    column-is : getD (w .task .columns) (w .cut .feature) [] ≡ map el (part rows (c .feature) a e before)
-    unfolding columnsAt
-    column-is =
-        (λ i. getD (columns-are i) (cut-is i .feature) [])
-        ∙ getD-from (λ k. map el (part rows k a e before)) 0 features (c .feature) [] (q .known) ∙ ap (λ k. map el (part rows k a e before)) (zero-add (c .feature))
-
-    pub true-child : child same w ≡ record { columns = columnsAt el rows features a (a + s .rows) after; totals = s .yes .totals; count = s .yes .count }
-    unfolding child
-    true-child =
-        (λ i.
-        record {
-          columns = map (sideOf same (cut-is i)) (columns-are i);
-          totals = totals empty (sideOf same (cut-is i) (column-is i));
-          count = tally (sideOf same (cut-is i) (column-is i));
-        })
-        ∙ (λ i. record { columns = sym true-columns i; totals = sym (d .sides) i .yes .totals; count = sym (d .sides) i .yes .count })
-
-    pub false-child : child not w ≡ record { columns = columnsAt el rows features (a + s .rows) e after; totals = s .no .totals; count = s .no .count }
-    unfolding child
-    false-child =
-        (λ i.
-        record {
-          columns = map (sideOf not (cut-is i)) (columns-are i);
-          totals = totals empty (sideOf not (cut-is i) (column-is i));
-          count = tally (sideOf not (cut-is i) (column-is i));
-        })
-        ∙ (λ i. record { columns = sym false-columns i; totals = sym (d .sides) i .no .totals; count = sym (d .sides) i .no .count })
-
-    -- its score takes these
-    pub whole-totals : totals empty (getD (w .task .columns) (w .cut .feature) []) ≡ s .all
-    whole-totals = ap (totals empty) column-is ∙ sym (ap (λ (z : Sides). z .all) (d .sides))

@@ -12,4 +12,3 @@ pub mod Setup
 pub mod Kept
 pub mod Pass
 pub mod Halves
-pub mod Ripe

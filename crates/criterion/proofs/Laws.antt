@@ -1,11 +1,11 @@
 -- A row's mass, and whether it is kept, by what the code tests: whether there are weights, and whether the count is 0. Assumes nothing.
-use Prim.Native.Nat.{ℕ, zero, suc, _<_}
+use Prim.Native.Nat.{ℕ, suc, _<_}
 use native.Mathlib.Omega.{arith}
-use mathlib.Core.Path.{_≡_, refl, sym, ap, _∙_, subst}
-use mathlib.Core.Bool.{Bool, true, false, not, _&&_, _||_, cond}
+use mathlib.Core.Path.{_≡_, refl, sym, ap}
+use mathlib.Core.Bool.{true, false, _&&_, _||_, cond}
 use mathlib.Core.List.{List, [], _∷_}
 use lib.ListN.{length, getD}
-use lib.Dec.{T, ltb, lt→ltb, nltb→le}
+use lib.Dec.{ltb, lt→ltb}
 use lib.Ieee.{Float, nan, binary64, mul, lt}
 use Rattle.rules.specs.Words.{nought, float}
 use Rattle.rules.specs.Lent.{unweighted, countIn, massIn, keptIn}

@@ -1,6 +1,6 @@
 -- The rooms of a growth, and what they stand for: the waiting list is read off the two lists of arrays and the work columns; a node column is the nodes' field, then what it held.
 -- Definitions only. Assumes nothing.
-use Prim.Native.Nat.{ℕ, zero, suc, _+_, _-_, _<_, _≤_}
+use Prim.Native.Nat.{ℕ, zero, suc, _+_, _<_, _≤_}
 use mathlib.Core.Path.{_≡_}
 use mathlib.Core.List.{List, [], _∷_, _++_}
 use lib.ListN.{length, getD, set}

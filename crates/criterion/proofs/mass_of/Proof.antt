@@ -1,5 +1,5 @@
 -- `criterion::mass_of` meets its contract: by whether there are weights. Assumes nothing.
-use mathlib.Core.Path.{_∙_, ap}
+use mathlib.Core.Path.{_∙_}
 use lib.Ieee.{nan, binary64, mul}
 use lib.ListN.{getD}
 use Rattle.criterion.proofs.Laws.{some-long, mass-alone, mass-weighed}

@@ -1,6 +1,5 @@
 -- `criterion::weight_good` meets its contract: finite, and not below 0. Assumes nothing.
-use mathlib.Core.Path.{sym, ap, _∙_}
-use mathlib.Core.Bool.{not, _&&_}
+use mathlib.Core.Path.{sym}
 use Rattle.rules.specs.Checks.{goodWeight}
 use borrow.Author.Needs.{needs}
 use Rattle.criterion.proofs.weight_good.Statement.{statement}

@@ -1,5 +1,4 @@
 -- `grows::grow_tree` meets its contract: the root is written and searched, and then all that waits is split. Assumes nothing.
-use Prim.Native.Nat.{_-_}
 use native.Mathlib.Omega.{arith}
 use mathlib.Core.Path.{_∙_}
 use borrow.Author.Needs.{needs}

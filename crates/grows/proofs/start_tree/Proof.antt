@@ -1,5 +1,4 @@
 -- `grows::start_tree` meets its contract: the root is searched as a child is, if something is kept. Assumes nothing.
-use Prim.Native.Nat.{_-_}
 use borrow.Author.Needs.{needs}
 use Rattle.grows.specs.Tree.{start-asks, start-some, start-none}
 use Rattle.grows.proofs.start_tree.Statement.{statement}

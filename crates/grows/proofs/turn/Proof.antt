@@ -1,5 +1,4 @@
 -- `grows::turn` meets its contract: the top of the waiting list is split, and its children are searched: one step of the stack. Assumes nothing.
-use Prim.Native.Nat.{_-_}
 use native.Mathlib.Omega.{arith}
 use borrow.Author.Needs.{needs}
 use Rattle.grows.specs.Turns.{top-room, code-split, code-mid, code-level, code-asks, code-stop, code-goes}

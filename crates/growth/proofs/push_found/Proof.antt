@@ -1,5 +1,4 @@
 -- `growth::push_found` meets its contract: what the search found decides: nothing changes, or one more waits at the end of the list. Assumes nothing.
-use Prim.Native.Nat.{_-_}
 use borrow.Author.Needs.{needs}
 use Rattle.growth.specs.Steps.{push-none, push-uncut, push-cut}
 use Rattle.growth.proofs.push_found.Statement.{statement}

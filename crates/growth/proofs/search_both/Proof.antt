@@ -1,5 +1,4 @@
 -- `growth::search_both` meets its contract: the false child is searched after the true one, with what the true one left of the tapes. Assumes nothing.
-use Prim.Native.Nat.{_-_}
 use borrow.Author.Needs.{needs}
 use Rattle.growth.specs.Both.{second-asks, both-stop, both-goes}
 use Rattle.growth.proofs.search_both.Statement.{statement}

@@ -1,5 +1,4 @@
 -- `growth::search_child` meets its contract: a child is searched if the level is below the limit and the count reaches the least split. Assumes nothing.
-use Prim.Native.Nat.{_-_}
 use borrow.Author.Needs.{needs}
 use Rattle.growth.specs.Steps.{node-at, ask-deep, ask-small, ask-goes}
 use Rattle.growth.proofs.search_child.Statement.{statement}

@@ -1,5 +1,4 @@
 -- `growth::split_node` meets its contract: the columns are split first, then three nodes are written. Assumes nothing.
-use Prim.Native.Nat.{_-_}
 use borrow.Author.Needs.{needs}
 use Rattle.growth.specs.Both.{halve-at, halved-at}
 use Rattle.growth.proofs.split_node.Statement.{statement}

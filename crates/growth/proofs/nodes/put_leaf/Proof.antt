@@ -1,5 +1,4 @@
 -- `growth::nodes::put_leaf` meets its contract: a leaf is a row of which only the value is told. Assumes nothing.
-use Prim.Native.Nat.{_-_}
 use borrow.Author.Needs.{needs}
 use Rattle.growth.specs.Both.{leaf-is}
 use Rattle.growth.proofs.nodes.put_leaf.Statement.{statement}

@@ -1,5 +1,4 @@
 -- `growth::nodes::put_row` meets its contract: each column gets its field at place i. Assumes nothing.
-use Prim.Native.Nat.{_-_}
 use mathlib.Core.Path.{refl}
 use borrow.Author.Needs.{needs}
 use Rattle.growth.specs.Rooms.{putRow}

@@ -1,5 +1,4 @@
 -- `growth::nodes::write_split` meets its contract: three rows are written, each in its place. Assumes nothing.
-use Prim.Native.Nat.{_-_}
 use native.Mathlib.Omega.{arith}
 use mathlib.Core.Path.{_∙_}
 use borrow.Author.Needs.{needs}
