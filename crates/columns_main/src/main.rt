@@ -1,4 +1,4 @@
-// Set-up and split on small tables: what they leave in the columns, and the totals. Written out and compared with the file `stdout`.
+// Rooms filled with zero, set-up and split on small tables: what they leave in the columns, and the totals. Written out and compared with the file `stdout`.
 use rules::Cut;
 
 fn line() {
@@ -100,7 +100,28 @@ fn split() {
     show(&cols);
 }
 
+fn fills() {
+    let mut reals = [1.5, 2.5];
+    columns::zero_f64(&mut reals);
+    tell(reals[1] == 0.0);
+    let mut flags = [true, true];
+    columns::zero_bool(&mut flags);
+    tell(!flags[1]);
+    let mut rows = [7u32, 8, 9];
+    columns::zero_u32(&mut rows);
+    show(&rows);
+    let mut wholes = [[1u32; 6]; 2];
+    columns::zero_wholes(&mut wholes);
+    let last = wholes[1];
+    show(&last);
+    let mut triples = [[1.0; 3]; 2];
+    columns::zero_reals(&mut triples);
+    let triple = triples[1];
+    tell(triple[2] == 0.0);
+}
+
 fn main() {
+    fills();
     partition();
     kept();
     root();
