@@ -247,8 +247,8 @@ demand3 W K C E R R′ like h h′ =
 
     same : grownTree C ≡ grownTree (over C E)
     same =
-        let p = tree-passed K C R q .0 in
-        let p′ = tree-passed K (over C E) R′ q′ .0 in
+        let p = tree-passed K C R q .passed in
+        let p′ = tree-passed K (over C E) R′ q′ .passed in
         fit-same (frameOf C) (C .given .inputs) E
         (accepted (C .shape) 1 (C .given) p (frameOf C) (tree-framed C p))
         (accepted (C .shape) 1 (over C E .given) p′ (frameOf C) (tree-framed (over C E) p′))

@@ -54,7 +54,7 @@ module _ {W : Type 0} (K : Waits W) where
       → Listed (frameOf C) (C .given .inputs) × (0 < frameOf C .params .features)
   unfolding frameOf paramsOf
   tree-listed C R held q =
-      let p = tree-passed K C R q .0 in
+      let p = tree-passed K C R q .passed in
       (listed-right (C .shape) 1 (C .given) p (frameOf C) (tree-framed C p) held, p .someFeatures)
 
 -- ---- a forest

@@ -5,6 +5,7 @@ pub mod Stack
 pub mod Values
 pub mod Cuts
 pub mod Room
+pub mod Spent
 pub mod Splits
 pub mod Root
 pub mod Passed

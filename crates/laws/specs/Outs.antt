@@ -1,4 +1,6 @@
--- Laws of answers that a bad draw may cut short. `Then m Q`: Q holds of the answer, if there is one. Assumes nothing.
+-- Laws of answers that a bad draw may cut short. `Ends m Q B`: Q holds of the answer, or B of the search at which the draw was bad.
+-- `Then m Q`: Q holds of the answer, if there is one. Assumes nothing.
+use Prim.Native.Nat.{ℕ}
 use mathlib.Core.Path.{_≡_, refl, subst}
 use Rattle.rules.specs.Draws.{Out, bad, ok, bind}
 
@@ -7,15 +9,27 @@ unfolding bind
 bind-assoc (bad n) f g = refl
 bind-assoc (ok a) f g = refl
 
+abbrev pub Ends {ℓ} : {A : Type ℓ} → Out A → (A → Type 0) → (ℕ → Type 0) → Type 0
+Ends (bad n) Q B = B n
+Ends (ok a) Q B = Q a
+
 abbrev pub Then {ℓ} : {A : Type ℓ} → Out A → (A → Type 0) → Type 0
-Then (bad n) Q = Unit {0}
-Then (ok a) Q = Q a
+Then m Q = Ends m Q (λ n. Unit {0})
+
+-- of the answer alone
+pub then-ends {ℓ} : {A : Type ℓ} (m : Out A) (Q : A → Type 0) (B : ℕ → Type 0) → Ends m Q B → Then m Q
+then-ends (bad n) Q B h = tt
+then-ends (ok a) Q B h = h
 
 -- through the next step
-pub then-then {ℓ κ} : {A : Type ℓ} {B : Type κ} (m : Out A) (f : A → Out B) (Q : A → Type 0) (R : B → Type 0) → Then m Q → ((a : A) → Q a → Then (f a) R) → Then (bind m f) R
+pub ends-then {ℓ κ} : {A : Type ℓ} {C : Type κ} (m : Out A) (f : A → Out C) (Q : A → Type 0) (R : C → Type 0) (B : ℕ → Type 0)
+    → Ends m Q B → ((a : A) → Q a → Ends (f a) R B) → Ends (bind m f) R B
 unfolding bind
-then-then (bad n) f Q R h k = tt
-then-then (ok a) f Q R h k = k a h
+ends-then (bad n) f Q R B h k = h
+ends-then (ok a) f Q R B h k = k a h
+
+pub then-then {ℓ κ} : {A : Type ℓ} {B : Type κ} (m : Out A) (f : A → Out B) (Q : A → Type 0) (R : B → Type 0) → Then m Q → ((a : A) → Q a → Then (f a) R) → Then (bind m f) R
+then-then m f Q R h k = ends-then m f Q R (λ n. Unit {0}) h k
 
 -- whatever the answer is
 pub then-any {ℓ κ} : {A : Type ℓ} {B : Type κ} (m : Out A) (f : A → Out B) (R : B → Type 0) → ((a : A) → Then (f a) R) → Then (bind m f) R
@@ -23,9 +37,12 @@ unfolding bind
 then-any (bad n) f R k = tt
 then-any (ok a) f R k = k a
 
+pub ends-both {ℓ} : {A : Type ℓ} (m : Out A) (Q R : A → Type 0) (B : ℕ → Type 0) → Ends m Q B → Then m R → Ends m (λ a. Q a × R a) B
+ends-both (bad n) Q R B h k = h
+ends-both (ok a) Q R B h k = (h, k)
+
 pub then-both {ℓ} : {A : Type ℓ} (m : Out A) (Q R : A → Type 0) → Then m Q → Then m R → Then m (λ a. Q a × R a)
-then-both (bad n) Q R h k = tt
-then-both (ok a) Q R h k = (h, k)
+then-both m Q R h k = ends-both m Q R (λ n. Unit {0}) h k
 
 pub then-after {ℓ} : {A : Type ℓ} (m : Out A) (Q R : A → Type 0) → Then m Q → ((a : A) → Q a → R a) → Then m R
 then-after (bad n) Q R h k = tt
@@ -38,6 +55,10 @@ always (ok a) Q h = h a
 -- of a known answer
 pub then-of {ℓ} : {A : Type ℓ} (Q : A → Type 0) (m : Out A) (a : A) → m ≡ ok a → Then m Q → Q a
 then-of Q m a e h = subst (λ x. Then x Q) e h
+
+-- and of a known bad draw
+pub ends-bad {ℓ} : {A : Type ℓ} (Q : A → Type 0) (B : ℕ → Type 0) (m : Out A) (n : ℕ) → m ≡ bad n → Ends m Q B → B n
+ends-bad Q B m n e h = subst (λ x. Ends x Q B) e h
 
 -- two ways on that agree
 pub bind-all {ℓ κ} : {A : Type ℓ} {B : Type κ} (m : Out A) (f g : A → Out B) → ((a : A) → f a ≡ g a) → bind m f ≡ bind m g

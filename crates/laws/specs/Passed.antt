@@ -60,7 +60,9 @@ and5 a b c d e t = let (w, x, y, z) = and4 b c d e (and-r a (b && (c && (d && e)
 
 pub record Passed (S : Shape) (trees : ℕ) (G : Given) : Type 0 where
   pub someRows : 1 ≤ S .rows
+  pub fewRows : S .rows ≤ 65535
   pub someFeatures : 1 ≤ S .features
+  pub fewFeatures : S .features ≤ 1024
   pub valuesLong : length (G .inputs .values) ≡ S .rows * S .features
   pub targetsLong : length (G .inputs .targets) ≡ S .rows
   pub weightsLong : unweighted (G .weights) ≡ false → length (G .weights) ≡ S .rows
@@ -82,7 +84,9 @@ from-tests S trees G i l n c g =
     let (n₁, n₂, n₃) = and3 (every finite (G .inputs .values)) (every finite (G .inputs .targets)) (every goodWeight (G .weights)) n in
     record {
       someRows = leb→le 1 (S .rows) (and-l (leb 1 (S .rows)) (leb (S .rows) 65535) r);
+      fewRows = leb→le (S .rows) 65535 (and-r (leb 1 (S .rows)) (leb (S .rows) 65535) r);
       someFeatures = leb→le 1 (S .features) (and-l (leb 1 (S .features)) (leb (S .features) 1024) f);
+      fewFeatures = leb→le (S .features) 1024 (and-r (leb 1 (S .features)) (leb (S .features) 1024) f);
       valuesLong = eqb→eq (length (G .inputs .values)) (S .rows * S .features) l₁;
       targetsLong = eqb→eq (length (G .inputs .targets)) (S .rows) l₂;
       weightsLong = λ u. eqb→eq (length (G .weights)) (S .rows) (or-other (unweighted (G .weights)) (eqb (length (G .weights)) (S .rows)) u l₃);
@@ -96,14 +100,18 @@ from-tests S trees G i l n c g =
     }
 
 module _ {W : Type 0} (K : Waits W) where
-  pub tree-passed : (C : TreeCall) (R : TreeRooms W) → firstFailed (treeTests K C R) ≡ 0 → Passed (C .shape) 1 (C .given) × (roomFor (frameOf C) ≤ shortest (R .nodes))
+  pub record TreePassed (C : TreeCall) (R : TreeRooms W) : Type 0 where
+    pub passed : Passed (C .shape) 1 (C .given)
+    pub room : roomFor (frameOf C) ≤ shortest (R .nodes)
+    pub work : T (workEnough K (C .shape) (R .work))
+
+  pub tree-passed : (C : TreeCall) (R : TreeRooms W) → firstFailed (treeTests K C R) ≡ 0 → TreePassed C R
   unfolding treeTests
   tree-passed C R h₁ =
       let (t₁, h₂) = past 0 _ _ h₁ in let (t₂, h₃) = past 1 _ _ h₂ in let (t₃, h₄) = past 2 _ _ h₃ in
-      let (t₄, h₅) = past 3 _ _ h₄ in let (t₅, h₆) = past 4 _ _ h₅ in let (t₆, h₇) = past 5 _ _ h₆ in (
-        from-tests (C .shape) 1 (C .given) t₁ t₂ t₃ t₄ t₅,
-        leb→le (roomFor (frameOf C)) (shortest (R .nodes)) (and-l (leb (roomFor (frameOf C)) (shortest (R .nodes))) (workEnough K (C .shape) (R .work)) t₆),
-      )
+      let (t₄, h₅) = past 3 _ _ h₄ in let (t₅, h₆) = past 4 _ _ h₅ in let (t₆, h₇) = past 5 _ _ h₆ in
+      let (a, b) = and2 (leb (roomFor (frameOf C)) (shortest (R .nodes))) (workEnough K (C .shape) (R .work)) t₆ in
+      record { passed = from-tests (C .shape) 1 (C .given) t₁ t₂ t₃ t₄ t₅; room = leb→le (roomFor (frameOf C)) (shortest (R .nodes)) a; work = b }
 
   -- what a forest's checks say besides
   pub record ForestPassed (C : ForestCall) (R : ForestRooms W) : Type 0 where

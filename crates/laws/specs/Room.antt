@@ -10,7 +10,7 @@ use Rattle.rules.specs.declared.Params.{Params}
 use Rattle.rules.specs.Words.{keep, total}
 use Rattle.rules.specs.Draws.{Out}
 use Rattle.rules.specs.Search.{Element, Task, goesTrue, same, Found, uncut, cut}
-use Rattle.rules.specs.Growth.{Waiting, State, child, withChildren, joins, searchable, searchIf, expand, fromRoot}
+use Rattle.rules.specs.Growth.{Waiting, State, child, leafOf, withChildren, joins, searchable, searchIf, expand, fromRoot}
 use Rattle.laws.specs.Lists.{Every, every-append, getD-keep, total-append, total-sides}
 use Rattle.laws.specs.Outs.{Then, then-then, then-after}
 use Rattle.laws.specs.Stack.{children-length, root-keep}
@@ -70,7 +70,7 @@ module _ (P : Params) {S : Type 0} (choose : S → Task → Out (Found × S))
   searchIf-load true n level task s g =
       then-then (choose s task) _ _ _ (fine s task g) (λ r h. (joins-ripe n level task (r .0) g h, joins-load n level task (r .0)))
 
-  abbrev Bounded : ℕ → List Waiting → State S → Type 0
+  abbrev pub Bounded : ℕ → List Waiting → State S → Type 0
   Bounded top ws s = Every (Ripe P) ws × (length (s .nodes) + 2 * load ws ≤ top)
 
   pub expand-bounded : 0 < P .features → (top : ℕ) (w : Waiting) (ws : List Waiting) (s : State S) → w .level < P .limit → Bounded top (w ∷ ws) s
@@ -91,17 +91,22 @@ module _ (P : Params) {S : Type 0} (choose : S → Task → Out (Found × S))
           → n + 2 * ((c - 1) + lw) ≤ top → n′ + 2 * l ≤ top
       room n n′ l lf lt lw a b c h₁ h₂ h₃ h₄ h₅ h₆ = omega arith
 
-  pub room-enough : 0 < P .features → (root : Task) (s : S) → Good P root → Then (fromRoot P choose root s) (λ s′. length (s′ .nodes) ≤ 1 + 2 * (rowsOf root - 1))
-  unfolding total
-  room-enough some root s g =
-      then-after (fromRoot P choose root s) _ _
-      (root-keep P choose (Bounded (1 + 2 * (rowsOf root - 1))) (expand-bounded some (1 + 2 * (rowsOf root - 1))) root s
-      (then-after (searchIf P choose (ltb 0 (root .count) && searchable P 1 root) 0 1 root s) _ _ (searchIf-load _ 0 1 root s g)
-      (λ r q. (q .0, start (load (r .0)) (rowsOf root) (q .1)))))
-      (λ s′ h. last (length (s′ .nodes)) (1 + 2 * (rowsOf root - 1)) (h .1))
+  pub root-bounded : (root : Task) (s : S) → Good P root
+      → Then (searchIf P choose (ltb 0 (root .count) && searchable P 1 root) 0 1 root s)
+      (λ r. Bounded (1 + 2 * (rowsOf root - 1)) (r .0) (record { nodes = leafOf root ∷ []; depth = 0; left = r .1 }))
+  root-bounded root s g =
+      then-after (searchIf P choose (ltb 0 (root .count) && searchable P 1 root) 0 1 root s) _ _ (searchIf-load _ 0 1 root s g)
+      (λ r q. (q .0, start (load (r .0)) (rowsOf root) (q .1)))
     where
       start : (l n : ℕ) → l ≤ n - 1 → 1 + 2 * l ≤ 1 + 2 * (n - 1)
       start l n h = omega arith
 
+  pub room-enough : 0 < P .features → (root : Task) (s : S) → Good P root → Then (fromRoot P choose root s) (λ s′. length (s′ .nodes) ≤ 1 + 2 * (rowsOf root - 1))
+  unfolding total
+  room-enough some root s g =
+      then-after (fromRoot P choose root s) _ _
+      (root-keep P choose (Bounded (1 + 2 * (rowsOf root - 1))) (expand-bounded some (1 + 2 * (rowsOf root - 1))) root s (root-bounded root s g))
+      (λ s′ h. last (length (s′ .nodes)) (1 + 2 * (rowsOf root - 1)) (h .1))
+    where
       last : (n m : ℕ) → n + 2 * 0 ≤ m → n ≤ m
       last n m h = omega arith

@@ -1,5 +1,5 @@
 -- Growth, over any way to choose cuts. `pop`: the waiting list is a stack, its last to join split first, as the paper has it and as a loop goes.
--- `all-keep`: what each split keeps, the whole growth keeps. Assumes nothing.
+-- `all-keep`: what each split keeps, the whole growth keeps. `root-ends`: and what holds of each split's bad draw, holds of the growth's. Assumes nothing.
 use Prim.Native.Nat.{ℕ, zero, suc, _+_, _-_, _<_}
 use native.Mathlib.Omega.{arith}
 use mathlib.Core.Path.{_≡_, refl, sym, ap, _∙_}
@@ -13,7 +13,7 @@ use Rattle.rules.specs.Draws.{Out, bind}
 use Rattle.rules.specs.Search.{Task, Found, uncut, cut, same}
 use Rattle.rules.specs.Growth.{TreeNode, Waiting, State, child, leafOf, splitOf, withChildren, joins, runs, searchable, searchIf, expand, grow, growAll, fromRoot}
 use Rattle.laws.specs.Lists.{Every, every-append, every-imp}
-use Rattle.laws.specs.Outs.{bind-assoc, Then, then-then, then-any, then-both, always, bind-all, bind-same}
+use Rattle.laws.specs.Outs.{bind-assoc, Ends, Then, ends-then, then-then, then-any, ends-both, always, bind-all, bind-same}
 
 pub children-length : (w : Waiting) (ns : List TreeNode) → length (withChildren w ns) ≡ length ns + 2
 unfolding withChildren
@@ -114,19 +114,18 @@ module _ (P : Params) {S : Type 0} (choose : S → Task → Out (Found × S)) wh
 
   -- ---- what each split keeps, the whole growth keeps
 
-  module _ (I : List Waiting → State S → Type 0)
-      (keeps : (w : Waiting) (ws : List Waiting) (s : State S) → w .level < P .limit → I (w ∷ ws) s → Then (expand P choose w s) (λ r. I (r .0 ++ ws) (r .1))) where
+  module _ (I : List Waiting → State S → Type 0) (B : ℕ → Type 0)
+      (keeps : (w : Waiting) (ws : List Waiting) (s : State S) → w .level < P .limit → I (w ∷ ws) s → Ends (expand P choose w s) (λ r. I (r .0 ++ ws) (r .1)) B) where
     Splits : ℕ → Type 0
-    Splits k = (w : Waiting) (ws : List Waiting) (s : State S) → P .limit - w .level ≡ k → w .level < P .limit → I (w ∷ ws) s → Then (grow P choose k w s) (λ s′. I ws s′)
+    Splits k = (w : Waiting) (ws : List Waiting) (s : State S) → P .limit - w .level ≡ k → w .level < P .limit → I (w ∷ ws) s → Ends (grow P choose k w s) (λ s′. I ws s′) B
 
-    runs-keep : (k l : ℕ) → P .limit - l ≡ k → Splits k → (xs ws : List Waiting) (s : State S) → Every (AtLevel l) xs → I (xs ++ ws) s
-        → Then (runs (λ w′ s′. grow P choose k w′ s′) xs s) (λ s′. I ws s′)
+    runs-ends : (k l : ℕ) → P .limit - l ≡ k → Splits k → (xs ws : List Waiting) (s : State S) → Every (AtLevel l) xs → I (xs ++ ws) s
+        → Ends (runs (λ w′ s′. grow P choose k w′ s′) xs s) (λ s′. I ws s′) B
     unfolding runs Splits
-    runs-keep k l q g [] ws s e h = h
-    runs-keep k l q g (x ∷ xs) ws s e h =
-        then-then (grow P choose k x s) _ (λ s′. I (xs ++ ws) s′) (λ s′. I ws s′)
-        (g x (xs ++ ws) s (ap (λ n. P .limit - n) (e .0 .0) ∙ q) (e .0 .1) h)
-        (λ s′ h′. runs-keep k l q g xs ws s′ (e .1) h′)
+    runs-ends k l q g [] ws s e h = h
+    runs-ends k l q g (x ∷ xs) ws s e h =
+        ends-then _ _ _ _ B (g x (xs ++ ws) s (ap (λ n. P .limit - n) (e .0 .0) ∙ q) (e .0 .1) h)
+        (λ s′ h′. runs-ends k l q g xs ws s′ (e .1) h′)
 
     no-room : (l : ℕ) → P .limit - l ≡ 0 → l < P .limit → ⊥
     no-room l e h = omega arith
@@ -134,26 +133,34 @@ module _ (P : Params) {S : Type 0} (choose : S → Task → Out (Found × S)) wh
     less-one : (l k : ℕ) → P .limit - l ≡ suc k → P .limit - suc l ≡ k
     less-one l k e = omega arith
 
-    grow-keep : (k : ℕ) → Splits k
+    grow-ends : (k : ℕ) → Splits k
     unfolding grow Splits
-    grow-keep zero w ws s e b h = absurd (no-room (w .level) e b)
-    grow-keep (suc k) w ws s e b h =
-        then-then (expand P choose w s) _ _ _ (then-both (expand P choose w s) _ _ (keeps w ws s b h) (expand-level w s))
-        (λ r q. runs-keep k (suc (w .level)) (less-one (w .level) k e) (grow-keep k) (r .0) ws (r .1) (q .1) (q .0))
+    grow-ends zero w ws s e b h = absurd (no-room (w .level) e b)
+    grow-ends (suc k) w ws s e b h =
+        ends-then _ _ _ _ B (ends-both (expand P choose w s) _ _ B (keeps w ws s b h) (expand-level w s))
+        (λ r q. runs-ends k (suc (w .level)) (less-one (w .level) k e) (grow-ends k) (r .0) ws (r .1) (q .1) (q .0))
 
-    pub all-keep : (ws : List Waiting) (s : State S) → Every (λ w. w .level < P .limit) ws → I ws s → Then (growAll P choose ws s) (λ s′. I [] s′)
+    all-ends : (ws : List Waiting) (s : State S) → Every (λ w. w .level < P .limit) ws → I ws s → Ends (growAll P choose ws s) (λ s′. I [] s′) B
     unfolding growAll runs Splits
-    all-keep [] s e h = h
-    all-keep (w ∷ ws) s e h =
-        then-then (grow P choose (P .limit - w .level) w s) _ (λ s′. I ws s′) (λ s′. I [] s′)
-        (grow-keep (P .limit - w .level) w ws s refl (e .0) h) (λ s′ h′. all-keep ws s′ (e .1) h′)
+    all-ends [] s e h = h
+    all-ends (w ∷ ws) s e h = ends-then _ _ _ _ B (grow-ends (P .limit - w .level) w ws s refl (e .0) h) (λ s′ h′. all-ends ws s′ (e .1) h′)
 
     -- from the root on: what holds once the root has been searched holds in the end
+    pub root-ends : (root : Task) (s : S)
+        → Ends (searchIf P choose (ltb 0 (root .count) && searchable P 1 root) 0 1 root s) (λ r. I (r .0) (record { nodes = leafOf root ∷ []; depth = 0; left = r .1 })) B
+        → Ends (fromRoot P choose root s) (λ s′. I [] s′) B
+    unfolding fromRoot
+    root-ends root s h =
+        ends-then _ _ _ _ B (ends-both (searchIf P choose (ltb 0 (root .count) && searchable P 1 root) 0 1 root s) _ _ B h (root-level root s))
+        (λ r q. all-ends (r .0) (record { nodes = leafOf root ∷ []; depth = 0; left = r .1 }) (every-imp _ _ (λ v l. l .1) (r .0) (q .1)) (q .0))
+
+  -- of answers alone
+  module _ (I : List Waiting → State S → Type 0)
+      (keeps : (w : Waiting) (ws : List Waiting) (s : State S) → w .level < P .limit → I (w ∷ ws) s → Then (expand P choose w s) (λ r. I (r .0 ++ ws) (r .1))) where
+    pub all-keep : (ws : List Waiting) (s : State S) → Every (λ w. w .level < P .limit) ws → I ws s → Then (growAll P choose ws s) (λ s′. I [] s′)
+    all-keep = all-ends I (λ n. Unit {0}) keeps
+
     pub root-keep : (root : Task) (s : S)
         → Then (searchIf P choose (ltb 0 (root .count) && searchable P 1 root) 0 1 root s) (λ r. I (r .0) (record { nodes = leafOf root ∷ []; depth = 0; left = r .1 }))
         → Then (fromRoot P choose root s) (λ s′. I [] s′)
-    unfolding fromRoot
-    root-keep root s h =
-        then-then (searchIf P choose (ltb 0 (root .count) && searchable P 1 root) 0 1 root s) _ _ _
-        (then-both (searchIf P choose (ltb 0 (root .count) && searchable P 1 root) 0 1 root s) _ _ h (root-level root s))
-        (λ r q. all-keep (r .0) (record { nodes = leafOf root ∷ []; depth = 0; left = r .1 }) (every-imp _ _ (λ v l. l .1) (r .0) (q .1)) (q .0))
+    root-keep = root-ends I (λ n. Unit {0}) keeps
