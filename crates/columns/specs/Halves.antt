@@ -98,16 +98,15 @@ bool-same true b e = sym e
 bool-same false true e = e
 bool-same false false e = refl
 
--- a partition by those flags is the partition by the test, of any list with the same rows
-pub marked-parted : (q : ℕ → Bool) (flags : List Bool) (l m : List ℕ) → Alike l m → Every (λ r. r < length flags) l → parted (flagged (marked q flags l)) m ≡ parted q m
-marked-parted q flags l m h b =
-    λ i. keep-agree q (flagged (marked q flags l)) m right i
-    ++ keep-agree (fails q) (fails (flagged (marked q flags l))) m (every-imp _ _ (λ r e. ap not e) m right) i
+-- a partition by flags that are right for l is the partition by the test, of any list with the same rows
+pub marked-parted : (q : ℕ → Bool) (flags : List Bool) (l m : List ℕ) → Alike l m → Every (λ r. flagged flags r ≡ q r) l → parted (flagged flags) m ≡ parted q m
+marked-parted q flags l m h e =
+    λ i. keep-agree q (flagged flags) m right i ++ keep-agree (fails q) (fails (flagged flags)) m (every-imp _ _ (λ r e. ap not e) m right) i
   where
-    right : Every (λ r. flagged (marked q flags l) r ≡ q r) m
+    right : Every (λ r. flagged flags r ≡ q r) m
     right =
-        every-imp _ _ (λ r e. bool-same (flagged (marked q flags l) r) (q r) e) m
-        (alike-every (λ r. alike-bool (flagged (marked q flags l) r) (q r)) l m h (every-imp _ _ (λ r e. bool-alike (flagged (marked q flags l) r) (q r) e) l (marked-right q l flags b)))
+        every-imp _ _ (λ r e. bool-same (flagged flags r) (q r) e) m
+        (alike-every (λ r. alike-bool (flagged flags r) (q r)) l m h (every-imp _ _ (λ r e. bool-alike (flagged flags r) (q r) e) l e))
 
 -- ---- every column
 
@@ -135,18 +134,10 @@ in-same rows a e g g′ cols (suc n) o h l y s =
 parted-keeps : (p : ℕ → Bool) (n m : ℕ) → Keeps (λ k. parted p) n m
 parted-keeps p n m k h l e = parted-long p l ∙ e
 
--- by the flags that the split column's rows got, or by their test
-pub split-columns : (rows features a e : ℕ) (q : ℕ → Bool) (j : ℕ) (flags : List Bool) (cols : List ℕ) → a ≤ e → e ≤ rows → features * rows ≤ length cols
-    → Every (λ r. r < length flags) (part rows j a e cols) → ((k : ℕ) → k < features → Alike (part rows j a e cols) (part rows k a e cols))
-    → partedColumns rows a e (flagged (marked q flags (part rows j a e cols))) features cols ≡ partedColumns rows a e q features cols
-split-columns rows features a e q j flags cols o h l b s =
-    in-same rows a e (λ k. parted (flagged (marked q flags (part rows j a e cols)))) (λ k. parted q) cols features o h l (parted-keeps q features (e - a))
-    (λ k u. marked-parted q flags (part rows j a e cols) (part rows k a e cols) (s k u) b)
+-- ---- the pass in code, along the split column lent from low to high
 
--- ---- the split in code: the pass along the split column, lent from low to high, then the partition
-
-module _ (rows features a e : ℕ) (values targets weights : List Float) (counts : List ℕ) (c : Cut) (cols : List ℕ) (scratch flags : ℕ)
-    (q : SplitAsks rows features a e values targets weights counts c cols scratch flags) (j : ℕ) (is : j ≡ c .feature) where
+module _ (rows features a e : ℕ) (values targets weights : List Float) (counts : List ℕ) (c : Cut) (cols : List ℕ) (flags : ℕ)
+    (q : SplitAsks rows features a e values targets weights counts c cols flags) (j : ℕ) (is : j ≡ c .feature) where
   abbrev lent : List ℕ
   lent = stretch (j * rows + a) (j * rows + e - (j * rows + a)) cols
 
@@ -170,54 +161,60 @@ module _ (rows features a e : ℕ) (values targets weights : List Float) (counts
         room = q .flagRoom;
       }
 
-  pub columns-ask : {n m : ℕ} → n ≡ scratch → m ≡ flags → ColumnsAsk rows features a e cols n m
-  columns-ask u v =
-      record {
-        long = q .long;
-        order = q .order;
-        high = q .high;
-        room = omega (arith, u, q .scratchRoom);
-        below = λ k h. every-imp _ _ (λ r b. omega (arith, b, v, q .flagRoom)) (part rows k a e cols) (q .below k h);
-      }
-
-  pub split-done : (f f′ : List Bool) (after : List ℕ) (s : Sides) → length f ≡ flags → PassDone (elementIn features values targets weights counts) c lent f f′ s
-      → after ≡ partedColumns rows a e (flagged f′) features cols → SplitDone rows features a e (elementIn features values targets weights counts) c cols after f f′ s
-  split-done f f′ after s n d w =
-      let marks = d .flags ∙ ap (marked (goes (elementIn features values targets weights counts) c) f) lent-is in
+  pub split-done : (f f′ : List Bool) (s : Sides) → length f ≡ flags → PassDone (elementIn features values targets weights counts) c lent f f′ s
+      → SplitDone rows a e (elementIn features values targets weights counts) c cols f′ s
+  split-done f f′ s n d =
       record {
         within = omega (arith, d .within, ap length lent-is, part-long rows features (c .feature) a e cols (q .long) (q .known) (q .order) (q .high));
         sides = d .sides ∙ ap (sidesOf (elementIn features values targets weights counts) c) lent-is;
-        flags = marks;
-        columns = w ∙ ap (λ z. partedColumns rows a e (flagged z) features cols) marks
-            ∙ split-columns rows features a e (goes (elementIn features values targets weights counts) c) (c .feature) f cols (q .order) (q .high) (q .long)
-            (every-imp _ _ (λ r b. omega (arith, b, n, q .flagRoom)) (part rows (c .feature) a e cols) (q .below (c .feature) (q .known))) (q .alike);
+        marks = subst (λ z. Every (λ r. flagged z r ≡ goes (elementIn features values targets weights counts) c r) (part rows (c .feature) a e cols))
+            (sym (d .flags ∙ ap (marked (goes (elementIn features values targets weights counts) c) f) lent-is))
+            (marked-right (goes (elementIn features values targets weights counts) c) (part rows (c .feature) a e cols) f
+            (every-imp _ _ (λ r b. omega (arith, b, n, q .flagRoom)) (part rows (c .feature) a e cols) (q .below (c .feature) (q .known))));
       }
 
--- ---- after a split
+-- ---- the partition by its flags
 
-module _ (rows features a e : ℕ) (values targets weights : List Float) (counts : List ℕ) (c : Cut) (before after : List ℕ) (scratch : ℕ) (flags flags′ : List Bool) (s : Sides)
-    (q : SplitAsks rows features a e values targets weights counts c before scratch (length flags))
-    (d : SplitDone rows features a e (elementIn features values targets weights counts) c before after flags flags′ s) where
+pub columns-ask : (rows features a e : ℕ) (values targets weights : List Float) (counts : List ℕ) (c : Cut) (cols : List ℕ) (scratch flags : ℕ)
+    → SplitAsks rows features a e values targets weights counts c cols flags → rows ≤ scratch → ColumnsAsk rows features a e cols scratch flags
+columns-ask rows features a e values targets weights counts c cols scratch flags q room =
+    record {
+      long = q .long;
+      order = q .order;
+      high = q .high;
+      room = omega (arith, room, q .high);
+      below = λ k h. every-imp _ _ (λ r b. omega (arith, b, q .flagRoom)) (part rows k a e cols) (q .below k h);
+    }
+
+module _ (rows features a e : ℕ) (values targets weights : List Float) (counts : List ℕ) (c : Cut) (before after : List ℕ) (flags : List Bool) (s : Sides)
+    (q : SplitAsks rows features a e values targets weights counts c before (length flags))
+    (d : SplitDone rows a e (elementIn features values targets weights counts) c before flags s) (w : after ≡ partedColumns rows a e (flagged flags) features before) where
   abbrev el : ℕ → Element
   el = elementIn features values targets weights counts
 
+  -- by the flags, or by their test
+  columns : after ≡ partedColumns rows a e (goes el c) features before
+  columns =
+      w ∙ in-same rows a e (λ k. parted (flagged flags)) (λ k. parted (goes el c)) before features (q .order) (q .high) (q .long) (parted-keeps (goes el c) features (e - a))
+      (λ k u. marked-parted (goes el c) flags (part rows (c .feature) a e before) (part rows k a e before) (q .alike k u) (d .marks))
+
   pub split-long : length after ≡ length before
-  split-long = ap length (d .columns) ∙ in-long rows a e (λ k. parted (goes el c)) before (q .order) (q .high) features (q .long) (parted-keeps (goes el c) features (e - a))
+  split-long = ap length columns ∙ in-long rows a e (λ k. parted (goes el c)) before (q .order) (q .high) features (q .long) (parted-keeps (goes el c) features (e - a))
 
   -- what lies beside the node's rows
   pub split-beside : (k b f : ℕ) → (f ≤ a) ⊎ (e ≤ b) → b ≤ f → f ≤ rows → part rows k b f after ≡ part rows k b f before
   split-beside k b f x o h =
-      ap (part rows k b f) (d .columns) ∙ in-beside rows a e (λ k. parted (goes el c)) before (q .order) (q .high) features (q .long) (parted-keeps (goes el c) features (e - a)) k b f x o h
+      ap (part rows k b f) columns ∙ in-beside rows a e (λ k. parted (goes el c)) before (q .order) (q .high) features (q .long) (parted-keeps (goes el c) features (e - a)) k b f x o h
 
   split-here : (k : ℕ) → k < features → part rows k a e after ≡ parted (goes el c) (part rows k a e before)
-  split-here k h = ap (part rows k a e) (d .columns) ∙ in-here rows a e (λ k. parted (goes el c)) before (q .order) (q .high) features (q .long) (parted-keeps (goes el c) features (e - a)) k h
+  split-here k h = ap (part rows k a e) columns ∙ in-here rows a e (λ k. parted (goes el c)) before (q .order) (q .high) features (q .long) (parted-keeps (goes el c) features (e - a)) k h
 
   -- every column has as many rows of the true side
   true-rows : (k : ℕ) → k < features → length (keep (goes el c) (part rows k a e before)) ≡ s .rows
   true-rows k h =
       sym (alike-length _ _ (alike-keep (goes el c) (part rows (c .feature) a e before) (part rows k a e before) (q .alike k h))) ∙ sym (ap (λ (z : Sides). z .rows) (d .sides))
 
-  pub split-inside : a + s .rows ≤ e
+  split-inside : a + s .rows ≤ e
   split-inside = omega (arith, d .within, q .order)
 
   pub true-part : (k : ℕ) → k < features → part rows k a (a + s .rows) after ≡ keep (goes el c) (part rows k a e before)

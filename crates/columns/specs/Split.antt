@@ -13,7 +13,7 @@ use Rattle.rules.specs.Fit.{elementIn}
 use Rattle.laws.specs.Lists.{Every}
 use Rattle.columns.specs.declared.Side.{Side}
 use Rattle.columns.specs.declared.Sides.{Sides}
-use Rattle.columns.specs.Columns.{part, partedColumns, Counted}
+use Rattle.columns.specs.Columns.{part, flagged, Counted}
 
 -- the tables of a fit, by their lengths
 pub record Shaped (rows features : ℕ) (values targets weights : List Float) (counts : List ℕ) : Type 0 where
@@ -82,21 +82,20 @@ pub record PassDone (el : ℕ → Element) (c : Cut) (col : List ℕ) (before af
 abbrev pub Alike : List ℕ → List ℕ → Type 0
 Alike l m = (g : ℕ → ℕ) → total g l ≡ total g m
 
-pub record SplitAsks (rows features a e : ℕ) (values targets weights : List Float) (counts : List ℕ) (c : Cut) (cols : List ℕ) (scratch flags : ℕ) : Type 0 where
+pub record SplitAsks (rows features a e : ℕ) (values targets weights : List Float) (counts : List ℕ) (c : Cut) (cols : List ℕ) (flags : ℕ) : Type 0 where
   pub shaped : Shaped rows features values targets weights counts
   pub few : rows < 4294967296
   pub known : c .feature < features
   pub long : features * rows ≤ length cols
   pub order : a ≤ e
   pub high : e ≤ rows
-  pub scratchRoom : e - a ≤ scratch
   pub flagRoom : rows ≤ flags
   pub below : (k : ℕ) → k < features → Every (λ r. r < rows) (part rows k a e cols)
   pub alike : (k : ℕ) → k < features → Alike (part rows (c .feature) a e cols) (part rows k a e cols)
   pub count : tally (map (elementIn features values targets weights counts) (part rows (c .feature) a e cols)) < 4294967296
 
-pub record SplitDone (rows features a e : ℕ) (el : ℕ → Element) (c : Cut) (before after : List ℕ) (f f′ : List Bool) (s : Sides) : Type 0 where
+-- the sides, and each row's flag
+pub record SplitDone (rows a e : ℕ) (el : ℕ → Element) (c : Cut) (cols : List ℕ) (flags : List Bool) (s : Sides) : Type 0 where
   pub within : s .rows ≤ e - a
-  pub sides : s ≡ sidesOf el c (part rows (c .feature) a e before)
-  pub flags : f′ ≡ marked (goes el c) f (part rows (c .feature) a e before)
-  pub columns : after ≡ partedColumns rows a e (goes el c) features before
+  pub sides : s ≡ sidesOf el c (part rows (c .feature) a e cols)
+  pub marks : Every (λ r. flagged flags r ≡ goes el c r) (part rows (c .feature) a e cols)

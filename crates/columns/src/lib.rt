@@ -329,14 +329,13 @@ pub fn split_pass(
     s
 }
 
-// A node split: its rows, from `start` to `end` of every column, to the side that the cut says.
-pub fn split_columns(
+// The pass of a node whose rows lie from `start` to `end` of every column.
+pub fn split_sides(
     values: &[f64],
     targets: &[f64],
     weights: &[f64],
     counts: &[u32],
-    cols: &mut [u32],
-    scratch: &mut [u32],
+    cols: &[u32],
     flags: &mut [bool],
     rows: usize,
     features: usize,
@@ -344,14 +343,14 @@ pub fn split_columns(
     end: usize,
     cut: Cut,
 ) -> Sides
-    requires { ⌜ SplitAsks rows features start end (now values) (now targets) (now weights) (now counts) cut (now cols) (length (now scratch)) (length (now flags)) ⌝ }
-    ensures { λ r. ⌜ SplitDone rows features start end (elementIn features (now (values .entry)) (now (targets .entry)) (now (weights .entry)) (now (counts .entry))) cut (now (cols .entry)) (now (cols .exit)) (now (flags .entry)) (now (flags .exit)) r ⌝ }
+    requires { ⌜ SplitAsks rows features start end (now values) (now targets) (now weights) (now counts) cut (now cols) (length (now flags)) ⌝ }
+    ensures { λ r. ⌜ SplitDone rows start end (elementIn features (now (values .entry)) (now (targets .entry)) (now (weights .entry)) (now (counts .entry))) cut (now (cols .entry)) (now (flags .exit)) r ⌝ }
 {
     let j = wide(cut.feature);
     let base = j * rows;
     let low = base + start;
     let high = base + end;
-    let s = split_pass(
+    split_pass(
         values,
         targets,
         weights,
@@ -361,7 +360,5 @@ pub fn split_columns(
         rows,
         features,
         cut,
-    );
-    partition_columns(cols, rows, features, start, end, scratch, flags);
-    s
+    )
 }

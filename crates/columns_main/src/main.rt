@@ -71,13 +71,12 @@ fn split() {
         feature: 0,
         threshold: 2.0,
     };
-    let s = columns::split_columns(
+    let s = columns::split_sides(
         &values,
         &targets,
         &spare[0..0],
         &counts,
-        &mut cols,
-        &mut scratch,
+        &cols,
         &mut flags,
         4,
         2,
@@ -85,6 +84,7 @@ fn split() {
         4,
         cut,
     );
+    columns::partition_columns(&mut cols, 4, 2, 0, 4, &mut scratch, &flags);
     let yes = s.yes;
     let no = s.no;
     let t = yes.totals;

@@ -1,6 +1,6 @@
 -- The growth loop: what it asks, what it leaves, and its turns. Assumes nothing.
 use Prim.Native.Nat.{ℕ, suc, _+_, _-_, _*_, _<_, _≤_}
-use native.Mathlib.Nat.{le-refl}
+use native.Mathlib.Nat.{le-refl, le-trans}
 use native.Mathlib.Omega.{arith}
 use mathlib.Core.Path.{_≡_, refl, sym, ap, _∙_, subst}
 use mathlib.Core.List.{List, _∷_, _++_}
@@ -121,26 +121,31 @@ module _ (g : Ground) (P : Params) (W : List ℕ) (top sc fl : ℕ) (c : Columns
   pub turn-may : TurnAsks g P W sc fl c wholes reals at
   turn-may =
       record {
-        shape = q .shape;
-        small = q .small;
-        same = q .same;
-        few = q .few;
-        some = q .some;
-        long = q .long;
-        below = top-below;
-        scratch-room = q .scratch-room;
-        flag-room = q .flag-room;
-        whole-room = q .whole-room;
-        real-room = q .real-room;
         waits = hw;
-        laid = laid-more wholes reals (at .waiting) (q .kept) (g .rows) (q .kept-high) (q .laid);
-        ripe = ripe′ .0;
-        limit = levels′ .0;
-        deep = q .deep;
+        taken = record {
+          shape = q .shape;
+          small = q .small;
+          same = q .same;
+          few = q .few;
+          some = q .some;
+          long = q .long;
+          order = top-laid .1;
+          high = le-trans (top-laid .2) (q .kept-high);
+          below = top-below;
+          scratch-room = q .scratch-room;
+          flag-room = q .flag-room;
+          whole-room = q .whole-room;
+          real-room = q .real-room;
+          place = top-laid .0;
+          laid = top-laid .3;
+          ripe = ripe′ .0;
+          level = let a = levels′ .0 in let b = q .deep in omega (arith, a, b);
+          number = let a = two-left in let b = q .node-small in omega (arith, a, b);
+          fair = q .fair;
+        };
         number = numbers′ .0;
         node-room = long-less (at .nodes + 2) top c two-left (q .node-room);
         node-small = let a = two-left in let b = q .node-small in omega (arith, a, b);
-        fair = q .fair;
       }
 
   module _ (M : List Float) (cols′ : List ℕ) (c′ : Columns) (wholes′ : List (List ℕ)) (reals′ : List (List Float)) where

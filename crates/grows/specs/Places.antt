@@ -1,5 +1,5 @@
 -- Where a growth stands between two turns, and what a turn asks and leaves. Definitions only. Assumes nothing.
-use Prim.Native.Nat.{ℕ, _+_, _-_, _*_, _<_, _≤_}
+use Prim.Native.Nat.{ℕ, _+_, _-_, _<_, _≤_}
 use mathlib.Core.Path.{_≡_}
 use mathlib.Core.List.{List, _++_}
 use lib.ListN.{length}
@@ -9,10 +9,9 @@ use Rattle.rules.specs.Lent.{Columns}
 use Rattle.rules.specs.Search.{search}
 use Rattle.rules.specs.Growth.{Waiting, TreeNode, State, withChildren, expand}
 use Rattle.rules.specs.Draws.{Out, bad, ok, bind, Tapes, tape}
-use Rattle.laws.specs.Cuts.{Ripe}
-use Rattle.search.specs.Flat.{drawsAt, Fair, Shaped}
+use Rattle.search.specs.Flat.{drawsAt, Fair}
 use Rattle.growth.specs.declared.Step.the-variants.{Refused, Goes}
-use Rattle.growth.specs.Rooms.{Ground, BelowTo, waitAt, waitingOf, stackOf, Laid, LongAll, NodesIn}
+use Rattle.growth.specs.Rooms.{Ground, BelowTo, waitAt, waitingOf, stackOf, Laid, LongAll, NodesIn, Taken}
 use Rattle.grows.specs.declared.At.{At}
 use Rattle.grows.specs.declared.Turned.{Turned}
 use Rattle.grows.specs.declared.Turned.the-variants as U
@@ -20,26 +19,11 @@ use Rattle.grows.specs.declared.Turned.the-variants as U
 -- ---- a turn
 
 pub record TurnAsks (g : Ground) (P : Params) (W : List ℕ) (scratch flags : ℕ) (c : Columns) (wholes : List (List ℕ)) (reals : List (List Float)) (at : At) : Type 0 where
-  pub shape : Shaped (g .rows) (g .features) (g .tables)
-  pub small : g .rows < 4294967296
-  pub same : g .features ≡ P .features
-  pub few : g .features ≤ 1024
-  pub some : 0 < g .features
-  pub long : length (g .cols) ≡ g .features * g .rows
-  pub below : BelowTo g (waitAt wholes reals (at .waiting - 1) .end)
-  pub scratch-room : g .rows ≤ scratch
-  pub flag-room : g .rows ≤ flags
-  pub whole-room : g .rows ≤ length wholes
-  pub real-room : g .rows ≤ length reals
   pub waits : 0 < at .waiting
-  pub laid : Laid wholes reals (g .rows) (at .waiting)
-  pub ripe : Ripe P (waitingOf g (waitAt wholes reals (at .waiting - 1)))
-  pub limit : waitAt wholes reals (at .waiting - 1) .level < P .limit
-  pub deep : P .limit ≤ 65535
+  pub taken : Taken g P W scratch flags wholes reals (waitAt wholes reals (at .waiting - 1)) (at .nodes) (record { waiting = at .waiting - 1; drawn = at .drawn })
   pub number : waitAt wholes reals (at .waiting - 1) .node < at .nodes
   pub node-room : LongAll (at .nodes + 2) c
   pub node-small : at .nodes + 2 < 4294967296
-  pub fair : Fair W (at .drawn)
 
 abbrev pub stateAt : List ℕ → List Float → List TreeNode → At → State Tapes
 stateAt W M ns at = record { nodes = ns; depth = at .depth; left = drawsAt W M (at .drawn) }

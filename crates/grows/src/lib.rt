@@ -25,13 +25,6 @@ pub enum Turned {
     Goes(At),
 }
 
-pub fn narrow(x: usize) -> u32
-    requires { ⌜ x < 4294967296 ⌝ }
-    ensures { λ r. ⌜ r ≡ x ⌝ }
-{
-    x as u32
-}
-
 pub fn greater(a: u32, b: u32) -> u32
     ensures { λ r. ⌜ r ≡ max a b ⌝ }
 {
@@ -78,7 +71,6 @@ pub fn turn(
         weights,
         counts,
         cols,
-        scratch,
         flags,
         value,
         feature,
@@ -91,30 +83,24 @@ pub fn turn(
         w,
         n,
     );
-    let mid = narrow(h.mid);
-    let l = w.level + 1;
-    let a = h.yes;
-    let b = h.no;
-    let r = growth::search_both(
+    let r = growth::search_sides(
         x,
         y,
         weights,
         counts,
-        cols,
         words,
         thresholds,
+        flags,
+        cols,
+        scratch,
         wholes,
         reals,
         rows,
         features,
         p,
+        w,
         n,
-        l,
-        w.start,
-        mid,
-        w.end,
-        a,
-        b,
+        h,
         Stand {
             waiting: m,
             drawn: d,
@@ -123,10 +109,12 @@ pub fn turn(
     match r {
         Step::Refused(k) => Turned::Refused(k),
         Step::Goes(s) => {
+            let l = w.level + 1;
             let deep = greater(at.depth, l);
             let e = s.drawn;
+            let nodes = n + 2;
             Turned::Goes(At {
-                nodes: n + 2,
+                nodes,
                 depth: deep,
                 waiting: s.waiting,
                 drawn: e,

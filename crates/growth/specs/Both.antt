@@ -9,7 +9,6 @@ use lib.ListN.{length}
 use lib.Ieee.{Float}
 use Rattle.rules.specs.declared.Totals.{Totals}
 use Rattle.rules.specs.declared.Params.{Params}
-use Rattle.rules.specs.declared.Cut.{Cut}
 use Rattle.rules.specs.Lent.{Columns}
 use Rattle.rules.specs.Search.{search}
 use Rattle.rules.specs.Growth.{Waiting, searchable, searchIf}
@@ -17,9 +16,7 @@ use Rattle.rules.specs.Draws.{Out, bad, ok, bind, Tapes, tape}
 use Rattle.rules.specs.Words.{nought}
 use Rattle.rules.specs.Totals.{valueOf}
 use Rattle.search.specs.declared.Asked.{Asked}
-use Rattle.search.specs.Flat.{Tables, drawsAt}
-use Rattle.growth.specs.declared.Halves.{Halves}
-use Rattle.growth.specs.Halve.{HalveAsks, Halved}
+use Rattle.search.specs.Flat.{drawsAt}
 use Rattle.growth.specs.declared.Wait.{Wait}
 use Rattle.growth.specs.declared.Stand.{Stand}
 use Rattle.growth.specs.declared.Step.{Step}
@@ -49,14 +46,6 @@ wrote w t f q n c {k} {i} {v} {c₁} {c₂} {c₃} ev ek ei e₁ e₂ e₃ =
     ∙ ap (λ z. putRow z (record { value = v; feature = w .feature; threshold = w .cut; score = q; yes = n; no = n + 1 }) c) ei
     ∙ ap (λ z. putRow (w .node) (record { value = z; feature = w .feature; threshold = w .cut; score = q; yes = n; no = n + 1 }) c) ev))
     ∙ ap (λ z. putRow (z + 1) (leafRow f) (putRow z (leafRow t) (putRow (w .node) (record { value = valueOf (record { sum = w .sum; mass = w .mass }); feature = w .feature; threshold = w .cut; score = q; yes = n; no = n + 1 }) c))) ek
-
-pub halve-at : (rows features : ℕ) (t : Tables) (cols : List ℕ) (c : Cut) (most sc fl a e : ℕ) {a′ e′ : ℕ} → a′ ≡ a → e′ ≡ e → HalveAsks rows features a e t cols c most sc fl → HalveAsks rows features a′ e′ t cols c most sc fl
-halve-at rows features t cols c most sc fl a e {a′} {e′} ea ee h =
-    subst (λ z. HalveAsks rows features z e′ t cols c most sc fl) (sym ea) (subst (λ z. HalveAsks rows features a z t cols c most sc fl) (sym ee) h)
-
-pub halved-at : (rows features : ℕ) (t : Tables) (cols cols′ : List ℕ) (c : Cut) (h : Halves) (a e : ℕ) {a′ e′ : ℕ} → a′ ≡ a → e′ ≡ e → Halved rows features a′ e′ t cols cols′ c h → Halved rows features a e t cols cols′ c h
-halved-at rows features t cols cols′ c h a e {a′} {e′} ea ee d =
-    subst (λ z. Halved rows features a z t cols cols′ c h) ee (subst (λ z. Halved rows features z e′ t cols cols′ c h) ea d)
 
 -- ---- two searches
 
@@ -98,7 +87,7 @@ module _ (g : Ground) (P : Params) (W : List ℕ) (M : List Float) (wholes : Lis
   on o = bind (then (o .1)) (λ f. ok (f .0 ++ o .0, f .1))
 
   first : {wholes₁ : List (List ℕ)} {reals₁ : List (List Float)} {step : Step} → ChildDone g P W M wholes reals wholes₁ reals₁ node level a m q s step
-      → bind (searchTwo g P node level a m e q r (drawsAt W M (s .drawn))) (λ o. ok (o .0 ++ stackOf g wholes reals (s .waiting), o .1)) ≡ bind (meantStep g W M wholes₁ reals₁ step) on
+      → bind (searchTwo P node level (nodeTask g a m q) (nodeTask g m e r) (drawsAt W M (s .drawn))) (λ o. ok (o .0 ++ stackOf g wholes reals (s .waiting), o .1)) ≡ bind (meantStep g W M wholes₁ reals₁ step) on
   first d =
       two (searchIf P (search (tape (P .features)) P) (searchable P level (nodeTask g a m q)) node level (nodeTask g a m q) (drawsAt W M (s .drawn))) then (stackOf g wholes reals (s .waiting))
       ∙ ap (λ z. bind z on) (d .same)

@@ -2,11 +2,10 @@
 
 -- node columns, and the numbers of those that join
 pub mod Nodes
--- a node's split
-pub mod Halve
 -- the rooms, and what each step promises of them
 pub mod Rooms
--- the waiting list by the code's steps, both children, and stretches after a split
+-- the waiting list by the code's steps, both children, stretches after a split, and a split node's children
 pub mod Steps
 pub mod Both
 pub mod Frames
+pub mod Sides

@@ -1,7 +1,8 @@
 -- The rooms of a growth, and what they stand for: the waiting list is read off the two lists of arrays and the work columns; a node column is the nodes' field, then what it held.
 -- Definitions only. Assumes nothing.
-use Prim.Native.Nat.{ℕ, zero, suc, _+_, _<_, _≤_}
+use Prim.Native.Nat.{ℕ, zero, suc, _+_, _*_, _<_, _≤_}
 use mathlib.Core.Path.{_≡_}
+use mathlib.Core.Bool.{Bool, not}
 use mathlib.Core.List.{List, [], _∷_, _++_}
 use lib.ListN.{length, getD, set}
 use lib.Ieee.{Float, nan}
@@ -11,16 +12,19 @@ use Rattle.rules.specs.declared.Cut.{Cut}
 use Rattle.rules.specs.declared.Kind.{Kind}
 use Rattle.rules.specs.declared.Kind.the-variants.{Leaf, Split}
 use Rattle.rules.specs.Lent.{Columns, Entry, leafEntry}
-use Rattle.rules.specs.Search.{Task, cut, search}
-use Rattle.rules.specs.Growth.{Waiting, TreeNode, joins, searchable, searchIf}
+use Rattle.rules.specs.Search.{Task, cut, search, same}
+use Rattle.rules.specs.Growth.{Waiting, TreeNode, child, joins, searchable, searchIf}
 use Rattle.rules.specs.Draws.{Out, bad, ok, bind, Tapes, tape}
 use Rattle.rules.specs.Words.{nought}
-use Rattle.rules.specs.Totals.{valueOf}
+use Rattle.rules.specs.Totals.{valueOf, score}
 use Rattle.laws.specs.Lists.{Every}
+use Rattle.laws.specs.Cuts.{Ripe}
+use Rattle.columns.specs.declared.Sides.{Sides}
+use Rattle.columns.specs.Split.{SplitDone}
 use Rattle.search.specs.declared.Asked.{Asked}
 use Rattle.search.specs.declared.Drawn.{Drawn}
 use Rattle.search.specs.declared.Search.{Search}
-use Rattle.search.specs.Flat.{Tables, NodeAsks, taskAt, drawsAt, Fair, FairAfter, meant, part}
+use Rattle.search.specs.Flat.{Tables, Shaped, NodeAsks, elementOf, taskAt, drawsAt, Fair, FairAfter, meant, part}
 use Rattle.growth.specs.declared.Wait.{Wait}
 use Rattle.growth.specs.declared.Row.{Row}
 use Rattle.growth.specs.declared.Stand.{Stand}
@@ -115,6 +119,10 @@ wroteSplit w t f q n c =
     putRow (n + 1) (leafRow f) (putRow n (leafRow t)
     (putRow (w .node) (record { value = valueOf (record { sum = w .sum; mass = w .mass }); feature = w .feature; threshold = w .cut; score = q; yes = n; no = n + 1 }) c))
 
+-- by the sides that its split pass gave
+abbrev pub wroteSides : Wait → Sides → ℕ → Columns → Columns
+wroteSides w h n c = wroteSplit w (h .yes .totals) (h .no .totals) (score (h .yes .totals) (h .no .totals) (h .all .mass)) n c
+
 -- a node of the definition as it stands in the columns
 abbrev pub rowIn : Float → Kind → Entry
 rowIn v Leaf = leafEntry v
@@ -191,13 +199,49 @@ pub record BothAsks (g : Ground) (P : Params) (W : List ℕ) (node a m e : ℕ) 
   pub small : node + 1 < 4294967296
 
 -- two searches, one after the other
-abbrev pub searchTwo : Ground → Params → ℕ → ℕ → ℕ → ℕ → ℕ → Asked → Asked → Tapes → Out (List Waiting × Tapes)
-searchTwo g P node level a m e q r d =
-    bind (searchIf P (search (tape (P .features)) P) (searchable P level (nodeTask g a m q)) node level (nodeTask g a m q) d)
-    (λ t. bind (searchIf P (search (tape (P .features)) P) (searchable P level (nodeTask g m e r)) (suc node) level (nodeTask g m e r) (t .1)) (λ f. ok (f .0 ++ t .0, f .1)))
+abbrev pub searchTwo : Params → ℕ → ℕ → Task → Task → Tapes → Out (List Waiting × Tapes)
+searchTwo P node level t f d =
+    bind (searchIf P (search (tape (P .features)) P) (searchable P level t) node level t d)
+    (λ a. bind (searchIf P (search (tape (P .features)) P) (searchable P level f) (suc node) level f (a .1)) (λ b. ok (b .0 ++ a .0, b .1)))
 
 pub record BothDone (g : Ground) (P : Params) (W : List ℕ) (M : List Float) (wholes : List (List ℕ)) (reals : List (List Float)) (wholes′ : List (List ℕ)) (reals′ : List (List Float))
     (node level a m e : ℕ) (q r : Asked) (s : Stand) (t : Step) : Type 0 where
-  pub same : bind (searchTwo g P node level a m e q r (drawsAt W M (s .drawn))) (λ o. ok (o .0 ++ stackOf g wholes reals (s .waiting), o .1)) ≡ meantStep g W M wholes′ reals′ t
+  pub same : bind (searchTwo P node level (nodeTask g a m q) (nodeTask g m e r) (drawsAt W M (s .drawn))) (λ o. ok (o .0 ++ stackOf g wholes reals (s .waiting), o .1)) ≡ meantStep g W M wholes′ reals′ t
   pub laid : (low : ℕ) → Laid wholes reals low (s .waiting) → s .waiting ≤ a → low ≤ a → a < m → m ≤ e → LaidStep wholes′ reals′ e t
   pub fair : FairStep W t
+
+-- ---- the children of a node that was taken off the waiting list, whose rest is s
+
+-- its rows lie past those of all that wait, and its children's numbers are n and the next
+pub record Taken (g : Ground) (P : Params) (W : List ℕ) (scratch flags : ℕ) (wholes : List (List ℕ)) (reals : List (List Float)) (w : Wait) (n : ℕ) (s : Stand) : Type 0 where
+  pub shape : Shaped (g .rows) (g .features) (g .tables)
+  pub small : g .rows < 4294967296
+  pub same : g .features ≡ P .features
+  pub few : g .features ≤ 1024
+  pub some : 0 < g .features
+  pub long : length (g .cols) ≡ g .features * g .rows
+  pub order : w .start ≤ w .end
+  pub high : w .end ≤ g .rows
+  pub below : BelowTo g (w .end)
+  pub scratch-room : g .rows ≤ scratch
+  pub flag-room : g .rows ≤ flags
+  pub whole-room : g .rows ≤ length wholes
+  pub real-room : g .rows ≤ length reals
+  pub place : s .waiting ≤ w .start
+  pub laid : Laid wholes reals (w .start) (s .waiting)
+  pub ripe : Ripe P (waitingOf g w)
+  pub level : w .level + 1 < 4294967296
+  pub number : n + 1 < 4294967296
+  pub fair : Fair W (s .drawn)
+
+pub record SidesAsks (g : Ground) (P : Params) (W : List ℕ) (scratch : ℕ) (flags : List Bool) (wholes : List (List ℕ)) (reals : List (List Float)) (w : Wait) (n : ℕ) (h : Sides) (s : Stand) : Type 0 where
+  pub taken : Taken g P W scratch (length flags) wholes reals w n s
+  pub split : SplitDone (g .rows) (w .start) (w .end) (elementOf (g .features) (g .tables)) (cutOf w) (g .cols) flags h
+
+pub record SidesDone (g g′ : Ground) (P : Params) (W : List ℕ) (M : List Float) (wholes : List (List ℕ)) (reals : List (List Float)) (wholes′ : List (List ℕ)) (reals′ : List (List Float))
+    (w : Wait) (n : ℕ) (s : Stand) (r : Step) : Type 0 where
+  pub same : bind (searchTwo P n (w .level + 1) (child same (waitingOf g w)) (child not (waitingOf g w)) (drawsAt W M (s .drawn))) (λ o. ok (o .0 ++ stackOf g wholes reals (s .waiting), o .1)) ≡ meantStep g′ W M wholes′ reals′ r
+  pub long : length (g′ .cols) ≡ length (g .cols)
+  pub below : (m : ℕ) → w .end ≤ m → m ≤ g .rows → BelowTo g m → BelowTo g′ m
+  pub laid : LaidStep wholes′ reals′ (w .end) r
+  pub fair : FairStep W r

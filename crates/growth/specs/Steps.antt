@@ -4,13 +4,11 @@ use native.Mathlib.Nat.{le-trans, le-refl}
 use native.Mathlib.Omega.{arith}
 use native.Mathlib.Numerals.{add-one}
 use mathlib.Core.Path.{_≡_, refl, sym, ap, _∙_, subst}
-use mathlib.Core.Bool.{false, _&&_}
+use mathlib.Core.Bool.{true, false}
 use mathlib.Core.List.{List, [], _∷_, _++_}
 use lib.ListN.{length, getD, set}
 use lib.Seq.{getD-set-same, getD-set-other}
-use lib.Dec.{leb}
 use lib.Ieee.{Float}
-use borrow.Author.Tests.{lt-ltb, le-ltb, le-leb, lt-leb}
 use Rattle.rules.specs.declared.Params.{Params}
 use Rattle.rules.specs.declared.Cut.{Cut}
 use Rattle.rules.specs.Search.{Task, Found, cut, search}
@@ -20,7 +18,7 @@ use Rattle.search.specs.declared.Asked.{Asked}
 use Rattle.search.specs.declared.Drawn.{Drawn}
 use Rattle.search.specs.declared.Search.{Search}
 use Rattle.search.specs.declared.Search.the-variants as S
-use Rattle.search.specs.Flat.{Tables, NodeAsks, drawsAt, Fair, meant, Searched}
+use Rattle.search.specs.Flat.{Tables, NodeAsks, bare, drawsAt, Fair, meant, Searched}
 use Rattle.growth.specs.declared.Wait.{Wait}
 use Rattle.growth.specs.declared.Stand.{Stand}
 use Rattle.growth.specs.declared.Step.{Step}
@@ -119,9 +117,9 @@ module _ (g : Ground) (P : Params) (W : List ℕ) (M : List Float) (wholes : Lis
   abbrev task : Task
   task = nodeTask g a e q
 
-  no-ask : searchable P level task ≡ false → Fair W (s .drawn) → ChildDone g P W M wholes reals wholes reals node level a e q s (Goes s)
-  unfolding searchIf bind
-  no-ask h f =
+  pub ask-not : searchable P level (bare q) ≡ false → Fair W (s .drawn) → ChildDone g P W M wholes reals wholes reals node level a e q s (Goes s)
+  unfolding searchable searchIf bind
+  ask-not h f =
       record {
         same = ap (λ b. bind (searchIf P (search (tape (P .features)) P) b node level task (drawsAt W M (s .drawn))) (λ o. ok (o .0 ++ stackOf g wholes reals (s .waiting), o .1))) h;
         laid = λ low l x y z. laid-more wholes reals (s .waiting) low e (le-trans y z) l;
@@ -129,23 +127,14 @@ module _ (g : Ground) (P : Params) (W : List ℕ) (M : List Float) (wholes : Lis
         fair = f;
       }
 
-  pub ask-deep : P .limit ≤ level → Fair W (s .drawn) → ChildDone g P W M wholes reals wholes reals node level a e q s (Goes s)
-  unfolding searchable
-  ask-deep h f = no-ask (ap (λ b. b && leb (P .split) (q .count)) (le-ltb level (P .limit) h)) f
-
-  pub ask-small : level < P .limit → q .count < P .split → Fair W (s .drawn) → ChildDone g P W M wholes reals wholes reals node level a e q s (Goes s)
-  unfolding searchable
-  ask-small h k f = no-ask (ap (λ b. b && leb (P .split) (q .count)) (lt-ltb level (P .limit) h) ∙ lt-leb (P .split) (q .count) k) f
-
-  pub ask-goes : level < P .limit → P .split ≤ q .count → {a′ e′ : ℕ} → a′ ≡ a → e′ ≡ e → {r : Search} → Searched P W M (nodeTask g a′ e′ q) (s .drawn) r
+  pub ask-goes : searchable P level (bare q) ≡ true → {a′ e′ : ℕ} → a′ ≡ a → e′ ≡ e → {r : Search} → Searched P W M (nodeTask g a′ e′ q) (s .drawn) r
       → {wholes′ : List (List ℕ)} {reals′ : List (List Float)} {t : Step} → PushDone wholes reals wholes′ reals′ (s .waiting) node level a e q (s .drawn) r t
       → ChildDone g P W M wholes reals wholes′ reals′ node level a e q s t
   unfolding searchable searchIf
-  ask-goes h k {a′} {e′} ea ee {r} sd {wholes′} {reals′} {t} pd =
+  ask-goes h {a′} {e′} ea ee {r} sd {wholes′} {reals′} {t} pd =
       record {
         same =
-            ap (λ b. bind (searchIf P (search (tape (P .features)) P) b node level task (drawsAt W M (s .drawn))) (λ o. ok (o .0 ++ stackOf g wholes reals (s .waiting), o .1)))
-            (ap (λ b. b && leb (P .split) (q .count)) (lt-ltb level (P .limit) h) ∙ le-leb (P .split) (q .count) k)
+            ap (λ b. bind (searchIf P (search (tape (P .features)) P) b node level task (drawsAt W M (s .drawn))) (λ o. ok (o .0 ++ stackOf g wholes reals (s .waiting), o .1))) h
             ∙ bind-through (search (tape (P .features)) P (drawsAt W M (s .drawn)) task) join next
             ∙ ap (λ m. bind m (λ o. ok (joins node level task (o .0) ++ stackOf g wholes reals (s .waiting), o .1))) (sym searched)
             ∙ pd .same g W M;

@@ -1,10 +1,15 @@
 // A node of a tree that grows: the waiting list in two slices of arrays, six node columns, and work columns that are split in place.
 ghost use mathlib.Core.Path.{_≡_};
+ghost use mathlib.Core.Bool.{_||_};
 ghost use Prim.Native.Nat.{_+_, _<_};
 ghost use lib.ListN.{length};
 ghost use Rattle.rules.specs.Lent.{Columns};
-ghost use Rattle.growth.specs.Halve.{HalveAsks, Halved};
-ghost use Rattle.growth.specs.Rooms.{LongAll, PushDone, ChildAsks, ChildDone, wroteSplit, BothAsks, BothDone};
+ghost use Rattle.rules.specs.Growth.{searchable};
+ghost use Rattle.rules.specs.Fit.{elementIn};
+ghost use Rattle.columns.specs.Split.{SplitAsks, SplitDone};
+ghost use Rattle.search.specs.Flat.{bare};
+ghost use Rattle.growth.specs.Rooms.{LongAll, PushDone, ChildAsks, ChildDone, cutOf, wroteSides, BothAsks, BothDone, SidesAsks, SidesDone};
+use columns::Sides;
 use rules::Cut;
 use rules::Params;
 use search::Asked;
@@ -92,7 +97,17 @@ pub fn push_found(
     }
 }
 
-// A child is searched if its level is below the limit and its count reaches the least split.
+// Whether a node is searched: its level is below the limit, and its count reaches the least split.
+fn is_searched(p: Params, level: u32, a: Asked) -> bool
+    ensures { λ r. ⌜ r ≡ searchable p level (bare a) ⌝ }
+{
+    if level < p.limit {
+        return p.split <= a.count;
+    }
+    false
+}
+
+// What the search of a child finds joins the waiting list.
 pub fn search_child(
     x: &[f64],
     y: &[f64],
@@ -117,104 +132,35 @@ pub fn search_child(
     ensures { λ r. ⌜ ChildDone (record { rows = rows; features = features; tables = (record { x = now (x .entry); y = now (y .entry); weights = now (weights .entry); counts = now (counts .entry) }); cols = now (cols .entry) }) p (now (words .entry)) (now (thresholds .entry)) (now (wholes .entry)) (now (reals .entry)) (now (wholes .exit)) (now (reals .exit)) node level from to a s r ⌝ }
 {
     let d = s.drawn;
-    if level < p.limit {
-        if p.split <= a.count {
-            let r = search::search_node(
-                x,
-                y,
-                weights,
-                counts,
-                cols,
-                words,
-                thresholds,
-                rows,
-                features,
-                search::wide(from),
-                search::wide(to),
-                p,
-                a,
-                d,
-            );
-            return push_found(wholes, reals, s.waiting, node, level, from, to, a, d, r);
-        }
-        return Step::Goes(s);
+    if is_searched(p, level, a) {
+        let r = search::search_node(
+            x,
+            y,
+            weights,
+            counts,
+            cols,
+            words,
+            thresholds,
+            rows,
+            features,
+            search::wide(from),
+            search::wide(to),
+            p,
+            a,
+            d,
+        );
+        return push_found(wholes, reals, s.waiting, node, level, from, to, a, d, r);
     }
     Step::Goes(s)
 }
 
-// A node split: the true side's rows now lie before mid, the false side's from mid on.
-pub struct Halves {
-    pub mid: usize,
-    pub yes: Asked,
-    pub no: Asked,
-    pub score: f64,
-}
-
-// The split of a node whose `most` rows lie from `from` to `to` in every column. The score takes totals that are added up afresh.
-pub fn halve(
-    x: &[f64],
-    y: &[f64],
-    weights: &[f64],
-    counts: &[u32],
-    cols: &mut [u32],
-    scratch: &mut [u32],
-    flags: &mut [bool],
-    rows: usize,
-    features: usize,
-    from: usize,
-    to: usize,
-    c: Cut,
-    most: u32,
-) -> Halves
-    requires { ⌜ HalveAsks rows features from to (record { x = now x; y = now y; weights = now weights; counts = now counts }) (now cols) c most (length (now scratch)) (length (now flags)) ⌝ }
-    ensures { λ r. ⌜ Halved rows features from to (record { x = now (x .entry); y = now (y .entry); weights = now (weights .entry); counts = now (counts .entry) }) (now (cols .entry)) (now (cols .exit)) c r ⌝ }
-{
-    let s = columns::split_columns(
-        x,
-        y,
-        weights,
-        counts,
-        cols,
-        scratch,
-        flags,
-        rows,
-        features,
-        from,
-        to,
-        c,
-    );
-    let a = s.yes;
-    let b = s.no;
-    let all = s.all;
-    let t = a.totals;
-    let f = b.totals;
-    let q = criterion::score_of(t, f, all.mass);
-    let n = search::wide(s.rows);
-    let yes = Asked {
-        totals: t,
-        count: a.count,
-    };
-    let no = Asked {
-        totals: f,
-        count: b.count,
-    };
-    let mid = from + n;
-    Halves {
-        mid,
-        yes,
-        no,
-        score: q,
-    }
-}
-
-// The node's rows are split, and its children written.
+// A node's split: its rows get their flags, and the node and its children are written. The score takes totals that are added up afresh.
 pub fn split_node(
     x: &[f64],
     y: &[f64],
     weights: &[f64],
     counts: &[u32],
-    cols: &mut [u32],
-    scratch: &mut [u32],
+    cols: &[u32],
     flags: &mut [bool],
     value: &mut [f64],
     feature: &mut [u32],
@@ -226,49 +172,37 @@ pub fn split_node(
     features: usize,
     w: Wait,
     n: u32,
-) -> Halves
-    requires { ⌜ HalveAsks rows features (w .start) (w .end) (record { x = now x; y = now y; weights = now weights; counts = now counts }) (now cols) (record { feature = w .feature; threshold = w .cut }) (w .count) (length (now scratch)) (length (now flags)) ⌝ }
+) -> Sides
+    requires { ⌜ SplitAsks rows features (w .start) (w .end) (now x) (now y) (now weights) (now counts) (cutOf w) (now cols) (length (now flags)) ⌝ }
     requires { ⌜ LongAll (n + 2) (record { value = now (value); feature = now (feature); threshold = now (threshold); score = now (score); trueChild = now (yes); falseChild = now (no) }) × (w .node < n) × (n + 2 < 4294967296) ⌝ }
-    ensures { λ h. ⌜ Halved rows features (w .start) (w .end) (record { x = now (x .entry); y = now (y .entry); weights = now (weights .entry); counts = now (counts .entry) }) (now (cols .entry)) (now (cols .exit)) (record { feature = w .feature; threshold = w .cut }) h ⌝ }
-    ensures { λ h. ⌜ _≡_ {A = Columns} (record { value = now (value .exit); feature = now (feature .exit); threshold = now (threshold .exit); score = now (score .exit); trueChild = now (yes .exit); falseChild = now (no .exit) }) (wroteSplit w (h .yes .totals) (h .no .totals) (h .score) n (record { value = now (value .entry); feature = now (feature .entry); threshold = now (threshold .entry); score = now (score .entry); trueChild = now (yes .entry); falseChild = now (no .entry) })) ⌝ }
+    ensures { λ s. ⌜ SplitDone rows (w .start) (w .end) (elementIn features (now (x .entry)) (now (y .entry)) (now (weights .entry)) (now (counts .entry))) (cutOf w) (now (cols .entry)) (now (flags .exit)) s ⌝ }
+    ensures { λ s. ⌜ _≡_ {A = Columns} (record { value = now (value .exit); feature = now (feature .exit); threshold = now (threshold .exit); score = now (score .exit); trueChild = now (yes .exit); falseChild = now (no .exit) }) (wroteSides w s n (record { value = now (value .entry); feature = now (feature .entry); threshold = now (threshold .entry); score = now (score .entry); trueChild = now (yes .entry); falseChild = now (no .entry) })) ⌝ }
 {
     let c = Cut {
         feature: w.feature,
         threshold: w.cut,
     };
-    let h = halve(
+    let s = columns::split_sides(
         x,
         y,
         weights,
         counts,
         cols,
-        scratch,
         flags,
         rows,
         features,
         search::wide(w.start),
         search::wide(w.end),
         c,
-        w.count,
     );
-    let a = h.yes;
-    let b = h.no;
+    let a = s.yes;
+    let b = s.no;
+    let all = s.all;
     let t = a.totals;
     let f = b.totals;
-    crate::nodes::write_split(
-        value,
-        feature,
-        threshold,
-        score,
-        yes,
-        no,
-        w,
-        t,
-        f,
-        h.score,
-        n,
-    );
-    h
+    let q = criterion::score_of(t, f, all.mass);
+    crate::nodes::write_split(value, feature, threshold, score, yes, no, w, t, f, q, n);
+    s
 }
 
 // Both children are searched, the true one first.
@@ -340,4 +274,87 @@ pub fn search_both(
             t,
         ),
     }
+}
+
+fn either_searched(p: Params, level: u32, a: Asked, b: Asked) -> bool
+    ensures { λ r. ⌜ r ≡ (searchable p level (bare a) || searchable p level (bare b)) ⌝ }
+{
+    if is_searched(p, level, a) {
+        return true;
+    }
+    is_searched(p, level, b)
+}
+
+// The children of a node whose rows have their flags. Where neither is searched, nothing reads those rows again, and the columns stay as they are.
+pub fn search_sides(
+    x: &[f64],
+    y: &[f64],
+    weights: &[f64],
+    counts: &[u32],
+    words: &[u32],
+    thresholds: &[f64],
+    flags: &[bool],
+    cols: &mut [u32],
+    scratch: &mut [u32],
+    wholes: &mut [[u32; 6]],
+    reals: &mut [[f64; 3]],
+    rows: usize,
+    features: usize,
+    p: Params,
+    w: Wait,
+    n: u32,
+    h: Sides,
+    s: Stand,
+) -> Step
+    requires { ⌜ SidesAsks (record { rows = rows; features = features; tables = (record { x = now x; y = now y; weights = now weights; counts = now counts }); cols = now cols }) p (now words) (length (now scratch)) (now flags) (now wholes) (now reals) w n h s ⌝ }
+    ensures { λ r. ⌜ SidesDone (record { rows = rows; features = features; tables = (record { x = now (x .entry); y = now (y .entry); weights = now (weights .entry); counts = now (counts .entry) }); cols = now (cols .entry) }) (record { rows = rows; features = features; tables = (record { x = now (x .entry); y = now (y .entry); weights = now (weights .entry); counts = now (counts .entry) }); cols = now (cols .exit) }) p (now (words .entry)) (now (thresholds .entry)) (now (wholes .entry)) (now (reals .entry)) (now (wholes .exit)) (now (reals .exit)) w n s r ⌝ }
+{
+    let l = w.level + 1;
+    let yes = h.yes;
+    let no = h.no;
+    let t = yes.totals;
+    let f = no.totals;
+    let a = Asked {
+        totals: t,
+        count: yes.count,
+    };
+    let b = Asked {
+        totals: f,
+        count: no.count,
+    };
+    if either_searched(p, l, a, b) {
+        columns::partition_columns(
+            cols,
+            rows,
+            features,
+            search::wide(w.start),
+            search::wide(w.end),
+            scratch,
+            flags,
+        );
+        let mid = w.start + h.rows;
+        return search_both(
+            x,
+            y,
+            weights,
+            counts,
+            cols,
+            words,
+            thresholds,
+            wholes,
+            reals,
+            rows,
+            features,
+            p,
+            n,
+            l,
+            w.start,
+            mid,
+            w.end,
+            a,
+            b,
+            s,
+        );
+    }
+    Step::Goes(s)
 }

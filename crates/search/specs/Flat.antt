@@ -1,21 +1,26 @@
 -- The flat tables that the code is lent, and the elements that their rows stand for. Assumes nothing.
 use Prim.Native.Nat.{ℕ, _+_, _-_, _*_, _<_, _≤_}
 use mathlib.Core.Path.{_≡_, refl}
-use mathlib.Core.Bool.{cond}
+use mathlib.Core.Bool.{Bool, _||_, cond}
 use mathlib.Core.List.{List, [], map}
 use lib.ListN.{length, getD, take, drop}
+use lib.Dec.{ltb}
 use lib.Ieee.{Float, le, eq}
 use Rattle.rules.specs.declared.Params.{Params}
+use Rattle.rules.specs.declared.Cut.{Cut}
 use Rattle.rules.specs.declared.Held.{Held}
 use Rattle.rules.specs.declared.Held.the-variants.{Nothing, Holds}
 use Rattle.rules.specs.declared.Walk.{Walk}
 use Rattle.rules.specs.Search.{Element, Column, Task, at, candidateAt, step, tally, totals, Tries, drawn, search, Found, uncut, cut}
 use Rattle.rules.specs.Totals.{takeIn, empty}
+use Rattle.rules.specs.Threshold.{threshold}
 use Rattle.rules.specs.Words.{from}
 use Rattle.rules.specs.Draws.{Out, bad, ok, bind, Tapes, nextThreshold, tape}
 use Rattle.rules.specs.Fit.{elementIn}
 use Rattle.search.specs.declared.Asked.{Asked}
 use Rattle.search.specs.declared.Cell.{Cell}
+use Rattle.search.specs.declared.best.Run.{Run}
+use Rattle.search.specs.declared.best.Spot.{Spot}
 use Rattle.search.specs.declared.Drawn.{Drawn}
 use Rattle.search.specs.declared.Search.{Search}
 use Rattle.search.specs.declared.Search.the-variants as S
@@ -61,6 +66,20 @@ stepIn P a j w e =
 pub step-cell : (P : Params) (a : Asked) (j : ℕ) (w : Walk) (e : Element) → stepIn P a j w (cellOf j e) ≡ step P (bare a) j w e
 unfolding stepIn step cellOf
 step-cell P a j w e = refl
+
+-- either side of a cut would be below the least leaf
+unfoldable pub tooFew : Params → Asked → ℕ → Bool
+tooFew P a k = ltb k (P .leaf) || ltb (a .count - k) (P .leaf)
+
+abbrev pub cutBetween : ℕ → Float → Float → Cut
+cutBetween j low high = record { feature = j; threshold = threshold low high }
+
+-- what s holds along feature j's column, and the walk that a run stands for
+unfoldable pub heldOf : ℕ → Spot → Held
+heldOf j s = cond (s .held) (Holds (cond (s .here) (cutBetween j (s .low) (s .high)) (s .earlier)) (s .proxy)) Nothing
+
+abbrev pub walkOf : ℕ → Run → Walk
+walkOf j r = record { before = r .before; count = r .count; last = r .last; best = heldOf j (r .spot) }
 
 unfoldable pub joinIn : Asked → Cell → Asked
 joinIn s e = record { totals = takeIn (s .totals) (e .target) (e .mass); count = s .count + e .count }

@@ -4,7 +4,7 @@ use native.Mathlib.Nat.{mul-le-mul-right, suc-mul, add-assoc, zero-add}
 use native.Mathlib.Omega.{arith}
 use native.Mathlib.Numerals.{add-one}
 use mathlib.Core.Path.{_≡_, refl, sym, ap, _∙_}
-use mathlib.Core.Bool.{Bool, true, false, cond}
+use mathlib.Core.Bool.{Bool, true, false, _||_, cond}
 use mathlib.Core.List.{List, [], _∷_, map}
 use lib.ListN.{length, getD, drop, drop-of-length-le}
 use lib.Seq.{drop-cons, getD-take, getD-drop}
@@ -20,52 +20,46 @@ use Rattle.rules.specs.Words.{total, keep, putIf}
 use Rattle.rules.specs.Totals.{takeIn, less, proxy, empty}
 use Rattle.rules.specs.Lent.{valuesAt, countIn, massIn}
 use Rattle.rules.specs.Fit.{elementIn}
-use Rattle.rules.specs.Threshold.{threshold}
 use Rattle.search.specs.declared.Asked.{Asked}
 use Rattle.search.specs.declared.Cell.{Cell}
-use Rattle.search.specs.Flat.{Tables, elementOf, cellOf, bare, stepIn, step-cell, joinIn, sideStep, sideOn}
+use Rattle.search.specs.Flat.{Tables, elementOf, cellOf, bare, stepIn, step-cell, tooFew, cutBetween, joinIn, sideStep, sideOn}
 
-pub judge-few : (P : Params) (a : Asked) (h : Held) (t : Totals) (k : ℕ) (c : Cut) → ltb k (P .leaf) ≡ true → h ≡ judge P (bare a) h t k c
-unfolding judge
-judge-few P a h t k c e = sym (ap (λ x. cond x h (cond (ltb (a .count - k) (P .leaf)) h (better h c (proxy t (less (a .totals) t))))) e)
+module _ (P : Params) (a : Asked) (h : Held) (t : Totals) (k : ℕ) (c : Cut) where
+  judge-by : (b : Bool) → tooFew P a k ≡ b → judge P (bare a) h t k c ≡ cond b h (better h c (proxy t (less (a .totals) t)))
+  unfolding judge tooFew
+  judge-by b e = go (ltb k (P .leaf)) ∙ ap (λ z. cond z h (better h c (proxy t (less (a .totals) t)))) e
+    where
+      go : (z : Bool) → cond z h (cond (ltb (a .count - k) (P .leaf)) h (better h c (proxy t (less (a .totals) t)))) ≡ cond (z || ltb (a .count - k) (P .leaf)) h (better h c (proxy t (less (a .totals) t)))
+      go true = refl
+      go false = refl
 
-pub judge-left : (P : Params) (a : Asked) (h : Held) (t : Totals) (k : ℕ) (c : Cut) → ltb k (P .leaf) ≡ false → ltb (a .count - k) (P .leaf) ≡ true → h ≡ judge P (bare a) h t k c
-unfolding judge
-judge-left P a h t k c d e =
-    sym (ap (λ x. cond x h (cond (ltb (a .count - k) (P .leaf)) h (better h c (proxy t (less (a .totals) t))))) d
-    ∙ ap (λ x. cond x h (better h c (proxy t (less (a .totals) t)))) e)
+  pub judge-few : {b : Bool} → b ≡ tooFew P a k → b ≡ true → h ≡ judge P (bare a) h t k c
+  judge-few e d = sym (judge-by true (sym e ∙ d))
 
-pub judge-goes : (P : Params) (a : Asked) (h : Held) (t : Totals) (k : ℕ) (c : Cut) {f : Totals} {q : Float} {r : Held} → ltb k (P .leaf) ≡ false → ltb (a .count - k) (P .leaf) ≡ false
-    → f ≡ less (a .totals) t → q ≡ proxy t f → r ≡ better h c q → r ≡ judge P (bare a) h t k c
-unfolding judge
-judge-goes P a h t k c d e ef eq′ er =
-    er ∙ ap (λ q. better h c q) (eq′ ∙ ap (proxy t) ef)
-    ∙ sym (ap (λ x. cond x h (cond (ltb (a .count - k) (P .leaf)) h (better h c (proxy t (less (a .totals) t))))) d
-    ∙ ap (λ x. cond x h (better h c (proxy t (less (a .totals) t)))) e)
+  pub judge-goes : {b : Bool} {q : Float} {r : Held} → b ≡ tooFew P a k → b ≡ false → q ≡ proxy t (less (a .totals) t) → r ≡ better h c q → r ≡ judge P (bare a) h t k c
+  judge-goes e d eq′ er = er ∙ ap (better h c) eq′ ∙ sym (judge-by false (sym e ∙ d))
 
-pub step-same : (P : Params) (a : Asked) (j : ℕ) (w : Walk) (e : Cell) {b : Totals} → b ≡ takeIn (w .before) (e .target) (e .mass) → eq (e .value) (w .last) ≡ true
-    → _≡_ {A = Walk} (record { before = b; count = w .count + e .count; last = w .last; best = w .best }) (stepIn P a j w e)
+pub step-same : (P : Params) (a : Asked) (j : ℕ) (w : Walk) (e : Cell) {g : Held} {b : Totals} → g ≡ w .best → b ≡ takeIn (w .before) (e .target) (e .mass) → eq (e .value) (w .last) ≡ true
+    → _≡_ {A = Walk} (record { before = b; count = w .count + e .count; last = w .last; best = g }) (stepIn P a j w e)
 unfolding stepIn candidateAt
-step-same P a j w e eb t = λ i.
+step-same P a j w e eg eb t = λ i.
     record {
       before = eb i;
       count = w .count + e .count;
       last = sym (ap (λ z. cond z (w .last) (e .value)) t) i;
-      best = sym (ap (λ z. candidateAt z P (bare a) j (e .value) w) t) i;
+      best = (eg ∙ sym (ap (λ z. candidateAt z P (bare a) j (e .value) w) t)) i;
     }
 
-pub step-new : (P : Params) (a : Asked) (j : ℕ) (w : Walk) (e : Cell) {b : Totals} {t : Float} {h : Held} → b ≡ takeIn (w .before) (e .target) (e .mass) → eq (e .value) (w .last) ≡ false
-    → t ≡ threshold (w .last) (e .value) → h ≡ judge P (bare a) (w .best) (w .before) (w .count) (record { feature = j; threshold = t })
+pub step-new : (P : Params) (a : Asked) (j : ℕ) (w : Walk) (e : Cell) {g : Held} {b : Totals} {h : Held} → g ≡ w .best → b ≡ takeIn (w .before) (e .target) (e .mass) → eq (e .value) (w .last) ≡ false
+    → h ≡ judge P (bare a) g (w .before) (w .count) (cutBetween j (w .last) (e .value))
     → _≡_ {A = Walk} (record { before = b; count = w .count + e .count; last = e .value; best = h }) (stepIn P a j w e)
 unfolding stepIn candidateAt
-step-new P a j w e eb n et eh = λ i.
+step-new P a j w e eg eb n eh = λ i.
     record {
       before = eb i;
       count = w .count + e .count;
       last = sym (ap (λ z. cond z (w .last) (e .value)) n) i;
-      best =
-          (eh ∙ ap (λ t. judge P (bare a) (w .best) (w .before) (w .count) (record { feature = j; threshold = t })) et
-          ∙ sym (ap (λ z. candidateAt z P (bare a) j (e .value) w) n)) i;
+      best = (eh ∙ ap (λ z. judge P (bare a) z (w .before) (w .count) (cutBetween j (w .last) (e .value))) eg ∙ sym (ap (λ z. candidateAt z P (bare a) j (e .value) w) n)) i;
     }
 
 pub place : (r n f j : ℕ) {l : ℕ} → r < n → l ≡ n * f → j < f → r * f + j < l
@@ -172,9 +166,11 @@ unfolding bestIn
 best-none el [] e P a j h = refl
 best-none el (x ∷ l) e P a j h = absurd (omega arith)
 
-pub best-walk : (el : ℕ → Element) (l : List ℕ) → (length l ≡ 0 → ⊥) → (P : Params) (a : Asked) (j : ℕ) (h : Held) {first : Float} {v : Walk} → first ≡ at j (el (getD l 0 0))
-    → v ≡ walk P (bare a) j (record { before = empty; count = 0; last = first; best = h }) (map el l) → v .best ≡ bestIn P (bare a) j h (map el l)
+pub best-walk : (el : ℕ → Element) (l : List ℕ) → (length l ≡ 0 → ⊥) → (P : Params) (a : Asked) (j : ℕ) (h : Held) {first : Float} {g : Held} {v : Walk} → first ≡ at j (el (getD l 0 0)) → g ≡ h
+    → v ≡ walk P (bare a) j (record { before = empty; count = 0; last = first; best = g }) (map el l) → v .best ≡ bestIn P (bare a) j h (map el l)
 unfolding bestIn
-best-walk el [] n P a j h ef ev = absurd (n refl)
-best-walk el (x ∷ l) n P a j h ef ev =
-    ap (λ w. w .best) (ev ∙ ap (λ z. walk P (bare a) j (record { before = empty; count = 0; last = z; best = h }) (map el (x ∷ l))) ef)
+best-walk el [] n P a j h ef eg ev = absurd (n refl)
+best-walk el (x ∷ l) n P a j h {first} ef eg ev =
+    ap (λ w. w .best)
+    (ev ∙ ap (λ z. walk P (bare a) j (record { before = empty; count = 0; last = first; best = z }) (map el (x ∷ l))) eg
+    ∙ ap (λ z. walk P (bare a) j (record { before = empty; count = 0; last = z; best = h }) (map el (x ∷ l))) ef)

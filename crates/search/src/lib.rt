@@ -7,7 +7,8 @@ ghost use lib.Ieee.{nan};
 ghost use Rattle.rules.specs.Words.{eachOnce};
 ghost use Rattle.rules.specs.Draws.{tape};
 ghost use Rattle.rules.specs.Search.{judge, tryOne, tryAll};
-ghost use Rattle.search.specs.Flat.{Shaped, elementOf, cellOf, bare, meantTries, left, NodeAsks, taskAt, Fair, answerOf, Searched};
+ghost use Rattle.rules.specs.Totals.{less, proxy};
+ghost use Rattle.search.specs.Flat.{Shaped, elementOf, cellOf, bare, tooFew, meantTries, left, NodeAsks, taskAt, Fair, answerOf, Searched};
 ghost use Rattle.rules.specs.declared.Held.the-variants.{Nothing};
 use criterion::better_of;
 use criterion::less_of;
@@ -56,18 +57,32 @@ pub enum Search {
     Found(Cut, Drawn),
 }
 
+// Whether a true side of k, or what it leaves of a node, is below the least leaf.
+pub fn too_few(p: Params, a: Asked, k: u32) -> bool
+    requires { ⌜ k ≤ a .count ⌝ }
+    ensures { λ r. ⌜ r ≡ tooFew p a k ⌝ }
+{
+    if k < p.leaf {
+        return true;
+    }
+    a.count - k < p.leaf
+}
+
+pub fn proxy_in(a: Asked, t: Totals) -> f64
+    ensures { λ r. ⌜ r ≡ proxy t (less (a .totals) t) ⌝ }
+{
+    let f = less_of(a.totals, t);
+    proxy_of(t, f)
+}
+
 pub fn judge_of(p: Params, a: Asked, h: Held, t: Totals, k: u32, c: Cut) -> Held
     requires { ⌜ k ≤ a .count ⌝ }
     ensures { λ r. ⌜ r ≡ judge p (bare a) h t k c ⌝ }
 {
-    if k < p.leaf {
+    if too_few(p, a, k) {
         return h;
     }
-    if a.count - k < p.leaf {
-        return h;
-    }
-    let f = less_of(a.totals, t);
-    let q = proxy_of(t, f);
+    let q = proxy_in(a, t);
     better_of(h, c, q)
 }
 

@@ -1,6 +1,6 @@
 -- `columns_main::split` meets what a split asks: both columns hold the same rows, and the counts are small. Assumes nothing.
 use Prim.Native.Nat.{ℕ, zero, suc, _<_}
-use mathlib.Core.Path.{refl}
+use mathlib.Core.Path.{refl, sym, subst}
 use mathlib.Core.List.{List, [], _∷_}
 use lib.Dec.{lit<, lit≤}
 use Rattle.rules.specs.Words.{total}
@@ -14,32 +14,29 @@ use borrow.Author.Needs.{needs}
 use Rattle.columns_main.proofs.split.Statement.{statement}
 use Rattle.columns_main.proofs.split.Tie as tie
 
-slice-aggregate-split-columns : tie.Need-slice-aggregate-split-columns
-slice-aggregate-split-columns c = search needs
+slice-aggregate-split-sides : tie.Need-slice-aggregate-split-sides
+slice-aggregate-split-sides c = search needs
 
-slice-aggregate-split-columns-2 : tie.Need-slice-aggregate-split-columns-2
-slice-aggregate-split-columns-2 c = search needs
+slice-aggregate-split-sides-2 : tie.Need-slice-aggregate-split-sides-2
+slice-aggregate-split-sides-2 c = search needs
 
-sub-split-columns : tie.Need-sub-split-columns
-sub-split-columns c = search needs
+sub-split-sides : tie.Need-sub-split-sides
+sub-split-sides c = search needs
 
-part-split-columns-start : tie.Need-part-split-columns-start
-part-split-columns-start c = search needs
+part-split-sides-start : tie.Need-part-split-sides-start
+part-split-sides-start c = search needs
 
-part-split-columns-end : tie.Need-part-split-columns-end
-part-split-columns-end c = search needs
+part-split-sides-end : tie.Need-part-split-sides-end
+part-split-sides-end c = search needs
 
-slice-aggregate-split-columns-3 : tie.Need-slice-aggregate-split-columns-3
-slice-aggregate-split-columns-3 c = search needs
+slice-aggregate-split-sides-3 : tie.Need-slice-aggregate-split-sides-3
+slice-aggregate-split-sides-3 c = search needs
 
-slice-aggregate-split-columns-4 : tie.Need-slice-aggregate-split-columns-4
-slice-aggregate-split-columns-4 c = search needs
+slice-aggregate-split-sides-4 : tie.Need-slice-aggregate-split-sides-4
+slice-aggregate-split-sides-4 c = search needs
 
-slice-aggregate-split-columns-5 : tie.Need-slice-aggregate-split-columns-5
-slice-aggregate-split-columns-5 c = search needs
-
-slice-aggregate-split-columns-6 : tie.Need-slice-aggregate-split-columns-6
-slice-aggregate-split-columns-6 c = search needs
+slice-aggregate-split-sides-5 : tie.Need-slice-aggregate-split-sides-5
+slice-aggregate-split-sides-5 c = search needs
 
 abbrev cols : List ℕ
 cols = 0 ∷ 1 ∷ 2 ∷ 3 ∷ 3 ∷ 2 ∷ 1 ∷ 0 ∷ []
@@ -59,9 +56,9 @@ alike zero h g = refl
 alike (suc zero) h g = omega arith
 alike (suc (suc k)) h g = absurd (past k h)
 
-split-columns-requires : tie.Need-split-columns-requires
+split-sides-requires : tie.Need-split-sides-requires
 unfolding total elementIn countIn
-split-columns-requires c κs =
+split-sides-requires c κs =
     record {
       shaped = record { tables = search needs; wide = refl; targeted = refl };
       few = lit< tt;
@@ -69,11 +66,29 @@ split-columns-requires c κs =
       long = lit≤ tt;
       order = lit≤ tt;
       high = lit≤ tt;
-      scratchRoom = lit≤ tt;
       flagRoom = lit≤ tt;
       below = below;
       alike = alike;
       count = lit< tt;
+    }
+
+slice-aggregate-partition-columns : tie.Need-slice-aggregate-partition-columns
+slice-aggregate-partition-columns c = search needs
+
+slice-aggregate-partition-columns-2 : tie.Need-slice-aggregate-partition-columns-2
+slice-aggregate-partition-columns-2 c = search needs
+
+slice-aggregate-partition-columns-3 : tie.Need-slice-aggregate-partition-columns-3
+slice-aggregate-partition-columns-3 c = search needs
+
+partition-columns-requires : tie.Need-partition-columns-requires
+partition-columns-requires c κs =
+    record {
+      long = lit≤ tt;
+      order = lit≤ tt;
+      high = lit≤ tt;
+      room = lit≤ tt;
+      below = λ k h. subst (λ n. Every (λ r. r < n) (part 4 k 0 4 cols)) (sym (c .before .before .before .before .split-sides .kept .1 .1 .1 .1 .1 .0)) (below k h);
     }
 
 number-requires : tie.Need-number-requires
@@ -110,16 +125,19 @@ pub split-spec : {M : Type 1} → statement M
 split-spec =
     tie.close
     (tie.spec
-    slice-aggregate-split-columns
-    slice-aggregate-split-columns-2
-    sub-split-columns
-    part-split-columns-start
-    part-split-columns-end
-    slice-aggregate-split-columns-3
-    slice-aggregate-split-columns-4
-    slice-aggregate-split-columns-5
-    slice-aggregate-split-columns-6
-    split-columns-requires
+    slice-aggregate-split-sides
+    slice-aggregate-split-sides-2
+    sub-split-sides
+    part-split-sides-start
+    part-split-sides-end
+    slice-aggregate-split-sides-3
+    slice-aggregate-split-sides-4
+    slice-aggregate-split-sides-5
+    split-sides-requires
+    slice-aggregate-partition-columns
+    slice-aggregate-partition-columns-2
+    slice-aggregate-partition-columns-3
+    partition-columns-requires
     number-requires
     number-requires-2
     number-requires-3

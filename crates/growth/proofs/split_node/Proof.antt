@@ -1,6 +1,8 @@
--- `growth::split_node` meets its contract: the columns are split first, then three nodes are written. Assumes nothing.
+-- `growth::split_node` meets its contract: the pass gives the sides, then three nodes are written. Assumes nothing.
+use mathlib.Core.Path.{ap, _∙_}
 use borrow.Author.Needs.{needs}
-use Rattle.growth.specs.Both.{halve-at, halved-at}
+use Rattle.growth.specs.Rooms.{wroteSplit}
+use Rattle.growth.specs.Sides.{split-at, done-at}
 use Rattle.growth.proofs.split_node.Statement.{statement}
 use Rattle.growth.proofs.split_node.Tie as tie
 
@@ -10,11 +12,14 @@ wide-requires c κs = search needs
 wide-requires-2 : tie.Need-wide-requires-2
 wide-requires-2 c κs = search needs
 
-halve-requires : tie.Need-halve-requires
-halve-requires c κs = let a = c .before .before .before .before .before .before .before .before .before .before .before .before .before .before .before .before .before .before .args in halve-at _ _ _ _ _ _ _ _ _ _ (c .before .wide .ensures) (c .wide2 .ensures) (c .before .before .before .before .before .before .before .before .before .before .before .before .before .before .before .before .before .before .pre .0)
+split-sides-requires : tie.Need-split-sides-requires
+split-sides-requires c κs = split-at (c .before .wide .ensures) (c .wide2 .ensures) (c .before .before .before .before .before .before .before .before .before .before .before .before .before .before .before .pre .0)
+
+score-of-requires : tie.Need-score-of-requires
+score-of-requires c κs = search needs
 
 write-split-requires : tie.Need-write-split-requires
-write-split-requires c κs = c .before .before .before .before .before .before .before .before .before .before .before .before .before .before .before .before .before .before .before .before .before .before .before .before .before .before .before .before .before .before .before .before .before .before .before .pre .1
+write-split-requires c κs = c .before .before .before .before .before .before .before .before .before .before .before .before .before .before .before .before .before .before .before .before .before .before .before .before .before .before .before .before .before .before .pre .1
 
 same-length : tie.Need-same-length
 same-length c = search needs
@@ -37,14 +42,13 @@ same-length-6 c = search needs
 same-length-7 : tie.Need-same-length-7
 same-length-7 c = search needs
 
-same-length-8 : tie.Need-same-length-8
-same-length-8 c = search needs
-
-same-length-9 : tie.Need-same-length-9
-same-length-9 c = search needs
-
 returns : tie.Need-returns
-returns c = let a = c .before .before .before .before .before .before .before .before .before .before .before .before .before .before .before .before .before .before .before .before .before .before .before .before .before .before .before .before .before .before .before .before .before .before .before .before .before .before .before .before .before .before .before .before .before .before .before .before .args in (halved-at _ _ _ _ _ _ _ _ _ (c .before .before .before .before .before .before .before .before .before .before .before .before .before .before .before .before .before .before .before .before .before .before .before .before .before .before .before .before .before .before .before .wide .ensures) (c .before .before .before .before .before .before .before .before .before .before .before .before .before .before .before .before .before .before .before .before .before .before .before .before .before .before .before .before .before .before .wide2 .ensures) (c .before .before .before .before .before .before .before .before .before .before .before .before .before .before .before .before .before .before .before .before .before .before .before .before .before .before .before .before .before .halve .ensures), c .before .before .before .before .before .before .before .before .before .before .before .before .write-split .ensures)
+returns c =
+    let a = c .before .before .before .before .before .before .before .before .before .before .before .before .before .before .before .before .before .before .before .before .before .before .before .before .before .before .before .before .before .before .before .before .before .before .before .before .before .before .before .before .before .before .before .args in
+    let s = c .before .before .before .before .before .before .before .before .before .before .before .before .before .before .before .before .before .before .before .before .before .before .before .before .before .before .before .split-sides .result in (
+      done-at (c .before .before .before .before .before .before .before .before .before .before .before .before .before .before .before .before .before .before .before .before .before .before .before .before .before .before .before .before .before .wide .ensures) (c .before .before .before .before .before .before .before .before .before .before .before .before .before .before .before .before .before .before .before .before .before .before .before .before .before .before .before .before .wide2 .ensures) (c .before .before .before .before .before .before .before .before .before .before .before .before .before .before .before .before .before .before .before .before .before .before .before .before .before .before .before .split-sides .ensures),
+      c .before .before .before .before .before .before .before .before .before .before .before .before .write-split .ensures ∙ ap (λ q. wroteSplit (a .w) (s .yes .totals) (s .no .totals) q (a .n) (record { value = a .value .now; feature = a .feature .now; threshold = a .threshold .now; score = a .score .now; trueChild = a .yes .now; falseChild = a .no .now })) (c .before .before .before .before .before .before .before .before .before .before .before .before .before .before .before .before .before .before .before .score-of .ensures),
+    )
 
 pub split-node-spec : {M : Type 1} → statement M
 split-node-spec =
@@ -52,7 +56,8 @@ split-node-spec =
     (tie.spec
     wide-requires
     wide-requires-2
-    halve-requires
+    split-sides-requires
+    score-of-requires
     write-split-requires
     same-length
     same-length-2
@@ -61,6 +66,4 @@ split-node-spec =
     same-length-5
     same-length-6
     same-length-7
-    same-length-8
-    same-length-9
     returns)

@@ -1,8 +1,13 @@
 -- `search::best::step_of` meets its contract: by whether the value differs. Assumes nothing.
+use mathlib.Core.Path.{ap}
+use Rattle.search.specs.Flat.{heldOf, walkOf}
 use Rattle.search.specs.Laws.{step-same, step-new}
 use borrow.Author.Needs.{needs}
 use Rattle.search.proofs.best.step_of.Statement.{statement}
 use Rattle.search.proofs.best.step_of.Tie as tie
+
+anew-requires : tie.Need-anew-requires
+anew-requires c κs = search needs
 
 add-n : tie.Need-add-n
 add-n c = search needs
@@ -11,17 +16,13 @@ take-in-requires : tie.Need-take-in-requires
 take-in-requires c κs = search needs
 
 returns : tie.Need-returns
-returns c = let a = c .before .before .before .before .before .before .before .args in step-same (a .p) (a .a) (a .j) (a .w) (a .e) (c .before .before .before .take-in .ensures) (c .if1 .taken)
+returns c = λ j. let a = c .before .before .before .before .before .before .before .before .args in step-same (a .p) (a .a) j (walkOf j (a .w)) (a .e) (ap (heldOf j) (c .before .before .before .before .before .before .anew .ensures)) (c .before .before .before .take-in .ensures) (c .if1 .taken)
 
-threshold-of-requires : tie.Need-threshold-of-requires
-threshold-of-requires c κs = search needs
-
-judge-of-requires : tie.Need-judge-of-requires
-judge-of-requires c κs = search needs
+judge-spot-requires : tie.Need-judge-spot-requires
+judge-spot-requires c κs = search needs
 
 returns-2 : tie.Need-returns-2
-returns-2 c = let a = c .before .before .before .before .before .before .before .before .before .args in step-new (a .p) (a .a) (a .j) (a .w) (a .e) (c .before .before .before .before .before .take-in .ensures) (c .before .before .if1 .left) (c .before .threshold-of .ensures .exact) (c .judge-of .ensures)
+returns-2 c = λ j. let a = c .before .before .before .before .before .before .before .before .before .args in step-new (a .p) (a .a) j (walkOf j (a .w)) (a .e) (ap (heldOf j) (c .before .before .before .before .before .before .before .anew .ensures)) (c .before .before .before .before .take-in .ensures) (c .before .if1 .left) (c .judge-spot .ensures j)
 
 pub step-of-spec : {M : Type 1} → statement M
-step-of-spec =
-    tie.close (tie.spec add-n take-in-requires returns threshold-of-requires judge-of-requires returns-2)
+step-of-spec = tie.close (tie.spec anew-requires add-n take-in-requires returns judge-spot-requires returns-2)

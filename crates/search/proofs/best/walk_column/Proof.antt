@@ -4,7 +4,7 @@ use mathlib.Core.Path.{_≡_, refl, sym, _∙_, subst}
 use Prim.Native.Nat.{_+_, _-_, _≤_, _<_}
 use mathlib.Core.List.{map}
 use lib.ListN.{length, getD, drop}
-use Rattle.search.specs.Flat.{elementOf, bare}
+use Rattle.search.specs.Flat.{elementOf, bare, walkOf}
 use Rattle.rules.specs.Search.{walk, tally}
 use Rattle.search.specs.Laws.{cell-here, turn-fits, turn-room, turn-walk, turn-end}
 use borrow.Author.Needs.{needs}
@@ -15,7 +15,7 @@ abbrev Inv-loop : tie.InvT-loop
 Inv-loop x y weights counts col rows features p j a v₀ i₀ v i =
     (i ≤ length col)
     × (v .count + tally (map (elementOf features (record { x = x; y = y; weights = weights; counts = counts })) (drop i col)) ≤ a .count)
-    × (walk p (bare a) j v (map (elementOf features (record { x = x; y = y; weights = weights; counts = counts })) (drop i col)) ≡ walk p (bare a) j v₀ (map (elementOf features (record { x = x; y = y; weights = weights; counts = counts })) col))
+    × (walk p (bare a) j (walkOf j v) (map (elementOf features (record { x = x; y = y; weights = weights; counts = counts })) (drop i col)) ≡ walk p (bare a) j (walkOf j v₀) (map (elementOf features (record { x = x; y = y; weights = weights; counts = counts })) col))
 
 abbrev μ-loop : tie.MeasureT-loop
 μ-loop x y weights counts col rows features p j a v₀ i₀ v i = length col - i
@@ -55,12 +55,12 @@ loop-again c =
     let l = c .before .before .before .before .before .before .loop in
     let e = cell-here (a .features) (record { x = a .x .now; y = a .y .now; weights = a .weights .now; counts = a .counts .now }) (a .j) (getD (a .col .now) (l .i) 0) (c .before .cell-of .ensures) (c .before .before .before .before .wide .ensures) (c .before .before .wide2 .ensures) in (
       omega arith,
-      turn-room (elementOf (a .features) (record { x = a .x .now; y = a .y .now; weights = a .weights .now; counts = a .counts .now })) (a .col .now) (l .i) (c .before .before .before .before .before .loop-test .taken) (a .p) (a .a) (a .j) (l .v) (a .a .count) e (c .step-of .ensures) (l .inv .1),
-      turn-walk (elementOf (a .features) (record { x = a .x .now; y = a .y .now; weights = a .weights .now; counts = a .counts .now })) (a .col .now) (l .i) (c .before .before .before .before .before .loop-test .taken) (a .p) (a .a) (a .j) (l .v) e (c .step-of .ensures) ∙ l .inv .2,
+      turn-room (elementOf (a .features) (record { x = a .x .now; y = a .y .now; weights = a .weights .now; counts = a .counts .now })) (a .col .now) (l .i) (c .before .before .before .before .before .loop-test .taken) (a .p) (a .a) (a .j) (walkOf (a .j) (l .v)) (a .a .count) e (c .step-of .ensures (a .j)) (l .inv .1),
+      turn-walk (elementOf (a .features) (record { x = a .x .now; y = a .y .now; weights = a .weights .now; counts = a .counts .now })) (a .col .now) (l .i) (c .before .before .before .before .before .loop-test .taken) (a .p) (a .a) (a .j) (walkOf (a .j) (l .v)) e (c .step-of .ensures (a .j)) ∙ l .inv .2,
     )
 
 returns : tie.Need-returns Inv-loop μ-loop
-returns c = let a = c .before .before .before .before .before .before .before .args in let l = c .before .loop in sym (turn-end (elementOf (a .features) (record { x = a .x .now; y = a .y .now; weights = a .weights .now; counts = a .counts .now })) (a .col .now) (l .i) (c .loop-test .left) (a .p) (a .a) (a .j) (l .v)) ∙ l .inv .2
+returns c = let a = c .before .before .before .before .before .before .before .args in let l = c .before .loop in sym (turn-end (elementOf (a .features) (record { x = a .x .now; y = a .y .now; weights = a .weights .now; counts = a .counts .now })) (a .col .now) (l .i) (c .loop-test .left) (a .p) (a .a) (a .j) (walkOf (a .j) (l .v))) ∙ l .inv .2
 
 pub walk-column-spec : {M : Type 1} → statement M
 walk-column-spec =

@@ -1,0 +1,224 @@
+-- The children of a node that was taken off the waiting list. Where neither is searched, the rest of the list stands over the columns as they are;
+-- else the columns are parted by the flags, and each side's rows lie together. Assumes nothing.
+use Prim.Native.Nat.{ℕ, suc, _+_, _<_, _≤_}
+use native.Mathlib.Nat.{le-refl, lt-of-le-of-lt}
+use native.Mathlib.Omega.{arith}
+use mathlib.Core.Path.{_≡_, refl, sym, ap, _∙_, subst}
+use mathlib.Core.Logic.{inl}
+use mathlib.Core.Bool.{Bool, true, false, not, _||_, true≢false}
+use mathlib.Core.List.{List, [], _++_, map}
+use lib.ListN.{length, getD}
+use lib.Ieee.{Float}
+use Rattle.rules.specs.declared.Params.{Params}
+use Rattle.rules.specs.declared.Cut.{Cut}
+use Rattle.rules.specs.Words.{keep, total}
+use Rattle.rules.specs.Search.{Element, search, same, goesTrue, trueSide, falseSide, sideOf}
+use Rattle.rules.specs.Growth.{Waiting, child, searchable, searchIf}
+use Rattle.rules.specs.Draws.{bind, ok, tape}
+use Rattle.laws.specs.Lists.{keep-map}
+use Rattle.laws.specs.Cuts.{Good, side-good}
+use Rattle.columns.specs.declared.Side.{Side}
+use Rattle.columns.specs.declared.Sides.{Sides}
+use Rattle.columns.specs.Columns.{flagged, partedColumns, ColumnsAsk}
+use Rattle.columns.specs.Split.{SplitAsks, SplitDone}
+use Rattle.columns.specs.Stretches.{part-every}
+use Rattle.columns.specs.Halves.{split-long, columns-ask, split-beside, split-every, true-part, false-part}
+use Rattle.search.specs.declared.Asked.{Asked}
+use Rattle.search.specs.Flat.{elementOf, part, bare, sideOn, drawsAt}
+use Rattle.growth.specs.declared.Wait.{Wait}
+use Rattle.growth.specs.declared.Stand.{Stand}
+use Rattle.growth.specs.declared.Step.{Step}
+use Rattle.growth.specs.declared.Step.the-variants.{Goes}
+use Rattle.growth.specs.Rooms.{Ground, cutOf, askedOf, nodeTask, waitingOf, stackOf, BelowTo, searchTwo, Taken, BothAsks, BothDone, SidesDone}
+use Rattle.growth.specs.Steps.{laid-more}
+use Rattle.growth.specs.Both.{onto, chain}
+use Rattle.growth.specs.Frames.{withCols, column-at, task-of, frame, good-alike, good-room, good-asks, part-short, ones-map, rows-of}
+
+abbrev pub asked : Side → Asked
+asked s = record { totals = s .totals; count = s .count }
+
+-- ---- a node's ends as the code widened them
+
+ends-at : (Q : ℕ → ℕ → Type 0) {a e a′ e′ : ℕ} → a′ ≡ a → e′ ≡ e → Q a e → Q a′ e′
+ends-at Q {a} {e} {a′} {e′} ea ee h = subst (λ z. Q z e′) (sym ea) (subst (Q a) (sym ee) h)
+
+pub split-at : {rows features a e a′ e′ fl : ℕ} {x y ws : List Float} {ks cols : List ℕ} {c : Cut} → a′ ≡ a → e′ ≡ e → SplitAsks rows features a e x y ws ks c cols fl → SplitAsks rows features a′ e′ x y ws ks c cols fl
+split-at {rows} {features} {a} {e} {a′} {e′} {fl} {x} {y} {ws} {ks} {cols} {c} = ends-at (λ u v. SplitAsks rows features u v x y ws ks c cols fl)
+
+pub done-at : {rows a e a′ e′ : ℕ} {el : ℕ → Element} {c : Cut} {cols : List ℕ} {fl : List Bool} {h : Sides} → a′ ≡ a → e′ ≡ e → SplitDone rows a′ e′ el c cols fl h → SplitDone rows a e el c cols fl h
+done-at {rows} {a} {e} {a′} {e′} {el} {c} {cols} {fl} {h} ea ee = ends-at (λ u v. SplitDone rows u v el c cols fl h) (sym ea) (sym ee)
+
+-- ---- a split node's children
+
+neither : (a b : Bool) → (a || b) ≡ false → (a ≡ false) × (b ≡ false)
+neither true b h = absurd (true≢false h)
+neither false b h = (refl, h)
+
+module _ (g : Ground) (P : Params) (W : List ℕ) (sc : ℕ) (flags : List Bool) (wholes : List (List ℕ)) (reals : List (List Float)) (w : Wait) (n : ℕ) (s : Stand)
+    (q : Taken g P W sc (length flags) wholes reals w n s) where
+  abbrev el : ℕ → Element
+  el = elementOf (g .features) (g .tables)
+
+  abbrev top : Waiting
+  top = waitingOf g w
+
+  abbrev rows-of-split : List ℕ
+  rows-of-split = part (g .rows) (g .cols) (w .start) (w .end) (w .feature)
+
+  known : w .feature < g .features
+  known = subst (λ k. w .feature < k) (sym (q .same)) (q .ripe .fine .known)
+
+  pub mine : map el rows-of-split ≡ getD (top .task .columns) (w .feature) []
+  mine = column-at g (w .start) (w .end) (w .feature) known
+
+  pub taken-room : (s .waiting < length wholes) × (s .waiting < length reals)
+  taken-room = (omega (arith, some-rows, q .place, q .high, q .whole-room), omega (arith, some-rows, q .place, q .high, q .real-room))
+    where
+      some-rows : w .start < w .end
+      some-rows = rows-of (g .rows) (g .cols) (w .start) (w .end) (w .feature) el (goesTrue (cutOf w)) (subst (λ z. 0 < total (λ x. 1) (trueSide (cutOf w) z)) (sym mine) (q .ripe .fine .someTrue))
+
+  pub taken-splits : w .count < 4294967296 → SplitAsks (g .rows) (g .features) (w .start) (w .end) (g .tables .x) (g .tables .y) (g .tables .weights) (g .tables .counts) (cutOf w) (g .cols) (length flags)
+  taken-splits m =
+      record {
+        shaped = record { tables = record { counted = q .shape .counted; weighed = q .shape .weighed }; wide = q .shape .wide; targeted = q .shape .targets };
+        few = q .small;
+        known = known;
+        long = omega (arith, q .long);
+        order = q .order;
+        high = q .high;
+        flagRoom = q .flag-room;
+        below = λ k h. part-every (λ r. r < g .rows) (g .rows) k 0 (w .end) (w .start) (w .end) (g .cols) (omega arith) (le-refl (w .end)) (q .order) (q .below k h);
+        alike = λ k h. good-alike g P (q .same) (w .start) (w .end) (askedOf w) (q .ripe .good) (w .feature) k known h;
+        count = lt-of-le-of-lt (good-room g P (q .same) (w .start) (w .end) (askedOf w) (q .ripe .good) (w .feature) known) m;
+      }
+
+  pub taken-parts : w .count < 4294967296 → {a e : ℕ} → a ≡ w .start → e ≡ w .end → ColumnsAsk (g .rows) (g .features) a e (g .cols) sc (length flags)
+  taken-parts m ea ee =
+      ends-at (λ u v. ColumnsAsk (g .rows) (g .features) u v (g .cols) sc (length flags)) ea ee
+      (columns-ask (g .rows) (g .features) (w .start) (w .end) (g .tables .x) (g .tables .y) (g .tables .weights) (g .tables .counts) (cutOf w) (g .cols) sc (length flags) (taken-splits m) (q .scratch-room))
+
+  module _ (h : Sides) (d : SplitDone (g .rows) (w .start) (w .end) el (cutOf w) (g .cols) flags h) where
+    yes-side : asked (h .yes) ≡ sideOn (trueSide (cutOf w) (map el rows-of-split))
+    yes-side = ap (λ (z : Sides). asked (z .yes)) (d .sides)
+
+    no-side : asked (h .no) ≡ sideOn (falseSide (cutOf w) (map el rows-of-split))
+    no-side = ap (λ (z : Sides). asked (z .no)) (d .sides)
+
+    -- the children's totals and counts
+    pub yes-child : asked (h .yes) ≡ record { totals = child same top .totals; count = child same top .count }
+    unfolding child
+    yes-child = yes-side ∙ ap (λ z. sideOn (trueSide (cutOf w) z)) mine
+
+    pub no-child : asked (h .no) ≡ record { totals = child not top .totals; count = child not top .count }
+    unfolding child
+    no-child = no-side ∙ ap (λ z. sideOn (falseSide (cutOf w) z)) mine
+
+    pub sides-skip : (M : List Float) → (searchable P (w .level + 1) (bare (asked (h .yes))) || searchable P (w .level + 1) (bare (asked (h .no)))) ≡ false
+        → SidesDone g g P W M wholes reals wholes reals w n s (Goes s)
+    unfolding searchable searchIf bind
+    sides-skip M e =
+        record {
+          same = λ i.
+              bind (bind (searchIf P (search (tape (P .features)) P) (first i) n (w .level + 1) (child same top) (drawsAt W M (s .drawn)))
+              (chain (λ t. searchIf P (search (tape (P .features)) P) (second i) (suc n) (w .level + 1) (child not top) t))) (onto (stackOf g wholes reals (s .waiting)));
+          long = refl;
+          below = λ m u v b. b;
+          laid = laid-more wholes reals (s .waiting) (w .start) (w .end) (q .order) (q .laid);
+          fair = q .fair;
+        }
+      where
+        first : searchable P (w .level + 1) (child same top) ≡ false
+        first = sym (ap (λ z. searchable P (w .level + 1) (bare z)) yes-child) ∙ neither (searchable P (w .level + 1) (bare (asked (h .yes)))) (searchable P (w .level + 1) (bare (asked (h .no)))) e .0
+
+        second : searchable P (w .level + 1) (child not top) ≡ false
+        second = sym (ap (λ z. searchable P (w .level + 1) (bare z)) no-child) ∙ neither (searchable P (w .level + 1) (bare (asked (h .yes)))) (searchable P (w .level + 1) (bare (asked (h .no)))) e .1
+
+    -- the sides lie within the node
+    pub sides-fit : w .start + h .rows ≤ w .end
+    sides-fit = omega (arith, d .within, q .order)
+
+    -- parted by the flags
+    module _ (m : w .count < 4294967296) (cols′ : List ℕ) {a z : ℕ} (ea : a ≡ w .start) (ez : z ≡ w .end) (p : cols′ ≡ partedColumns (g .rows) a z (flagged flags) (g .features) (g .cols)) where
+      e : cols′ ≡ partedColumns (g .rows) (w .start) (w .end) (flagged flags) (g .features) (g .cols)
+      e = p ∙ (λ i. partedColumns (g .rows) (ea i) (ez i) (flagged flags) (g .features) (g .cols))
+
+      abbrev g′ : Ground
+      g′ = withCols g cols′
+
+      abbrev mid : ℕ
+      mid = w .start + h .rows
+
+      long : length cols′ ≡ length (g .cols)
+      long = split-long (g .rows) (g .features) (w .start) (w .end) (g .tables .x) (g .tables .y) (g .tables .weights) (g .tables .counts) (cutOf w) (g .cols) cols′ flags h (taken-splits m) d e
+
+      below : (j : ℕ) → w .end ≤ j → j ≤ g .rows → BelowTo g j → BelowTo g′ j
+      below j u v b k l =
+          split-every (g .rows) (g .features) (w .start) (w .end) (g .tables .x) (g .tables .y) (g .tables .weights) (g .tables .counts) (cutOf w) (g .cols) cols′ flags h (taken-splits m) d e
+          (λ r. r < g .rows) k j l u v (b k l)
+
+      yes-part : (k : ℕ) → k < g .features → part (g .rows) cols′ (w .start) mid k ≡ keep (λ r. goesTrue (cutOf w) (el r)) (part (g .rows) (g .cols) (w .start) (w .end) k)
+      yes-part = true-part (g .rows) (g .features) (w .start) (w .end) (g .tables .x) (g .tables .y) (g .tables .weights) (g .tables .counts) (cutOf w) (g .cols) cols′ flags h (taken-splits m) d e
+
+      no-part : (k : ℕ) → k < g .features → part (g .rows) cols′ mid (w .end) k ≡ keep (λ r. not (goesTrue (cutOf w) (el r))) (part (g .rows) (g .cols) (w .start) (w .end) k)
+      no-part = false-part (g .rows) (g .features) (w .start) (w .end) (g .tables .x) (g .tables .y) (g .tables .weights) (g .tables .counts) (cutOf w) (g .cols) cols′ flags h (taken-splits m) d e
+
+      yes-task : nodeTask g′ (w .start) mid (asked (h .yes)) ≡ child same top
+      yes-task = task-of g w cols′ same (w .start) mid (asked (h .yes)) known yes-part yes-side
+
+      no-task : nodeTask g′ mid (w .end) (asked (h .no)) ≡ child not top
+      no-task = task-of g w cols′ not mid (w .end) (asked (h .no)) known no-part no-side
+
+      -- a side that has rows takes up places
+      filled : (b : Bool → Bool) (a z : ℕ) → part (g .rows) cols′ a z (w .feature) ≡ keep (λ r. b (goesTrue (cutOf w) (el r))) rows-of-split
+          → 0 < total (λ x. 1) (sideOf b (cutOf w) (getD (top .task .columns) (w .feature) [])) → a < z
+      filled b a z p u =
+          omega (arith, part-short (g .rows) cols′ a z (w .feature), subst (λ i. 0 < i) (ones-map el (part (g .rows) cols′ a z (w .feature))) (subst (λ l. 0 < total (λ x. 1) l) (sym elements) u))
+        where
+          elements : map el (part (g .rows) cols′ a z (w .feature)) ≡ sideOf b (cutOf w) (getD (top .task .columns) (w .feature) [])
+          elements = ap (map el) p ∙ sym (keep-map (λ x. b (goesTrue (cutOf w) x)) el rows-of-split) ∙ ap (sideOf b (cutOf w)) mine
+
+      starts : w .start < mid
+      starts = filled same (w .start) mid (yes-part (w .feature) known) (q .ripe .fine .someTrue)
+
+      ends : mid < w .end
+      ends = filled not mid (w .end) (no-part (w .feature) known) (q .ripe .fine .someFalse)
+
+      pub both-asks : BothAsks g′ P W n (w .start) mid (w .end) (asked (h .yes)) (asked (h .no)) s (length wholes) (length reals)
+      both-asks =
+          record {
+            first = record {
+              node = good-asks g′ P (q .same) (w .start) mid (asked (h .yes)) (subst (Good P) (sym yes-task) (side-good P same top (q .ripe))) (q .shape) (long ∙ q .long) (w .end) sides-fit rows-after (omega (arith, starts)) (omega (arith, ends, q .high));
+              same = q .same;
+              few = q .few;
+              some = q .some;
+              fair = q .fair;
+              wholes = taken-room .0;
+              reals = taken-room .1;
+            };
+            second = good-asks g′ P (q .same) mid (w .end) (asked (h .no)) (subst (Good P) (sym no-task) (side-good P not top (q .ripe))) (q .shape) (long ∙ q .long) (w .end) (le-refl (w .end)) rows-after (omega (arith, ends)) (q .high);
+            wholes = omega (arith, q .place, starts, ends, q .high, q .whole-room);
+            reals = omega (arith, q .place, starts, ends, q .high, q .real-room);
+            small = q .number;
+          }
+        where
+          rows-after : BelowTo g′ (w .end)
+          rows-after = below (w .end) (le-refl (w .end)) (q .high) (q .below)
+
+      pub sides-both : (M : List Float) (wholes′ : List (List ℕ)) (reals′ : List (List Float)) (r : Step)
+          → BothDone g′ P W M wholes reals wholes′ reals′ n (w .level + 1) (w .start) mid (w .end) (asked (h .yes)) (asked (h .no)) s r → SidesDone g g′ P W M wholes reals wholes′ reals′ w n s r
+      sides-both M wholes′ reals′ r b =
+          record {
+            same = (λ i. bind (searchTwo P n (w .level + 1) (sym yes-task i) (sym no-task i) (drawsAt W M (s .drawn))) (λ o. ok (o .0 ++ sym under i, o .1))) ∙ b .same;
+            long = long;
+            below = below;
+            laid = b .laid (w .start) (q .laid) (q .place) (le-refl (w .start)) starts sides-fit;
+            fair = b .fair;
+          }
+        where
+          under : stackOf g′ wholes reals (s .waiting) ≡ stackOf g wholes reals (s .waiting)
+          under = frame g cols′ (w .start) beside wholes reals (w .start) (s .waiting) (le-refl (w .start)) (q .laid)
+            where
+              beside : (k b f : ℕ) → b ≤ f → f ≤ w .start → part (g .rows) cols′ b f k ≡ part (g .rows) (g .cols) b f k
+              beside k b f o u =
+                  split-beside (g .rows) (g .features) (w .start) (w .end) (g .tables .x) (g .tables .y) (g .tables .weights) (g .tables .counts) (cutOf w) (g .cols) cols′ flags h (taken-splits m) d e
+                  k b f (inl u) o (omega (arith, u, q .order, q .high))

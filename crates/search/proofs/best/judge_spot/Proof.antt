@@ -1,0 +1,25 @@
+-- `search::best::judge_spot` meets its contract: what is held is judged as the definition does. Assumes nothing.
+use Rattle.search.specs.Flat.{cutBetween, heldOf}
+use Rattle.search.specs.Laws.{judge-few, judge-goes}
+use borrow.Author.Needs.{needs}
+use Rattle.search.proofs.best.judge_spot.Statement.{statement}
+use Rattle.search.proofs.best.judge_spot.Tie as tie
+
+too-few-requires : tie.Need-too-few-requires
+too-few-requires c κs = search needs
+
+returns : tie.Need-returns
+returns c = λ j. let a = c .before .before .args in judge-few (a .p) (a .a) (heldOf j (a .s)) (a .t) (a .k) (cutBetween j (a .low) (a .high)) (c .before .too-few .ensures) (c .if1 .taken)
+
+proxy-in-requires : tie.Need-proxy-in-requires
+proxy-in-requires c κs = search needs
+
+better-spot-requires : tie.Need-better-spot-requires
+better-spot-requires c κs = search needs
+
+returns-2 : tie.Need-returns-2
+returns-2 c = λ j. let a = c .before .before .before .before .args in judge-goes (a .p) (a .a) (heldOf j (a .s)) (a .t) (a .k) (cutBetween j (a .low) (a .high)) (c .before .before .before .too-few .ensures) (c .before .before .if1 .left) (c .before .proxy-in .ensures) (c .better-spot .ensures j)
+
+pub judge-spot-spec : {M : Type 1} → statement M
+judge-spot-spec =
+    tie.close (tie.spec too-few-requires returns proxy-in-requires better-spot-requires returns-2)
