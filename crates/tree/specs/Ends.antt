@@ -1,0 +1,174 @@
+-- How a fit of one tree ends: from the passed checks to what growth asks, and from what growth leaves to the outcome of the rules. Assumes nothing.
+use Prim.Native.Nat.{ℕ, zero, suc, _-_, _*_, _<_, _≤_, min, max}
+use native.Mathlib.Nat.{one-mul, mul-le-mul}
+use native.Mathlib.Omega.{arith}
+use mathlib.Core.Path.{_≡_, refl, sym, ap, _∙_, subst}
+use mathlib.Core.Bool.{false}
+use mathlib.Core.List.{List, [], _∷_}
+use lib.ListN.{length, getD, take, drop, replicate, length-take, length-drop}
+use lib.Dec.{leb, leb→le}
+use Rattle.rules.specs.declared.Params.{Params}
+use Rattle.rules.specs.declared.TreeAnswer.{TreeAnswer}
+use Rattle.rules.specs.Words.{nought, filled}
+use Rattle.rules.specs.Lent.{Columns, Work, TreeRooms, Outcome, Stack, stack, zeroColumns, zeroWork}
+use Rattle.rules.specs.Checks.{firstFailed, workEnough}
+use Rattle.rules.specs.Draws.{bad}
+use Rattle.rules.specs.Fit.{paramsOf, TreeCall, frameOf, grownTree, treeTests, treeDone, treeEnds, fitTree}
+use Rattle.laws.specs.Lists.{Every}
+use Rattle.laws.specs.Passed.{TreePassed, tree-passed, Binary64, and4}
+use Rattle.laws.specs.Answered.{tree-listed}
+use Rattle.columns.specs.Setup.{counted-passed}
+use Rattle.plant.specs.declared.Planted.{Planted}
+use Rattle.plant.specs.declared.Planted.the-variants.{BadDraw, Grown}
+use Rattle.plant.specs.Plant.{frameIn, ParamsMade, PlantAsks, Answers, PlantDone}
+
+-- what a tree that was grown, or a bad draw, leaves of the rooms
+abbrev pub finished : Planted → TreeRooms Stack → Outcome TreeAnswer (TreeRooms Stack)
+finished (BadDraw k) R =
+    record { answer = TreeAnswer.BadDraw (record { tree = 0; search = k }); rooms = record { nodes = zeroColumns (R .nodes); work = zeroWork stack (R .work) } }
+finished (Grown r) R = record { answer = TreeAnswer.Grown r; rooms = record { nodes = R .nodes; work = zeroWork stack (R .work) } }
+
+-- ---- rooms filled with zero look at lengths alone
+
+filled-same : {A : Type 0} (x : A) (l l′ : List A) → length l′ ≡ length l → filled x l′ ≡ filled x l
+filled-same x [] [] e = refl
+filled-same x [] (y ∷ l′) e = absurd (omega arith)
+filled-same x (z ∷ l) [] e = absurd (omega arith)
+filled-same x (z ∷ l) (y ∷ l′) e = ap (λ t. x ∷ t) (filled-same x l l′ (omega arith))
+
+pub record NodesLong (c c′ : Columns) : Type 0 where
+  pub value : length (c′ .value) ≡ length (c .value)
+  pub feature : length (c′ .feature) ≡ length (c .feature)
+  pub threshold : length (c′ .threshold) ≡ length (c .threshold)
+  pub score : length (c′ .score) ≡ length (c .score)
+  pub yes : length (c′ .trueChild) ≡ length (c .trueChild)
+  pub no : length (c′ .falseChild) ≡ length (c .falseChild)
+
+pub record WorkLong (w w′ : Work Stack) : Type 0 where
+  pub order : length (w′ .order) ≡ length (w .order)
+  pub scratch : length (w′ .scratch) ≡ length (w .scratch)
+  pub flags : length (w′ .flags) ≡ length (w .flags)
+  pub wholes : length (w′ .waiting .wholes) ≡ length (w .waiting .wholes)
+  pub reals : length (w′ .waiting .reals) ≡ length (w .waiting .reals)
+
+nodes-zero : (c c′ : Columns) → NodesLong c c′ → zeroColumns c′ ≡ zeroColumns c
+nodes-zero c c′ h = λ i.
+    record {
+      value = filled-same nought (c .value) (c′ .value) (h .value) i;
+      feature = filled-same 0 (c .feature) (c′ .feature) (h .feature) i;
+      threshold = filled-same nought (c .threshold) (c′ .threshold) (h .threshold) i;
+      score = filled-same nought (c .score) (c′ .score) (h .score) i;
+      trueChild = filled-same 0 (c .trueChild) (c′ .trueChild) (h .yes) i;
+      falseChild = filled-same 0 (c .falseChild) (c′ .falseChild) (h .no) i;
+    }
+
+work-zero : (w w′ : Work Stack) → WorkLong w w′ → zeroWork stack w′ ≡ zeroWork stack w
+work-zero w w′ h = λ i.
+    record {
+      order = filled-same 0 (w .order) (w′ .order) (h .order) i;
+      scratch = filled-same 0 (w .scratch) (w′ .scratch) (h .scratch) i;
+      flags = filled-same false (w .flags) (w′ .flags) (h .flags) i;
+      waiting = record {
+        wholes = filled-same (replicate 6 0) (w .waiting .wholes) (w′ .waiting .wholes) (h .wholes) i;
+        reals = filled-same (replicate 3 nought) (w .waiting .reals) (w′ .waiting .reals) (h .reals) i;
+      };
+    }
+
+-- ---- the outcome
+
+-- what holds at every place holds of every entry
+pub every-each : {A : Type 0} (Q : A → Type 0) (l : List A) (d : A) → ((i : ℕ) → Q (getD l i d)) → Every Q l
+every-each Q [] d h = tt
+every-each Q (x ∷ l) d h = (h 0, every-each Q l d (λ i. h (suc i)))
+
+-- ---- a front part that is lent
+
+pub lent-long {ℓ} : {A : Type ℓ} (n : ℕ) (l : List A) → n ≤ length l → length (take (n - 0) (drop 0 l)) ≡ n
+lent-long n l h = simp (length-take, length-drop) (omega arith)
+
+none : (n : ℕ) → n ≤ 0 → n ≡ 0
+none n h = omega arith
+
+module _ (C : TreeCall) (R : TreeRooms Stack) where
+  pub fit-refused : (n : ℕ) → n ≡ firstFailed (treeTests stack C R) → 0 < n → record { answer = TreeAnswer.Refused n; rooms = R } ≡ fitTree stack C R
+  unfolding fitTree treeEnds
+  fit-refused zero e h = absurd (omega arith)
+  fit-refused (suc n) e h = ap (λ k. treeEnds stack k (grownTree C) R) e
+
+  module _ (R′ : TreeRooms Stack) (ln : NodesLong (R .nodes) (R′ .nodes)) (lw : WorkLong (R .work) (R′ .work)) where
+    finished-is : (r : Planted) → Answers (frameOf C) (C .given .inputs) (R .nodes) (R′ .nodes) r → finished r R′ ≡ treeDone stack (grownTree C) R
+    unfolding treeDone grownTree
+    finished-is (BadDraw k) a =
+        (λ i. record { answer = TreeAnswer.BadDraw (record { tree = 0; search = k }); rooms = record { nodes = nodes-zero (R .nodes) (R′ .nodes) ln i; work = work-zero (R .work) (R′ .work) lw i } })
+        ∙ ap (λ o. treeDone stack o R) (sym a)
+    finished-is (Grown r) a =
+        (λ i. record { answer = TreeAnswer.Grown (sym (a .report) i); rooms = record { nodes = a .written i; work = work-zero (R .work) (R′ .work) lw i } })
+        ∙ ap (λ o. treeDone stack o R) (sym (a .same))
+
+    pub fit-finished : (n : ℕ) → n ≡ firstFailed (treeTests stack C R) → n ≤ 0 → (p : Params) → ParamsMade (C .settings) (C .tried) (C .shape .features) p → (r : Planted)
+        → PlantDone (frameIn (C .shape .rows) p (C .given .weights) (C .given .counts) (C .words) (C .thresholds)) (C .given .inputs) (R .nodes) (R′ .nodes) r → finished r R′ ≡ fitTree stack C R
+    unfolding fitTree treeEnds frameOf
+    fit-finished n e h p m r d =
+        finished-is r (subst (λ q. PlantDone (frameIn (C .shape .rows) q (C .given .weights) (C .given .counts) (C .words) (C .thresholds)) (C .given .inputs) (R .nodes) (R′ .nodes) r) (m .same) d .done)
+        ∙ ap (λ k. treeEnds stack k (grownTree C) R) (sym (none n h) ∙ e)
+
+  -- ---- what growth asks
+
+  module _ (n : ℕ) (e : n ≡ firstFailed (treeTests stack C R)) (h : n ≤ 0) where
+    all-passed : TreePassed stack C R
+    all-passed = tree-passed stack C R (sym e ∙ none n h)
+
+    work-room : (C .shape .features * C .shape .rows ≤ length (R .work .order)) × (C .shape .rows ≤ length (R .work .scratch))
+        × (max (C .shape .rows) (C .shape .features) ≤ length (R .work .flags)) × (C .shape .rows ≤ stack .places (R .work .waiting))
+    unfolding workEnough
+    work-room =
+        let (o, s, f, w) = and4 (leb (C .shape .features * C .shape .rows) (length (R .work .order))) (leb (C .shape .rows) (length (R .work .scratch)))
+        (leb (max (C .shape .rows) (C .shape .features)) (length (R .work .flags))) (leb (C .shape .rows) (stack .places (R .work .waiting))) (all-passed .work) in
+        (leb→le _ _ o, leb→le _ _ s, leb→le _ _ f, leb→le _ _ w)
+
+    pub few-features : C .shape .features ≤ 1024
+    few-features = all-passed .passed .fewFeatures
+
+    pub size-low : C .shape .features * C .shape .rows ≤ 1024 * 65535
+    size-low = mul-le-mul few-features (all-passed .passed .fewRows)
+
+    pub size-room : C .shape .features * C .shape .rows ≤ length (R .work .order)
+    size-room = work-room .0
+
+    pub plant-asks : Binary64 (C .given .inputs .values) → (p : Params) → ParamsMade (C .settings) (C .tried) (C .shape .features) p → (k : ℕ) → k ≡ C .shape .features * C .shape .rows
+        → PlantAsks (C .shape .features) (frameIn (C .shape .rows) p (C .given .weights) (C .given .counts) (C .words) (C .thresholds)) (C .given .inputs) (R .nodes)
+        k (length (R .work .scratch)) (length (R .work .flags)) (length (R .work .waiting .wholes)) (length (R .work .waiting .reals))
+    unfolding frameOf paramsOf
+    plant-asks held p m k ek =
+        let q = all-passed .passed in
+        subst (λ p′. PlantAsks (C .shape .features) (frameIn (C .shape .rows) p′ (C .given .weights) (C .given .counts) (C .words) (C .thresholds)) (C .given .inputs) (R .nodes)
+        k (length (R .work .scratch)) (length (R .work .flags)) (length (R .work .waiting .wholes)) (length (R .work .waiting .reals))) (sym (m .same))
+        (record {
+          listed = tree-listed stack C R held (sym e ∙ none n h) .0;
+          same = refl;
+          rows = q .someRows;
+          few = q .fewRows;
+          some = q .someFeatures;
+          wide = q .valuesLong;
+          targeted = q .targetsLong;
+          tables = counted-passed (C .shape .rows) (C .given .weights) (C .given .counts) (q .countsLong ∙ one-mul (C .shape .rows)) (q .weightsLong);
+          low = q .countsLow;
+          listings = q .listingsLong;
+          features-few = few-features;
+          deep = subst (λ (p′ : Params). p′ .limit ≤ 65535) (m .same) (m .deep);
+          col-room = ek;
+          scratch-room = work-room .1;
+          flag-room = rows-of (C .shape .rows) (C .shape .features) (length (R .work .flags)) (work-room .2);
+          whole-room = first (C .shape .rows) (length (R .work .waiting .wholes)) (length (R .work .waiting .reals)) (work-room .3);
+          real-room = second (C .shape .rows) (length (R .work .waiting .wholes)) (length (R .work .waiting .reals)) (work-room .3);
+          node-room = all-passed .room;
+        })
+      where
+        rows-of : (r f n : ℕ) → max r f ≤ n → r ≤ n
+        rows-of r f n h = omega arith
+
+        first : (r a b : ℕ) → r ≤ min a b → r ≤ a
+        first r a b h = omega arith
+
+        second : (r a b : ℕ) → r ≤ min a b → r ≤ b
+        second r a b h = omega arith
