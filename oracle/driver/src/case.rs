@@ -2,8 +2,7 @@
 
 use crate::calls::{Call, Fit, Read};
 use crate::expect;
-use crate::library::Library;
-use crate::run;
+use crate::library::Held;
 use crate::wire;
 
 pub struct Case {
@@ -32,8 +31,9 @@ impl Case {
         expect::expect(&self.call, self.refusal).encode()
     }
 
-    pub fn answer(&self, library: &dyn Library) -> Vec<u64> {
-        run::run(library, &self.call).encode()
+    /// None where the library has no such call.
+    pub fn answer(&self, library: &dyn Held) -> Option<Vec<u64>> {
+        Some(library.outcome(&self.call)?.encode())
     }
 
     /// The call as numbers, its kind first.

@@ -3,7 +3,7 @@
 use crate::calls::Call;
 use crate::case::{self, Case};
 use crate::chance::Chance;
-use crate::library::Library;
+use crate::library::{Held, Library};
 use crate::make_fit::{self, SMALL, Size};
 use crate::{
     crafted, damage_fit, damage_read, differences, exhaustive, faults, limits, make_read, own,
@@ -87,10 +87,12 @@ impl Tally {
         }
     }
 
-    pub fn hold(&mut self, case: &Case, library: &dyn Library) {
-        let expected = caught(|| case.expected());
-        let answer = caught(|| case.answer(library));
-        self.answered(case, &expected, &answer);
+    /// A case whose call the library does not have is passed over.
+    fn hold(&mut self, case: &Case, library: &dyn Held) {
+        if let Some(answer) = caught(|| case.answer(library)) {
+            let expected = caught(|| Some(case.expected())).unwrap_or_default();
+            self.answered(case, &expected, &answer);
+        }
     }
 
     fn answered(&mut self, case: &Case, expected: &[u64], answer: &[u64]) {
@@ -115,7 +117,8 @@ impl Tally {
         }
     }
 
-    fn end(&self, what: &str, since: Instant) -> ExitCode {
+    /// Of calls that are answered and not refused there must be `least`.
+    fn end(&self, what: &str, since: Instant, least: usize) -> ExitCode {
         println!(
             "{what}: {} inputs, {} differences, {:.1} s (by refusal, 0 to 10: {:?})",
             self.inputs,
@@ -124,8 +127,11 @@ impl Tally {
             self.refusals
         );
         match &self.shortest {
-            None if self.inputs > 0 => ExitCode::SUCCESS,
-            None => ExitCode::FAILURE,
+            None if self.refusals[0] >= least => ExitCode::SUCCESS,
+            None => {
+                println!("too few: {least} answers were to be compared");
+                ExitCode::FAILURE
+            }
             Some(told) => {
                 println!("the shortest: {told}");
                 ExitCode::FAILURE
@@ -134,11 +140,8 @@ impl Tally {
     }
 }
 
-/// Holds a library against the first judge, and against what the makers of inputs know.
-pub fn compare(library: &dyn Library, count: usize) -> ExitCode {
-    let since = Instant::now();
-    let mut tally = Tally::new();
-    let mut chance = Chance::new(1);
+/// Holds made cases, `count` of them random, and what docs/DIFFERENCES.md says.
+fn made(library: &dyn Held, chance: &mut Chance, count: usize, tally: &mut Tally) {
     for case in fixed() {
         tally.hold(&case, library);
     }
@@ -147,35 +150,48 @@ pub fn compare(library: &dyn Library, count: usize) -> ExitCode {
     exhaustive::words(|case| tally.hold(&case, library));
     exhaustive::tables(|case| tally.hold(&case, library));
     exhaustive::checks(|case| tally.hold(&case, library));
-    limits::each(&mut chance, |case| tally.hold(&case, library));
+    limits::each(chance, |case| tally.hold(&case, library));
     for i in 0..count {
         let size = if i % 20 == 0 { MIDDLING } else { SMALL };
-        tally.hold(&make_growing(&mut chance, size), library);
+        tally.hold(&make_growing(chance, size), library);
     }
+    differences::hold(library, tally);
+}
+
+/// Holds a library against the first judge, and against what the makers of inputs know.
+pub fn compare(library: &impl Library, count: usize) -> ExitCode {
+    let (since, mut tally, mut chance) = (Instant::now(), Tally::new(), Chance::new(1));
+    made(library, &mut chance, count, &mut tally);
     own::hold(library, &mut chance, count / 100, &mut tally);
-    differences::hold(library, &mut tally);
-    tally.end("compare", since)
+    tally.end("compare", since, 1)
+}
+
+/// The same of a library that has some of the calls: on these alone, and not on the crate's own `fit`s, which take them all.
+pub fn compare_some(library: &dyn Held, count: usize, least: usize) -> ExitCode {
+    let (since, mut tally) = (Instant::now(), Tally::new());
+    made(library, &mut Chance::new(1), count, &mut tally);
+    tally.end("compare", since, least)
 }
 
 /// The deepest trees there are: some tens of seconds.
-pub fn longest(library: &dyn Library) -> ExitCode {
+pub fn longest(library: &dyn Held) -> ExitCode {
     let since = Instant::now();
     let mut tally = Tally::new();
     limits::longest(&mut Chance::new(3), |case| tally.hold(&case, library));
-    tally.end("longest", since)
+    tally.end("longest", since, 1)
 }
 
 /// Replays the list through a library, the copy, or both; the copy answers what is marked as the Rust's.
 /// With `each`, tells the place of every case that differs.
-pub fn replay(library: Option<&dyn Library>, copy: bool, file: &str, each: bool) -> ExitCode {
+pub fn replay(library: Option<&dyn Held>, copy: bool, file: &str, each: bool) -> ExitCode {
     let since = Instant::now();
     let mut tally = Tally::new();
     let cases = case::read_list(file);
     // an edited judge may panic on many cases: each is told as one that differs
     std::panic::set_hook(Box::new(|_| ()));
     for (place, listed) in cases.iter().enumerate() {
-        let by_library = library.map(|library| caught(|| listed.case.answer(library)));
-        let by_copy = (copy && listed.judge == 1).then(|| caught(|| listed.case.expected()));
+        let by_library = library.and_then(|library| caught(|| listed.case.answer(library)));
+        let by_copy = caught(|| (copy && listed.judge == 1).then(|| listed.case.expected()));
         for answer in by_library.iter().chain(&by_copy) {
             if each && *answer != listed.answer {
                 println!("differs {place}");
@@ -183,10 +199,11 @@ pub fn replay(library: Option<&dyn Library>, copy: bool, file: &str, each: bool)
             tally.answered(&listed.case, &listed.answer, answer);
         }
     }
-    tally.end("replay", since)
+    tally.end("replay", since, 1)
 }
 
 /// A judge that panics has answered nothing, which no call should give.
-fn caught(judge: impl Fn() -> Vec<u64>) -> Vec<u64> {
-    std::panic::catch_unwind(std::panic::AssertUnwindSafe(judge)).unwrap_or_default()
+fn caught(judge: impl Fn() -> Option<Vec<u64>>) -> Option<Vec<u64>> {
+    let ended = std::panic::catch_unwind(std::panic::AssertUnwindSafe(judge));
+    ended.unwrap_or_else(|_| Some(Vec::new()))
 }

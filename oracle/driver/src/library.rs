@@ -1,13 +1,25 @@
-//! A library of the public calls, by lent slices: the second judge is one, and the proved library can be another.
+//! Libraries of the public calls, by lent slices: the second judge is one, the proved library another.
 
+use crate::calls::Call;
+use crate::outcome::Outcome;
+use crate::run;
 use paper::{
     Divisor, ForestAnswer, ForestCall, ForestRooms, NodeRead, Table, TreeAnswer, TreeCall,
     TreeRooms,
 };
 
-#[allow(clippy::too_many_arguments)]
-pub trait Library {
+/// What can be held against the first judge: what a call leaves, or none where it has no such call.
+pub trait Held {
+    fn outcome(&self, call: &Call) -> Option<Outcome>;
+}
+
+pub trait TreeFits {
     fn fit_tree(&self, call: &TreeCall, rooms: &mut TreeRooms) -> TreeAnswer;
+}
+
+/// All public calls.
+#[allow(clippy::too_many_arguments)]
+pub trait Library: TreeFits {
     fn fit_forest(&self, call: &ForestCall, rooms: &mut ForestRooms) -> ForestAnswer;
     fn predictions(
         &self,
@@ -50,13 +62,22 @@ pub trait Library {
     fn read_node(&self, features: usize, t: &Table, number: usize) -> NodeRead;
 }
 
+impl<L: Library> Held for L {
+    fn outcome(&self, call: &Call) -> Option<Outcome> {
+        Some(run::run(self, call))
+    }
+}
+
 /// The second judge.
 pub struct Paper;
 
-impl Library for Paper {
+impl TreeFits for Paper {
     fn fit_tree(&self, call: &TreeCall, rooms: &mut TreeRooms) -> TreeAnswer {
         paper::fit_tree(call, rooms)
     }
+}
+
+impl Library for Paper {
     fn fit_forest(&self, call: &ForestCall, rooms: &mut ForestRooms) -> ForestAnswer {
         paper::fit_forest(call, rooms)
     }

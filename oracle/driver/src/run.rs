@@ -1,7 +1,7 @@
 //! Runs a call through a library, in rooms filled with nines, and tells what it left.
 
 use crate::calls::{Call, Fit, Lengths, Read, Reader, Table};
-use crate::library::Library;
+use crate::library::{Library, TreeFits};
 use crate::outcome::{FILL, FILL_FLOAT, Outcome, Room, bits};
 use paper::{
     Columns, Cuts, Divisor, Draws, ForestCall, ForestRooms, Given, Kind, NodeRead, Reports,
@@ -153,7 +153,7 @@ fn draws(fit: &Fit) -> Draws<'_> {
     }
 }
 
-fn run_tree(library: &dyn Library, fit: &Fit) -> Outcome {
+pub fn run_tree(library: &dyn TreeFits, fit: &Fit) -> Outcome {
     let mut owned = Owned::new(&fit.rooms);
     let call = TreeCall {
         given: given(fit),

@@ -1,0 +1,3 @@
+-- Plain numbers as the rules' inputs and answers. Nothing is assumed.
+
+pub mod Plain

@@ -1,0 +1,50 @@
+//! The waiting list as the proved library is lent it: whole numbers and floats in two slices, of which the shorter counts.
+
+use driver::outcome::{FILL, FILL_FLOAT};
+use paper::Waiting;
+
+const WHOLES: [u32; 6] = [FILL as u32; 6];
+const REALS: [f64; 3] = [FILL_FLOAT; 3];
+
+pub struct Stack {
+    pub wholes: Vec<[u32; 6]>,
+    pub reals: Vec<[f64; 3]>,
+}
+
+impl Stack {
+    /// All nines and `length` long; if longer, the one slice or the other has an entry more.
+    pub fn new(length: usize, longer: Longer) -> Self {
+        let more = |slice: Longer| length + usize::from(longer == slice);
+        Stack {
+            wholes: vec![WHOLES; more(Longer::Wholes)],
+            reals: vec![REALS; more(Longer::Reals)],
+        }
+    }
+
+    /// Tells in one list what became of both; what is past its end counts with the last entry.
+    pub fn told(&self, list: &mut [Waiting]) {
+        let last = list.len().saturating_sub(1);
+        for (place, entry) in list.iter_mut().enumerate() {
+            let end = if place == last { usize::MAX } else { place + 1 };
+            let wholes = self.wholes.iter().take(end).skip(place);
+            let reals = self.reals.iter().take(end).skip(place);
+            let all = |w: [u32; 6], r: [f64; 3]| {
+                let bits = |floats: &[f64; 3]| floats.map(f64::to_bits);
+                wholes.clone().all(|entry| *entry == w)
+                    && reals.clone().all(|entry| bits(entry) == bits(&r))
+            };
+            if all([0; 6], [0.0; 3]) {
+                *entry = Waiting::default();
+            } else if !all(WHOLES, REALS) {
+                entry.node = 1;
+            }
+        }
+    }
+}
+
+#[derive(Clone, Copy, PartialEq)]
+pub enum Longer {
+    Neither,
+    Wholes,
+    Reals,
+}
