@@ -1,0 +1,82 @@
+-- `importances::forest_importances` meets its contract: refused as its checks are, else added up, divided by the trees and normalised. Assumes nothing.
+use borrow.Author.Needs.{needs}
+use native.Mathlib.Omega.{arith}
+use mathlib.Core.Path.{refl, sym, _∙_, subst}
+use denote.Ref.{now}
+use Rattle.rules.specs.Lent.{Columns}
+use Rattle.rules.specs.Table.{ForestTable}
+use Rattle.tables.specs.Table.{columnsOf, tableOf}
+use Rattle.importances.specs.Scores.{TreesLie}
+use Rattle.importances.specs.Calls.{few-float, front-long, Passes, forest-refused, forest-passed, forest-told}
+use Rattle.importances.proofs.forest_importances.Statement.{statement}
+use Rattle.importances.proofs.forest_importances.Tie as tie
+
+abbrev columns : tie.Start → Columns
+columns s = columnsOf (now (s .args .value)) (now (s .args .feature)) (now (s .args .threshold)) (now (s .args .score)) (now (s .args .yes)) (now (s .args .no))
+
+abbrev table : tie.Start → ForestTable
+table s = tableOf (s .args .trees) (now (s .args .starts)) (columns s)
+
+abbrev start : tie.Else1 → tie.Start
+start c = c .before .before .before .before .before .before .before .before .before .before
+
+passed : (c : tie.Else1) → Passes (start c .args .features) (table (start c)) (now (start c .args .out)) (c .before .forest-verdict .ensures _ refl) (c .if1 .left)
+passed c = forest-passed (start c .args .features) (table (start c)) (now (start c .args .out)) (c .before .forest-verdict .ensures _ refl) (c .if1 .left)
+
+forest-verdict-requires : tie.Need-forest-verdict-requires
+forest-verdict-requires c κs = search needs
+
+returns : tie.Need-returns
+returns c = let s = c .before .before .before .before .before .before .before .before .before .before in forest-refused (s .args .features) (table s) (now (s .args .out)) (c .before .forest-verdict .ensures _ refl) (c .if1 .taken)
+
+zero-f64-requires : tie.Need-zero-f64-requires
+zero-f64-requires c κs = search needs
+
+array-borrow-prefix-own : tie.Need-array-borrow-prefix-own
+array-borrow-prefix-own c = passed (c .before .before .before .before .before) .few
+
+slice-aggregate-add-trees : tie.Need-slice-aggregate-add-trees
+slice-aggregate-add-trees c = sym (front-long _ (passed (c .before .before .before .before .before .before) .few))
+
+add-trees-requires : tie.Need-add-trees-requires
+add-trees-requires c κs =
+    let p = passed (c .before .before .before .before .before .before) in
+    let k = c .before .before .before .before .zero-f64 .kept .0 in (
+      subst (λ m. TreesLie m (table (c .before .before .before .before .before .before .before .before .before .before .before .before .before .before .before .before))) (sym k) (p .trees),
+      front-long _ (p .few) ∙ sym (p .long) ∙ sym k,
+    )
+
+int-to-float-divide : tie.Need-int-to-float-divide
+int-to-float-divide c = let p = passed (c .before .before .before .before .before .before .before .before .before .before .before .before) in few-float _ (omega arith)
+
+divide-requires : tie.Need-divide-requires
+divide-requires c κs = search needs
+
+normalise-requires : tie.Need-normalise-requires
+normalise-requires c κs = search needs
+
+same-length : tie.Need-same-length
+same-length c = search needs
+
+returns-2 : tie.Need-returns-2
+returns-2 c =
+    let b = c .before .before .before .before .before .before .before .before .before .before .before .before .before .before .before .before .before .before .before in
+    let s = start b in
+    forest-told (s .args .features) (table s) (now (s .args .out)) (b .before .forest-verdict .ensures _ refl) (b .if1 .left)
+    (c .before .before .before .before .before .before .before .before .before .before .before .before .before .before .before .before .before .zero-f64 .ensures) (c .before .before .before .before .before .before .before .before .before .before .before .before .add-trees .ensures) (c .before .before .before .before .before .before .divide .ensures) (c .before .before .normalise .ensures)
+
+pub forest-importances-spec : {M : Type 1} → statement M
+forest-importances-spec =
+    tie.close
+    (tie.spec
+    forest-verdict-requires
+    returns
+    zero-f64-requires
+    array-borrow-prefix-own
+    slice-aggregate-add-trees
+    add-trees-requires
+    int-to-float-divide
+    divide-requires
+    normalise-requires
+    same-length
+    returns-2)

@@ -1,0 +1,33 @@
+-- `importances::score_tree` meets its contract: zeros first, then the scores. Assumes nothing.
+use borrow.Author.Needs.{needs}
+use mathlib.Core.Path.{sym, ap, _∙_, subst}
+use denote.Ref.{now}
+use Rattle.rules.specs.Words.{nought}
+use Rattle.rules.specs.Lent.{Columns, entriesAt}
+use Rattle.rules.specs.Reading.{addScores, scoresOf}
+use Rattle.tables.specs.Table.{columnsOf}
+use Rattle.importances.specs.Lists.{filled-is}
+use Rattle.importances.specs.Scores.{TreeLies}
+use Rattle.importances.proofs.score_tree.Statement.{statement}
+use Rattle.importances.proofs.score_tree.Tie as tie
+
+abbrev columns : tie.Start → Columns
+columns s = columnsOf (now (s .args .value)) (now (s .args .feature)) (now (s .args .threshold)) (now (s .args .score)) (now (s .args .yes)) (now (s .args .no))
+
+zero-f64-requires : tie.Need-zero-f64-requires
+zero-f64-requires c κs = search needs
+
+add-scores-requires : tie.Need-add-scores-requires
+add-scores-requires c κs = let s = c .before .before .before .before .before .before .before .before .before .before .before .before in subst (λ m. TreeLies m (columns s) (s .args .a) (s .args .n)) (sym (c .before .before .before .zero-f64 .kept .0)) (s .pre)
+
+same-length : tie.Need-same-length
+same-length c = search needs
+
+returns : tie.Need-returns
+unfolding scoresOf
+returns c =
+    let s = c .before .before .before .before .before .before .before .before .before .before .before .before .before .before .before in
+    c .before .before .add-scores .ensures ∙ ap (λ v. addScores v (entriesAt (columns s) (s .args .a) (s .args .n))) (c .before .before .before .before .before .before .zero-f64 .ensures ∙ filled-is nought (now (s .args .v)))
+
+pub score-tree-spec : {M : Type 1} → statement M
+score-tree-spec = tie.close (tie.spec zero-f64-requires add-scores-requires same-length returns)

@@ -1,0 +1,52 @@
+-- `importances::tree_importances` meets its contract: refused as its checks are, else scored and scaled. Assumes nothing.
+use borrow.Author.Needs.{needs}
+use mathlib.Core.Path.{refl}
+use native.Mathlib.Omega.{arith}
+use denote.Ref.{now}
+use Rattle.rules.specs.Lent.{Columns}
+use Rattle.tables.specs.Table.{columnsOf}
+use Rattle.importances.specs.Calls.{tree-refused, tree-good, tree-told}
+use Rattle.importances.proofs.tree_importances.Statement.{statement}
+use Rattle.importances.proofs.tree_importances.Tie as tie
+
+abbrev columns : tie.Start → Columns
+columns s = columnsOf (now (s .args .value)) (now (s .args .feature)) (now (s .args .threshold)) (now (s .args .score)) (now (s .args .yes)) (now (s .args .no))
+
+tree-verdict-requires : tie.Need-tree-verdict-requires
+tree-verdict-requires c κs = search needs
+
+returns : tie.Need-returns
+returns c = let s = c .before .before .before .before .before .before .before .before .before in tree-refused (s .args .features) (columns s) (now (s .args .out)) (c .before .tree-verdict .ensures _ refl) (s .args .by) (c .if1 .taken)
+
+shortest-of-requires : tie.Need-shortest-of-requires
+shortest-of-requires c κs = search needs
+
+score-tree-requires : tie.Need-score-tree-requires
+score-tree-requires c κs =
+    let s = c .before .before .before .before .before .before .before .before .before .before .before in
+    let n = c .before .shortest-of in
+    record { inside = omega (arith, n .ensures); good = tree-good (s .args .features) (columns s) (now (s .args .out)) (c .before .before .before .tree-verdict .ensures _ refl) (c .before .before .if1 .left) (n .ensures) }
+
+scale-requires : tie.Need-scale-requires
+scale-requires c κs = search needs
+
+same-length : tie.Need-same-length
+same-length c = search needs
+
+returns-2 : tie.Need-returns-2
+returns-2 c =
+    let s = c .before .before .before .before .before .before .before .before .before .before .before .before .before .before .before .before .before .before in
+    tree-told (s .args .features) (columns s) (now (s .args .out)) (c .before .before .before .before .before .before .before .before .before .before .tree-verdict .ensures _ refl) (c .before .before .before .before .before .before .before .before .before .if1 .left) (c .before .before .before .before .before .before .before .before .shortest-of .ensures) (s .args .by)
+    (c .before .before .before .before .before .before .score-tree .ensures) (c .before .before .scale .ensures)
+
+pub tree-importances-spec : {M : Type 1} → statement M
+tree-importances-spec =
+    tie.close
+    (tie.spec
+    tree-verdict-requires
+    returns
+    shortest-of-requires
+    score-tree-requires
+    scale-requires
+    same-length
+    returns-2)

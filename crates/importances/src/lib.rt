@@ -1,0 +1,290 @@
+// Importances: how much of the scores of a tree's splits, or of a forest's, falls to each feature.
+ghost use mathlib.Core.Path.{_≡_};
+ghost use mathlib.Core.Bool.{false};
+ghost use mathlib.Core.List.{List};
+ghost use Prim.Native.Nat.{_<_};
+ghost use lib.ListN.{length};
+ghost use lib.Ieee.{Float};
+ghost use Rattle.rules.specs.declared.Reply.{Reply};
+ghost use Rattle.rules.specs.Lent.{Outcome, entriesAt};
+ghost use Rattle.rules.specs.Checks.{firstFailed};
+ghost use Rattle.rules.specs.Table.{isLeaf, treesOf};
+ghost use Rattle.rules.specs.Reading.{scored, addScores, scoresOf, normalised, addEach, addImportances, treeImportanceTests, forestImportanceTests, treeImportances, forestImportances};
+ghost use Rattle.tables.specs.Table.{columnsOf, tableOf};
+ghost use Rattle.importances.specs.Scores.{noChild, marked, TreeLies, TreesLie};
+use rules::Reply;
+use rules::Scale;
+
+pub mod lists;
+
+fn wide(n: u32) -> usize
+    ensures { λ r. ⌜ r ≡ n ⌝ }
+{
+    n as usize
+}
+
+// ---- one tree
+
+fn is_leaf(yes: u32, no: u32) -> bool
+    ensures { λ r. ⌜ r ≡ noChild yes no ⌝ }
+{
+    if yes == 0 { no == 0 } else { false }
+}
+
+// A node's score is added to its feature's, unless it is a leaf.
+fn add_score(feature: u32, score: f64, yes: u32, no: u32, v: &mut [f64])
+    requires { ⌜ (noChild yes no ≡ false → feature < length (now v)) ⌝ }
+    ensures { λ _. ⌜ now (v .exit) ≡ scored (isLeaf (marked feature score yes no)) (marked feature score yes no) (now (v .entry)) ⌝ }
+{
+    if is_leaf(yes, no) {
+        return;
+    }
+    let j = wide(feature);
+    v[j] = v[j] + score;
+}
+
+// The scores of the n entries from place a on.
+fn add_scores(
+    a: usize,
+    n: usize,
+    value: &[f64],
+    feature: &[u32],
+    threshold: &[f64],
+    score: &[f64],
+    yes: &[u32],
+    no: &[u32],
+    v: &mut [f64],
+)
+    requires { ⌜ TreeLies (length (now v)) (columnsOf (now value) (now feature) (now threshold) (now score) (now yes) (now no)) a n ⌝ }
+    ensures { λ _. ⌜ now (v .exit) ≡ addScores (now (v .entry)) (entriesAt (columnsOf (now (value .entry)) (now (feature .entry)) (now (threshold .entry)) (now (score .entry)) (now (yes .entry)) (now (no .entry))) a n) ⌝ }
+{
+    let mut k: usize = 0;
+    while k < n {
+        let at = a + k;
+        add_score(feature[at], score[at], yes[at], no[at], v);
+        k += 1;
+    }
+}
+
+fn score_tree(
+    a: usize,
+    n: usize,
+    value: &[f64],
+    feature: &[u32],
+    threshold: &[f64],
+    score: &[f64],
+    yes: &[u32],
+    no: &[u32],
+    v: &mut [f64],
+)
+    requires { ⌜ TreeLies (length (now v)) (columnsOf (now value) (now feature) (now threshold) (now score) (now yes) (now no)) a n ⌝ }
+    ensures { λ _. ⌜ now (v .exit) ≡ scoresOf (length (now (v .entry))) (entriesAt (columnsOf (now (value .entry)) (now (feature .entry)) (now (threshold .entry)) (now (score .entry)) (now (yes .entry)) (now (no .entry))) a n) ⌝ }
+{
+    columns::zero_f64(v);
+    add_scores(a, n, value, feature, threshold, score, yes, no, v);
+}
+
+fn tree_verdict(
+    features: usize,
+    value: &[f64],
+    feature: &[u32],
+    threshold: &[f64],
+    score: &[f64],
+    yes: &[u32],
+    no: &[u32],
+    room: usize,
+) -> u32
+    ensures { λ r. ⌜ ((out : List Float) → length out ≡ room → r ≡ firstFailed (treeImportanceTests features (columnsOf (now (value .entry)) (now (feature .entry)) (now (threshold .entry)) (now (score .entry)) (now (yes .entry)) (now (no .entry))) out)) ⌝ }
+{
+    if !checks::features_in(features) {
+        return 1;
+    }
+    if room != features {
+        return 6;
+    }
+    let n = checks::rooms::shortest_of(
+        value.len(),
+        feature.len(),
+        threshold.len(),
+        score.len(),
+        yes.len(),
+        no.len(),
+    );
+    if !tables::tree_good(features, 0, n, value, feature, threshold, score, yes, no) {
+        return 8;
+    }
+    0
+}
+
+// The importances of the tree that the columns hold: refusals 1, 6 and 8.
+pub fn tree_importances(
+    features: usize,
+    by: Scale,
+    value: &[f64],
+    feature: &[u32],
+    threshold: &[f64],
+    score: &[f64],
+    yes: &[u32],
+    no: &[u32],
+    out: &mut [f64],
+) -> Reply
+    ensures { λ r. ⌜ _≡_ {A = Outcome Reply (List Float)} (record { answer = r; rooms = now (out .exit) }) (treeImportances features by (columnsOf (now (value .entry)) (now (feature .entry)) (now (threshold .entry)) (now (score .entry)) (now (yes .entry)) (now (no .entry))) (now (out .entry))) ⌝ }
+{
+    let room = out.len();
+    let number = tree_verdict(features, value, feature, threshold, score, yes, no, room);
+    if number != 0 {
+        return Reply::Refused(number);
+    }
+    let n = checks::rooms::shortest_of(
+        value.len(),
+        feature.len(),
+        threshold.len(),
+        score.len(),
+        yes.len(),
+        no.len(),
+    );
+    score_tree(0, n, value, feature, threshold, score, yes, no, out);
+    lists::scale(by, out);
+    Reply::Done
+}
+
+// ---- a forest
+
+// A tree's normalised importances, made in `own`, are added to v.
+fn add_tree(
+    a: usize,
+    n: usize,
+    value: &[f64],
+    feature: &[u32],
+    threshold: &[f64],
+    score: &[f64],
+    yes: &[u32],
+    no: &[u32],
+    v: &mut [f64],
+    own: &mut [f64],
+)
+    requires { ⌜ TreeLies (length (now v)) (columnsOf (now value) (now feature) (now threshold) (now score) (now yes) (now no)) a n × (length (now own) ≡ length (now v)) ⌝ }
+    ensures { λ _. ⌜ now (v .exit) ≡ addEach (now (v .entry)) (normalised (scoresOf (length (now (v .entry))) (entriesAt (columnsOf (now (value .entry)) (now (feature .entry)) (now (threshold .entry)) (now (score .entry)) (now (yes .entry)) (now (no .entry))) a n))) ⌝ }
+{
+    score_tree(a, n, value, feature, threshold, score, yes, no, own);
+    lists::normalise(own);
+    lists::add_each(v, own);
+}
+
+fn add_trees(
+    trees: usize,
+    starts: &[u32],
+    value: &[f64],
+    feature: &[u32],
+    threshold: &[f64],
+    score: &[f64],
+    yes: &[u32],
+    no: &[u32],
+    v: &mut [f64],
+    own: &mut [f64],
+)
+    requires { ⌜ TreesLie (length (now v)) (tableOf trees (now starts) (columnsOf (now value) (now feature) (now threshold) (now score) (now yes) (now no))) × (length (now own) ≡ length (now v)) ⌝ }
+    ensures { λ _. ⌜ now (v .exit) ≡ addImportances (length (now (v .entry))) (now (v .entry)) (treesOf (tableOf trees (now (starts .entry)) (columnsOf (now (value .entry)) (now (feature .entry)) (now (threshold .entry)) (now (score .entry)) (now (yes .entry)) (now (no .entry))))) ⌝ }
+{
+    let mut t: usize = 0;
+    while t < trees {
+        let next = t + 1;
+        let a = wide(starts[t]);
+        let e = wide(starts[next]);
+        let n = e - a;
+        add_tree(a, n, value, feature, threshold, score, yes, no, v, own);
+        t += 1;
+    }
+}
+
+fn forest_verdict(
+    features: usize,
+    trees: usize,
+    starts: &[u32],
+    value: &[f64],
+    feature: &[u32],
+    threshold: &[f64],
+    score: &[f64],
+    yes: &[u32],
+    no: &[u32],
+    room: usize,
+) -> u32
+    ensures { λ r. ⌜ ((out : List Float) → length out ≡ room → r ≡ firstFailed (forestImportanceTests features (tableOf trees (now (starts .entry)) (columnsOf (now (value .entry)) (now (feature .entry)) (now (threshold .entry)) (now (score .entry)) (now (yes .entry)) (now (no .entry)))) out)) ⌝ }
+{
+    if !checks::features_in(features) {
+        return 1;
+    }
+    if !checks::trees_in(trees) {
+        return 1;
+    }
+    if room != features {
+        return 6;
+    }
+    if starts.len() < trees + 1 {
+        return 6;
+    }
+    if !tables::forest_good(
+        features,
+        trees,
+        starts,
+        value,
+        feature,
+        threshold,
+        score,
+        yes,
+        no,
+    ) {
+        return 8;
+    }
+    0
+}
+
+// The importances of a forest: refusals 1, 6 and 8.
+pub fn forest_importances(
+    features: usize,
+    trees: usize,
+    starts: &[u32],
+    value: &[f64],
+    feature: &[u32],
+    threshold: &[f64],
+    score: &[f64],
+    yes: &[u32],
+    no: &[u32],
+    out: &mut [f64],
+) -> Reply
+    ensures { λ r. ⌜ _≡_ {A = Outcome Reply (List Float)} (record { answer = r; rooms = now (out .exit) }) (forestImportances features (tableOf trees (now (starts .entry)) (columnsOf (now (value .entry)) (now (feature .entry)) (now (threshold .entry)) (now (score .entry)) (now (yes .entry)) (now (no .entry)))) (now (out .entry))) ⌝ }
+{
+    let room = out.len();
+    let number = forest_verdict(
+        features,
+        trees,
+        starts,
+        value,
+        feature,
+        threshold,
+        score,
+        yes,
+        no,
+        room,
+    );
+    if number != 0 {
+        return Reply::Refused(number);
+    }
+    let mut own: [f64; 1024] = [0.0; 1024];
+    columns::zero_f64(out);
+    add_trees(
+        trees,
+        starts,
+        value,
+        feature,
+        threshold,
+        score,
+        yes,
+        no,
+        out,
+        &mut own[..features],
+    );
+    lists::divide(out, trees as f64);
+    lists::normalise(out);
+    Reply::Done
+}

@@ -1,0 +1,6 @@
+-- a forest's sums and means
+pub mod Sums
+-- the checks of the calls that take means
+pub mod Means
+-- the error of the means
+pub mod Errors

@@ -1,0 +1,257 @@
+// The means of a forest, over all its trees or over those for which a row is out of bag. The result room holds the running sums, and the trees are
+// walked one after another, so that a tree's nodes stay near.
+ghost use mathlib.Core.Path.{_≡_};
+ghost use mathlib.Core.Bool.{cond};
+ghost use mathlib.Core.List.{map};
+ghost use Prim.Native.Nat.{_≤_};
+ghost use lib.ListN.{length};
+ghost use lib.Ieee.{binary64, add, div};
+ghost use Rattle.rules.specs.Words.{nought, float, from};
+ghost use Rattle.rules.specs.Lent.{entriesAt};
+ghost use Rattle.rules.specs.Table.{treesOf};
+ghost use Rattle.rules.specs.OutOfBag.{outOfBagMean};
+ghost use Rattle.tables.specs.Table.{columnsOf, tableOf};
+ghost use Rattle.reading.specs.Walks.{Walkable, Readable, leafAt};
+ghost use Rattle.reading.specs.Rows.{rewritten};
+ghost use Rattle.means.specs.Sums.{isOut, withTree, summed, outNumber, Countable, Counted, OutNumbered, ForestReadable};
+use rules::Shape;
+
+// ---- the sums
+
+// Without counts every row is out of every bag.
+fn is_out(counts: &[u32], at: usize) -> bool
+    ensures { λ r. ⌜ r ≡ isOut (now (counts .entry)) at ⌝ }
+{
+    if at < counts.len() {
+        counts[at] == 0
+    } else {
+        true
+    }
+}
+
+// A row's sum once the tree of n nodes from place a on is taken in.
+fn sum_with(
+    x: f64,
+    counts: &[u32],
+    at: usize,
+    i: usize,
+    features: usize,
+    a: usize,
+    n: usize,
+    values: &[f64],
+    value: &[f64],
+    feature: &[u32],
+    threshold: &[f64],
+    score: &[f64],
+    yes: &[u32],
+    no: &[u32],
+) -> f64
+    requires { ⌜ Walkable features a n i (now values) (columnsOf (now value) (now feature) (now threshold) (now score) (now yes) (now no)) ⌝ }
+    ensures { λ r. ⌜ r ≡ cond (isOut (now (counts .entry)) at) (add binary64 x (leafAt features (now (values .entry)) (entriesAt (columnsOf (now (value .entry)) (now (feature .entry)) (now (threshold .entry)) (now (score .entry)) (now (yes .entry)) (now (no .entry))) a n) i)) x ⌝ }
+{
+    if is_out(counts, at) {
+        x
+            + reading::row_value(
+                i,
+                features,
+                a,
+                n,
+                values,
+                value,
+                feature,
+                threshold,
+                score,
+                yes,
+                no,
+            )
+    } else {
+        x
+    }
+}
+
+// The tree whose counts start at base.
+fn add_tree(
+    rows: usize,
+    features: usize,
+    base: usize,
+    a: usize,
+    n: usize,
+    values: &[f64],
+    counts: &[u32],
+    value: &[f64],
+    feature: &[u32],
+    threshold: &[f64],
+    score: &[f64],
+    yes: &[u32],
+    no: &[u32],
+    out: &mut [f64],
+)
+    requires { ⌜ Countable base × Readable rows features a n (now values) (columnsOf (now value) (now feature) (now threshold) (now score) (now yes) (now no)) (now out) ⌝ }
+    ensures { λ _. ⌜ now (out .exit) ≡ rewritten (withTree (now (counts .entry)) base (leafAt features (now (values .entry)) (entriesAt (columnsOf (now (value .entry)) (now (feature .entry)) (now (threshold .entry)) (now (score .entry)) (now (yes .entry)) (now (no .entry))) a n))) 0 rows (now (out .entry)) ⌝ }
+{
+    let mut i: usize = 0;
+    while i < rows {
+        let at = base + i;
+        let x = out[i];
+        out[i] = sum_with(
+            x,
+            counts,
+            at,
+            i,
+            features,
+            a,
+            n,
+            values,
+            value,
+            feature,
+            threshold,
+            score,
+            yes,
+            no,
+        );
+        i += 1;
+    }
+}
+
+fn add_trees(
+    rows: usize,
+    features: usize,
+    trees: usize,
+    values: &[f64],
+    counts: &[u32],
+    starts: &[u32],
+    value: &[f64],
+    feature: &[u32],
+    threshold: &[f64],
+    score: &[f64],
+    yes: &[u32],
+    no: &[u32],
+    out: &mut [f64],
+)
+    requires { ⌜ ForestReadable rows features (now values) (tableOf trees (now starts) (columnsOf (now value) (now feature) (now threshold) (now score) (now yes) (now no))) (now out) ⌝ }
+    ensures { λ _. ⌜ now (out .exit) ≡ rewritten (summed rows features (now (values .entry)) (now (counts .entry)) 0 (treesOf (tableOf trees (now (starts .entry)) (columnsOf (now (value .entry)) (now (feature .entry)) (now (threshold .entry)) (now (score .entry)) (now (yes .entry)) (now (no .entry)))))) 0 rows (now (out .entry)) ⌝ }
+{
+    let mut t: usize = 0;
+    while t < trees {
+        let next = t + 1;
+        let a = starts[t] as usize;
+        let e = starts[next] as usize;
+        let n = e - a;
+        let base = t * rows;
+        add_tree(
+            rows,
+            features,
+            base,
+            a,
+            n,
+            values,
+            counts,
+            value,
+            feature,
+            threshold,
+            score,
+            yes,
+            no,
+            out,
+        );
+        t += 1;
+    }
+}
+
+fn clear(rows: usize, out: &mut [f64])
+    requires { ⌜ length (now out) ≡ rows ⌝ }
+    ensures { λ _. ⌜ now (out .exit) ≡ rewritten (λ k x. nought) 0 rows (now (out .entry)) ⌝ }
+{
+    let mut i: usize = 0;
+    while i < rows {
+        out[i] = 0.0;
+        i += 1;
+    }
+}
+
+// ---- the numbers of trees
+
+fn out_mark(counts: &[u32], at: usize) -> usize
+    ensures { λ r. ⌜ r ≡ cond (isOut (now (counts .entry)) at) 1 0 ⌝ }
+{
+    if is_out(counts, at) { 1 } else { 0 }
+}
+
+// Of how many trees' bags row i is out.
+fn out_number(rows: usize, trees: usize, counts: &[u32], i: usize) -> usize
+    requires { ⌜ Counted rows trees i ⌝ }
+    ensures { λ r. ⌜ OutNumbered rows trees (now (counts .entry)) i r ⌝ }
+{
+    if counts.len() == 0 {
+        return trees;
+    }
+    let mut number: usize = 0;
+    let mut t: usize = 0;
+    while t < trees {
+        let at = t * rows + i;
+        number += out_mark(counts, at);
+        t += 1;
+    }
+    number
+}
+
+// A number of rows or of trees as a float: it is one exactly.
+pub fn float_of(n: usize) -> f64
+    requires { ⌜ n ≤ 65535 ⌝ }
+    ensures { λ r. ⌜ r ≡ float n ⌝ }
+{
+    n as f64
+}
+
+fn divide(rows: usize, trees: usize, counts: &[u32], out: &mut [f64])
+    requires { ⌜ (rows ≤ 65535) × (trees ≤ 1024) × (length (now out) ≡ rows) ⌝ }
+    ensures { λ _. ⌜ now (out .exit) ≡ rewritten (λ k x. div binary64 x (float (outNumber rows trees (now (counts .entry)) k))) 0 rows (now (out .entry)) ⌝ }
+{
+    let mut i: usize = 0;
+    while i < rows {
+        let number = out_number(rows, trees, counts, i);
+        let d = float_of(number);
+        out[i] = out[i] / d;
+        i += 1;
+    }
+}
+
+// ---- the means
+
+pub fn means(
+    shape: Shape,
+    trees: usize,
+    values: &[f64],
+    counts: &[u32],
+    starts: &[u32],
+    value: &[f64],
+    feature: &[u32],
+    threshold: &[f64],
+    score: &[f64],
+    yes: &[u32],
+    no: &[u32],
+    out: &mut [f64],
+)
+    requires { ⌜ ForestReadable (shape .rows) (shape .features) (now values) (tableOf trees (now starts) (columnsOf (now value) (now feature) (now threshold) (now score) (now yes) (now no))) (now out) ⌝ }
+    ensures { λ _. ⌜ now (out .exit) ≡ map (outOfBagMean shape (now (values .entry)) (now (counts .entry)) (tableOf trees (now (starts .entry)) (columnsOf (now (value .entry)) (now (feature .entry)) (now (threshold .entry)) (now (score .entry)) (now (yes .entry)) (now (no .entry))))) (from 0 (shape .rows)) ⌝ }
+{
+    let rows = shape.rows;
+    let features = shape.features;
+    clear(rows, out);
+    add_trees(
+        rows,
+        features,
+        trees,
+        values,
+        counts,
+        starts,
+        value,
+        feature,
+        threshold,
+        score,
+        yes,
+        no,
+        out,
+    );
+    divide(rows, trees, counts, out);
+}
