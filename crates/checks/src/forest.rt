@@ -14,7 +14,7 @@ use crate::Lengths;
 use crate::ReportLengths;
 use rules::Shape;
 
-fn forest_in(shape: Shape, trees: usize) -> bool
+pub fn forest_in(shape: Shape, trees: usize) -> bool
     ensures { λ r. ⌜ r ≡ (shapeIn shape && treesIn trees) ⌝ }
 {
     if crate::shape_in(shape) {

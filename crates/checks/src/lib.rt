@@ -1,7 +1,7 @@
 // The checks of all calls. They read shared slices and lengths alone, so that a refusal leaves all that was lent as it was.
 ghost use mathlib.Core.Path.{_≡_};
 ghost use mathlib.Core.Bool.{true};
-ghost use Rattle.rules.specs.Checks.{replies, within, featuresIn, treesIn, shapeIn, valuesLong, listingsLong};
+ghost use Rattle.rules.specs.Checks.{replies, within, rowsIn, featuresIn, treesIn, shapeIn, valuesLong, listingsLong};
 use rules::Reply;
 use rules::Shape;
 
@@ -49,6 +49,12 @@ fn in_range(top: usize, n: usize) -> bool
     if 1 <= n { n <= top } else { false }
 }
 
+pub fn rows_in(n: usize) -> bool
+    ensures { λ r. ⌜ r ≡ rowsIn n ⌝ }
+{
+    in_range(65535, n)
+}
+
 pub fn features_in(n: usize) -> bool
     ensures { λ r. ⌜ r ≡ featuresIn n ⌝ }
 {
@@ -64,7 +70,7 @@ pub fn trees_in(n: usize) -> bool
 pub fn shape_in(shape: Shape) -> bool
     ensures { λ r. ⌜ r ≡ shapeIn shape ⌝ }
 {
-    if in_range(65535, shape.rows) {
+    if rows_in(shape.rows) {
         features_in(shape.features)
     } else {
         false

@@ -1,10 +1,10 @@
 -- The tests that both calls for means end with, what passed tests say, and the means over all trees as means without counts. Assumes nothing.
 use Prim.Native.Nat.{ℕ, suc, _*_}
-use mathlib.Core.Path.{_≡_, ap}
+use mathlib.Core.Path.{_≡_}
 use mathlib.Core.Bool.{true, _&&_}
 use mathlib.Core.List.{List, [], _∷_, map}
 use lib.ListN.{length}
-use lib.Dec.{T, leb, ltb, eqb, leb→le}
+use lib.Dec.{T, ltb, eqb, leb→le}
 use lib.Ieee.{Float}
 use borrow.Author.Tests.{eqb-true}
 use Rattle.rules.specs.declared.Shape.{Shape}

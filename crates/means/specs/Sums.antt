@@ -18,7 +18,7 @@ use Rattle.rules.specs.OutOfBag.{outTrees, outOfBagMean}
 use Rattle.laws.specs.Lists.{is-true, each, every-from, length-total, length-from}
 use Rattle.tables.specs.Table.{Lying}
 use Rattle.tables.specs.Laws.{every-mapped, start-below, start-inside}
-use Rattle.reading.specs.Walks.{Planted, leafAt}
+use Rattle.reading.specs.Walks.{TreeLies, leafAt}
 use Rattle.reading.specs.Rows.{rewritten, length-rewritten, rewritten-twice, rewritten-same, rewritten-kept, rewritten-all}
 
 abbrev pub isOut : List ℕ → ℕ → Bool
@@ -43,7 +43,7 @@ outNumber rows trees counts i = total (outMark rows counts i) (from 0 trees)
 pub record Countable (base : ℕ) : Type 0 where
   pub low : base ≤ 67107840
 
-pub record Counted (rows trees i : ℕ) : Type 0 where
+pub record Numberable (rows trees i : ℕ) : Type 0 where
   pub few : rows ≤ 65535
   pub fewTrees : trees ≤ 1024
   pub row : i < rows
@@ -195,10 +195,10 @@ module _ (rows features : ℕ) (xs : List Float) (F : ForestTable) (out : List F
       (each (λ m. goodTree features (treeAt (F .nodes) (F .starts) m)) (from 0 (F .trees))
       (subst T (sym (sym (every-mapped (goodTree features) (treeAt (F .nodes) (F .starts)) (from 0 (F .trees))) ∙ r .good)) tt)) t h))
 
-  pub planted : Planted features (getD (F .starts) t 0) (getD (F .starts) (t + 1) 0 - getD (F .starts) t 0) (F .nodes)
+  pub tree-lies : TreeLies features (getD (F .starts) t 0) (getD (F .starts) (t + 1) 0 - getD (F .starts) t 0) (F .nodes)
   unfolding treeAt
-  planted =
-      subst (λ m. Planted features (getD (F .starts) t 0) (getD (F .starts) m 0 - getD (F .starts) t 0) (F .nodes)) (sym (add-one t))
+  tree-lies =
+      subst (λ m. TreeLies features (getD (F .starts) t 0) (getD (F .starts) m 0 - getD (F .starts) t 0) (F .nodes)) (sym (add-one t))
       (record { inside = within _ _ _ (start-below F (r .lying) t h) (start-inside F (r .lying) t h); good = good-at })
     where
       within : (a e n : ℕ) → a < e → e ≤ n → a + (e - a) ≤ n

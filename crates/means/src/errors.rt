@@ -4,7 +4,7 @@ ghost use mathlib.Core.Bool.{cond};
 ghost use lib.ListN.{length};
 ghost use lib.Ieee.{binary64, add, isNan};
 ghost use Rattle.rules.specs.Words.{nought};
-ghost use Rattle.rules.specs.Checks.{firstFailed, rowsIn};
+ghost use Rattle.rules.specs.Checks.{firstFailed};
 ghost use Rattle.rules.specs.OutOfBag.{squareOff, addSquares, errorTests, outOfBagError};
 use rules::ErrorReply;
 
@@ -33,16 +33,10 @@ fn sum_squares(targets: &[f64], means: &[f64]) -> f64
     s
 }
 
-fn rows_in(n: usize) -> bool
-    ensures { λ r. ⌜ r ≡ rowsIn n ⌝ }
-{
-    if 1 <= n { n <= 65535 } else { false }
-}
-
 fn error_verdict(rows: usize, targets: &[f64], means: &[f64]) -> u32
     ensures { λ r. ⌜ r ≡ firstFailed (errorTests rows (now (targets .entry)) (now (means .entry))) ⌝ }
 {
-    if !rows_in(rows) {
+    if !checks::rows_in(rows) {
         return 1;
     }
     if targets.len() != rows {

@@ -7,7 +7,7 @@ ghost use lib.ListN.{length};
 ghost use lib.Dec.{leb, eqb};
 ghost use lib.Ieee.{Float};
 ghost use Rattle.rules.specs.Lent.{Outcome};
-ghost use Rattle.rules.specs.Checks.{firstFailed, shapeIn, treesIn};
+ghost use Rattle.rules.specs.Checks.{firstFailed};
 ghost use Rattle.rules.specs.Reading.{meanTests, forestMeans};
 ghost use Rattle.rules.specs.OutOfBag.{outTests, outOfBagMeans};
 ghost use Rattle.checks.specs.Asks.{Ranges};
@@ -20,16 +20,6 @@ pub mod errors;
 pub mod sums;
 
 // ---- checks
-
-fn forest_in(shape: Shape, trees: usize) -> bool
-    ensures { λ r. ⌜ r ≡ (shapeIn shape && treesIn trees) ⌝ }
-{
-    if checks::shape_in(shape) {
-        checks::trees_in(trees)
-    } else {
-        false
-    }
-}
 
 // A result room of so many places, and a start table of so many starts.
 fn rooms_long(rows: usize, trees: usize, places: usize, starts: usize) -> bool
@@ -100,7 +90,7 @@ fn mean_verdict(
 ) -> u32
     ensures { λ r. ⌜ ((out : List Float) → length out ≡ places → r ≡ firstFailed (meanTests shape (now (values .entry)) (tableOf trees (now (starts .entry)) (columnsOf (now (value .entry)) (now (feature .entry)) (now (threshold .entry)) (now (score .entry)) (now (yes .entry)) (now (no .entry)))) out)) ⌝ }
 {
-    if !forest_in(shape, trees) {
+    if !checks::forest::forest_in(shape, trees) {
         return 1;
     }
     table_verdict(
@@ -187,7 +177,7 @@ fn out_verdict(
 ) -> u32
     ensures { λ r. ⌜ ((out : List Float) → length out ≡ places → r ≡ firstFailed (outTests shape (now (values .entry)) (now (counts .entry)) (tableOf trees (now (starts .entry)) (columnsOf (now (value .entry)) (now (feature .entry)) (now (threshold .entry)) (now (score .entry)) (now (yes .entry)) (now (no .entry)))) out)) ⌝ }
 {
-    if !forest_in(shape, trees) {
+    if !checks::forest::forest_in(shape, trees) {
         return 1;
     }
     if counts.len() == 0 {

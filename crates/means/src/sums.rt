@@ -13,7 +13,7 @@ ghost use Rattle.rules.specs.OutOfBag.{outOfBagMean};
 ghost use Rattle.tables.specs.Table.{columnsOf, tableOf};
 ghost use Rattle.reading.specs.Walks.{Walkable, Readable, leafAt};
 ghost use Rattle.reading.specs.Rows.{rewritten};
-ghost use Rattle.means.specs.Sums.{isOut, withTree, summed, outNumber, Countable, Counted, OutNumbered, ForestReadable};
+ghost use Rattle.means.specs.Sums.{isOut, withTree, summed, outNumber, Countable, Numberable, OutNumbered, ForestReadable};
 use rules::Shape;
 
 // ---- the sums
@@ -50,20 +50,20 @@ fn sum_with(
     ensures { λ r. ⌜ r ≡ cond (isOut (now (counts .entry)) at) (add binary64 x (leafAt features (now (values .entry)) (entriesAt (columnsOf (now (value .entry)) (now (feature .entry)) (now (threshold .entry)) (now (score .entry)) (now (yes .entry)) (now (no .entry))) a n) i)) x ⌝ }
 {
     if is_out(counts, at) {
-        x
-            + reading::row_value(
-                i,
-                features,
-                a,
-                n,
-                values,
-                value,
-                feature,
-                threshold,
-                score,
-                yes,
-                no,
-            )
+        let v = reading::row_value(
+            i,
+            features,
+            a,
+            n,
+            values,
+            value,
+            feature,
+            threshold,
+            score,
+            yes,
+            no,
+        );
+        x + v
     } else {
         x
     }
@@ -179,7 +179,7 @@ fn out_mark(counts: &[u32], at: usize) -> usize
 
 // Of how many trees' bags row i is out.
 fn out_number(rows: usize, trees: usize, counts: &[u32], i: usize) -> usize
-    requires { ⌜ Counted rows trees i ⌝ }
+    requires { ⌜ Numberable rows trees i ⌝ }
     ensures { λ r. ⌜ OutNumbered rows trees (now (counts .entry)) i r ⌝ }
 {
     if counts.len() == 0 {

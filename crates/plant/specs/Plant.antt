@@ -151,10 +151,19 @@ pub report-made : (mass : Float) (words thresholds : ℕ) (at : At) {s w t : ℕ
     → _≡_ {A = Report} (record { nodes = at .nodes; depth = at .depth; mass = mass; searches = s; words = w; thresholds = t }) (reportAt mass words thresholds at)
 report-made mass words thresholds at es ew et = λ i. record { nodes = at .nodes; depth = at .depth; mass = mass; searches = es i; words = ew i; thresholds = et i }
 
+-- node columns as long as others are
+pub record NodesLong (c c′ : Columns) : Type 0 where
+  pub value : length (c′ .value) ≡ length (c .value)
+  pub feature : length (c′ .feature) ≡ length (c .feature)
+  pub threshold : length (c′ .threshold) ≡ length (c .threshold)
+  pub score : length (c′ .score) ≡ length (c .score)
+  pub yes : length (c′ .trueChild) ≡ length (c .trueChild)
+  pub no : length (c′ .falseChild) ≡ length (c .falseChild)
+
 under : (m a b : ℕ) → m ≤ min a b → (m ≤ a) × (m ≤ b)
 under m a b h = (omega arith, omega arith)
 
-long-all : (m : ℕ) (c : Columns) → m ≤ shortest c → LongAll m c
+pub long-all : (m : ℕ) (c : Columns) → m ≤ shortest c → LongAll m c
 long-all m c h =
     let (v, h₁) = under m _ _ h in let (f, h₂) = under m _ _ h₁ in let (t, h₃) = under m _ _ h₂ in let (s, h₄) = under m _ _ h₃ in let (a, b) = under m _ _ h₄ in
     record { value = v; feature = f; threshold = t; score = s; yes = a; no = b }

@@ -1,23 +1,22 @@
 -- How a reader ends: refused, with its result room as it was, or done. And what its passed tests say. Assumes nothing.
 use Prim.Native.Nat.{ℕ, zero, suc}
 use native.Mathlib.Omega.{arith}
-use mathlib.Core.Path.{_≡_, refl, sym, ap, _∙_, subst}
-use mathlib.Core.Bool.{Bool, true}
+use mathlib.Core.Path.{_≡_, refl, sym, ap, _∙_}
 use mathlib.Core.List.{List}
 use lib.ListN.{length}
-use lib.Dec.{T, eqb}
+use lib.Dec.{eqb}
 use lib.Ieee.{Float}
 use borrow.Author.Tests.{eqb-true}
 use Rattle.rules.specs.declared.Shape.{Shape}
 use Rattle.rules.specs.declared.Reply.{Reply}
-use Rattle.rules.specs.Lent.{Columns, Outcome, shortest, entriesAt}
+use Rattle.rules.specs.Lent.{Columns, shortest, entriesAt}
 use Rattle.rules.specs.Checks.{firstFailed, shapeIn, valuesLong}
 use Rattle.rules.specs.Table.{goodTree, treeIn}
 use Rattle.rules.specs.Reading.{reads, predictTests}
 use Rattle.laws.specs.Lists.{is-true}
 use Rattle.laws.specs.Passed.{past}
 use Rattle.checks.specs.Tests.{rows-low}
-use Rattle.reading.specs.Walks.{Planted, Readable}
+use Rattle.reading.specs.Walks.{Readable}
 
 module _ (n : ℕ) (new old : List Float) where
   pub reads-refused : (n ≡ 0 → ⊥) → record { answer = Reply.Refused n; rooms = old } ≡ reads n new old

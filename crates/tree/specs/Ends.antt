@@ -20,7 +20,7 @@ use Rattle.laws.specs.Answered.{tree-listed}
 use Rattle.columns.specs.Setup.{counted-passed}
 use Rattle.plant.specs.declared.Planted.{Planted}
 use Rattle.plant.specs.declared.Planted.the-variants.{BadDraw, Grown}
-use Rattle.plant.specs.Plant.{frameIn, ParamsMade, PlantAsks, Answers, PlantDone}
+use Rattle.plant.specs.Plant.{frameIn, ParamsMade, NodesLong, PlantAsks, Answers, PlantDone}
 
 -- what a tree that was grown, or a bad draw, leaves of the rooms
 abbrev pub finished : Planted → TreeRooms Stack → Outcome TreeAnswer (TreeRooms Stack)
@@ -35,14 +35,6 @@ filled-same x [] [] e = refl
 filled-same x [] (y ∷ l′) e = absurd (omega arith)
 filled-same x (z ∷ l) [] e = absurd (omega arith)
 filled-same x (z ∷ l) (y ∷ l′) e = ap (λ t. x ∷ t) (filled-same x l l′ (omega arith))
-
-pub record NodesLong (c c′ : Columns) : Type 0 where
-  pub value : length (c′ .value) ≡ length (c .value)
-  pub feature : length (c′ .feature) ≡ length (c .feature)
-  pub threshold : length (c′ .threshold) ≡ length (c .threshold)
-  pub score : length (c′ .score) ≡ length (c .score)
-  pub yes : length (c′ .trueChild) ≡ length (c .trueChild)
-  pub no : length (c′ .falseChild) ≡ length (c .falseChild)
 
 pub record WorkLong (w w′ : Work Stack) : Type 0 where
   pub order : length (w′ .order) ≡ length (w .order)

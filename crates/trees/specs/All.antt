@@ -12,7 +12,6 @@ use Rattle.rules.specs.declared.Report.{Report}
 use Rattle.rules.specs.Words.{from, front, total}
 use Rattle.rules.specs.Lent.{Data, Frame, Columns, Reports, shortest, writeEntries, writeReports}
 use Rattle.rules.specs.Checks.{roomFor}
-use Rattle.rules.specs.Draws.{bad, ok}
 use Rattle.rules.specs.Fit.{Tree, fit}
 use Rattle.rules.specs.Forest.{stopped, grownAll, growTrees, startsFrom, forestEntries}
 use Rattle.laws.specs.Lists.{length-from, getD-from}
@@ -21,7 +20,7 @@ use Rattle.laws.specs.Outs.{Then, then-of}
 use Rattle.growth.specs.Rooms.{LongAll}
 use Rattle.plant.specs.declared.Planted.{Planted}
 use Rattle.plant.specs.declared.Planted.the-variants.{BadDraw, Grown}
-use Rattle.plant.specs.Plant.{PlantAsks, PlantDone}
+use Rattle.plant.specs.Plant.{NodesLong, PlantAsks, PlantDone, long-all}
 use Rattle.trees.specs.declared.Grove.{Grove}
 use Rattle.trees.specs.declared.Grove.the-variants as U
 use Rattle.trees.specs.Standing.{dropAll, putReport, ReportsLong, Standing, standing-first, standing-end, standing-stop, standing-next, room-here}
@@ -86,26 +85,10 @@ Answers L c c′ s s′ p p′ U.Grown = AllGrown L c c′ s s′ p p′
 pub record AllDone (L : Lot) (c c′ : Columns) (s s′ : List ℕ) (p p′ : Reports) (r : Grove) : Type 0 where
   pub done : Answers L c c′ s s′ p p′ r
 
--- ---- lengths that stay
-
-pub record NodesLong (c c′ : Columns) : Type 0 where
-  pub value : length (c′ .value) ≡ length (c .value)
-  pub feature : length (c′ .feature) ≡ length (c .feature)
-  pub threshold : length (c′ .threshold) ≡ length (c .threshold)
-  pub score : length (c′ .score) ≡ length (c .score)
-  pub yes : length (c′ .trueChild) ≡ length (c .trueChild)
-  pub no : length (c′ .falseChild) ≡ length (c .falseChild)
-
-under : (m a b : ℕ) → m ≤ min a b → (m ≤ a) × (m ≤ b)
-under m a b h = (omega arith, omega arith)
+-- ---- the room that is left
 
 over : (m a b : ℕ) → m ≤ a → m ≤ b → m ≤ min a b
 over m a b h k = omega arith
-
-each-long : (m : ℕ) (c : Columns) → m ≤ shortest c → LongAll m c
-each-long m c h =
-    let (v, h₁) = under m _ _ h in let (f, h₂) = under m _ _ h₁ in let (t, h₃) = under m _ _ h₂ in let (s, h₄) = under m _ _ h₃ in let (a, b) = under m _ _ h₄ in
-    record { value = v; feature = f; threshold = t; score = s; yes = a; no = b }
 
 all-long : (m : ℕ) (c : Columns) → LongAll m c → m ≤ shortest c
 all-long m c h = over m _ _ (h .value) (over m _ _ (h .feature) (over m _ _ (h .threshold) (over m _ _ (h .score) (over m _ _ (h .yes) (h .no)))))
@@ -113,7 +96,7 @@ all-long m c h = over m _ _ (h .value) (over m _ _ (h .feature) (over m _ _ (h .
 -- the room from place `at` on
 left-room : (at n : ℕ) (c₀ c : Columns) → NodesLong c₀ c → at + n ≤ shortest c₀ → LongAll at c × (n ≤ shortest (dropAll at c))
 left-room at n c₀ c l h =
-    let e = each-long (at + n) c₀ h in (
+    let e = long-all (at + n) c₀ h in (
       record {
         value = near (l .value) (e .value);
         feature = near (l .feature) (e .feature);

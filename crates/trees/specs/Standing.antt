@@ -1,11 +1,11 @@
 -- The loop over a forest's trees: those grown so far stand at the front of the rooms, and what is left to grow makes up the whole. Assumes nothing.
-use Prim.Native.Nat.{ℕ, zero, suc, _+_, _-_, _<_, _≤_, min}
+use Prim.Native.Nat.{ℕ, suc, _+_, _-_, _<_, _≤_}
 use native.Mathlib.Nat.{zero-add, le-refl}
 use native.Mathlib.Numerals.{add-one}
 use native.Mathlib.Omega.{arith}
 use mathlib.Core.Path.{_≡_, refl, sym, ap, _∙_, subst}
 use mathlib.Core.List.{List, [], _∷_, _++_, map, map-append, append-assoc, append-nil}
-use lib.ListN.{length, getD, set, take, drop, length-append, length-map, length-drop, drop-of-length-le, take-append-drop}
+use lib.ListN.{length, getD, set, take, drop, length-append, length-map, drop-of-length-le, take-append-drop}
 use lib.Seq.{drop-cons, drop-drop, take-at, drop-at, set-at}
 use lib.Ieee.{nan}
 use Rattle.rules.specs.declared.Report.{Report}
@@ -13,7 +13,7 @@ use Rattle.rules.specs.declared.Place.{Place}
 use Rattle.rules.specs.Words.{front, total}
 use Rattle.rules.specs.Lent.{Data, Frame, Columns, Entry, Reports, writeEntries, writeReports}
 use Rattle.rules.specs.Checks.{roomFor}
-use Rattle.rules.specs.Draws.{Out, bad, ok}
+use Rattle.rules.specs.Draws.{bad, ok}
 use Rattle.rules.specs.Fit.{Tree, fit, entries}
 use Rattle.rules.specs.Forest.{Forest, stopped, grownAll, withTree, nextTree, growTrees, startsFrom, forestEntries}
 use Rattle.laws.specs.Tables.{length-entries}

@@ -2,7 +2,7 @@
 ghost use mathlib.Core.Path.{_≡_};
 ghost use Prim.Native.Nat.{_+_, _<_};
 ghost use lib.ListN.{length, set};
-ghost use Rattle.rules.specs.Lent.{Columns, Reports};
+ghost use Rattle.rules.specs.Lent.{Reports};
 ghost use Rattle.plant.specs.Plant.{dataIn};
 ghost use Rattle.trees.specs.Standing.{putReport, ReportsLong};
 ghost use Rattle.trees.specs.Next.{NextAsks, NextDone, frameFor};

@@ -5,17 +5,17 @@ use Rattle.checks.specs.Tests.{and-on, and-off}
 use Rattle.checks.proofs.shape_in.Statement.{statement}
 use Rattle.checks.proofs.shape_in.Tie as tie
 
-in-range-requires : tie.Need-in-range-requires
-in-range-requires c κs = search needs
+rows-in-requires : tie.Need-rows-in-requires
+rows-in-requires c κs = search needs
 
 features-in-requires : tie.Need-features-in-requires
 features-in-requires c κs = search needs
 
 returns : tie.Need-returns
-returns c = and-on _ _ (sym (c .before .before .in-range .ensures) ∙ c .before .if1 .taken) (c .features-in .ensures)
+returns c = and-on _ _ (sym (c .before .before .rows-in .ensures) ∙ c .before .if1 .taken) (c .features-in .ensures)
 
 returns-2 : tie.Need-returns-2
-returns-2 c = and-off _ _ (sym (c .before .in-range .ensures) ∙ c .if1 .left)
+returns-2 c = and-off _ _ (sym (c .before .rows-in .ensures) ∙ c .if1 .left)
 
 pub shape-in-spec : {M : Type 1} → statement M
-shape-in-spec = tie.close (tie.spec in-range-requires features-in-requires returns returns-2)
+shape-in-spec = tie.close (tie.spec rows-in-requires features-in-requires returns returns-2)

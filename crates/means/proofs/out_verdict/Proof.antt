@@ -10,7 +10,6 @@ use denote.Ref.{now}
 use lib.ListN.{length}
 use Rattle.rules.specs.Checks.{shapeIn, treesIn}
 use Rattle.rules.specs.OutOfBag.{outTests}
-use Rattle.checks.specs.Asks.{Ranges}
 use Rattle.checks.specs.Tests.{passes, fails, rows-low}
 use Rattle.means.specs.Means.{ranges}
 use Rattle.means.proofs.out_verdict.Statement.{statement}

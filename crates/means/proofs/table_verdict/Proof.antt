@@ -1,5 +1,4 @@
 -- `means::table_verdict` meets its contract: values, both rooms, and the table, in this order. Assumes nothing.
-use borrow.Author.Needs.{needs}
 use borrow.Author.Tests.{leb-true, not-true, not-false}
 use mathlib.Core.Path.{_≡_, sym, ap, _∙_}
 use mathlib.Core.Bool.{true, _&&_}

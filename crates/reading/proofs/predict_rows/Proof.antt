@@ -1,5 +1,4 @@
 -- `reading::predict_rows` meets its contract: the places before row i hold their predictions. Assumes nothing.
-use borrow.Author.Needs.{needs}
 use native.Mathlib.Omega.{arith}
 use mathlib.Core.Path.{_∙_}
 use Prim.Native.Nat.{ℕ, _-_, _<_, _≤_}

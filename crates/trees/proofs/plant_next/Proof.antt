@@ -3,7 +3,6 @@ use native.Mathlib.Nat.{le-refl}
 use native.Mathlib.Omega.{arith}
 use lib.ListN.{length}
 use denote.Ref.{now}
-use borrow.Author.Needs.{needs}
 use Rattle.trees.specs.Next.{next-asks, next-done, back-long}
 use Rattle.trees.proofs.plant_next.Statement.{statement}
 use Rattle.trees.proofs.plant_next.Tie as tie

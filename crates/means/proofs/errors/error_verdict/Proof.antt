@@ -1,7 +1,7 @@
 -- `means::errors::error_verdict` meets its contract: rows, then both lengths. Assumes nothing.
 use borrow.Author.Needs.{needs}
 use borrow.Author.Tests.{eq-eqb, ne-eqb, not-true, not-false}
-use mathlib.Core.Path.{_≡_, refl, sym, _∙_}
+use mathlib.Core.Path.{_≡_, sym, _∙_}
 use mathlib.Core.Bool.{true}
 use Rattle.rules.specs.Checks.{rowsIn}
 use Rattle.rules.specs.OutOfBag.{errorTests}

@@ -1,6 +1,6 @@
 -- `means::errors::out_of_bag_error` meets its contract: refused as the verdict is, else the sum over the rows. Assumes nothing.
 use borrow.Author.Needs.{needs}
-use mathlib.Core.Path.{_≡_, sym, ap, _∙_}
+use mathlib.Core.Path.{sym, ap, _∙_}
 use denote.Ref.{now}
 use lib.Ieee.{Float, binary64, div}
 use Rattle.rules.specs.Words.{nought, float}

@@ -1,7 +1,5 @@
 -- `means::sums::add_tree` meets its contract: the places before row i have taken the tree in. Assumes nothing.
-use borrow.Author.Needs.{needs}
 use native.Mathlib.Omega.{arith}
-use mathlib.Core.Path.{_≡_}
 use Prim.Native.Nat.{ℕ, _-_, _<_, _≤_}
 use denote.Ref.{now}
 use lib.ListN.{length}

@@ -1,10 +1,9 @@
 -- `means::sums::add_trees` meets its contract: with the trees from t on the room comes to what it comes to with all. Assumes nothing.
-use borrow.Author.Needs.{needs}
 use native.Mathlib.Nat.{mul-le-mul}
 use native.Mathlib.Numerals.{add-one}
 use native.Mathlib.Omega.{arith}
-use mathlib.Core.Path.{_≡_, sym, ap, _∙_, subst}
-use Prim.Native.Nat.{ℕ, suc, _-_, _+_, _*_, _<_, _≤_}
+use mathlib.Core.Path.{sym, ap, _∙_, subst}
+use Prim.Native.Nat.{ℕ, _-_, _+_, _*_, _<_, _≤_}
 use mathlib.Core.List.{List}
 use denote.Ref.{now}
 use lib.ListN.{getD}
@@ -12,10 +11,10 @@ use Rattle.rules.specs.Threshold.{threshold}
 use Rattle.rules.specs.Lent.{Entry, entriesAt}
 use Rattle.rules.specs.Table.{ForestTable, treeAt}
 use Rattle.tables.specs.Table.{columnsOf, tableOf}
-use Rattle.tables.specs.Laws.{start-below, start-inside}
-use Rattle.reading.specs.Walks.{Planted, leafAt}
+use Rattle.tables.specs.Laws.{start-below}
+use Rattle.reading.specs.Walks.{leafAt}
 use Rattle.reading.specs.Rows.{rewritten}
-use Rattle.means.specs.Sums.{withTree, Adding, tree-first, tree-next, tree-last, planted}
+use Rattle.means.specs.Sums.{withTree, Adding, tree-first, tree-next, tree-last, tree-lies}
 use Rattle.means.proofs.sums.add_trees.Statement.{statement}
 use Rattle.means.proofs.sums.add_trees.Tie as tie
 
@@ -76,7 +75,7 @@ add-tree-requires c κs =
     let s = c .before .before .before .before .before .before .before .before .before .before .before .before .before .before .before in (
       record { low = base-low (c .before .before .before) },
       record {
-        tree = planted (s .args .rows) (s .args .features) (now (s .args .values)) (table s) (now (s .args .out)) (s .pre) (c .before .before .before .before .loop .t) (c .before .before .before .loop-test .taken);
+        tree = tree-lies (s .args .rows) (s .args .features) (now (s .args .values)) (table s) (now (s .args .out)) (s .pre) (c .before .before .before .before .loop .t) (c .before .before .before .loop-test .taken);
         few = s .pre .few;
         long = s .pre .long;
         room = c .before .before .before .before .loop .inv .long ∙ s .pre .room;

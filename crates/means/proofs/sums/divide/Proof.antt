@@ -1,7 +1,6 @@
 -- `means::sums::divide` meets its contract: the places before row i are divided. Assumes nothing.
-use borrow.Author.Needs.{needs}
 use native.Mathlib.Omega.{arith}
-use mathlib.Core.Path.{_≡_, ap, _∙_}
+use mathlib.Core.Path.{ap, _∙_}
 use Prim.Native.Nat.{ℕ, _-_, _<_, _≤_}
 use denote.Ref.{now}
 use lib.ListN.{length, getD}

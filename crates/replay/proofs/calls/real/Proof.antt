@@ -1,11 +1,11 @@
 -- `replay::calls::real` meets its contract. A pattern is a NaN's if what its sign leaves is above that of an infinity. Assumes nothing.
-use mathlib.Core.Path.{_≡_, refl, sym, ap, _∙_, subst}
-use mathlib.Core.Bool.{Bool, true, false, not, true≢false, false≢true}
+use mathlib.Core.Path.{_≡_, refl, sym, _∙_, subst}
+use mathlib.Core.Bool.{not}
 use Prim.Native.Nat.{ℕ, _%_, _<_, _≤_}
 use native.Mathlib.Nat.{not-le-of-lt}
 use lib.Dec.{T, ltb, ltb→lt, lt→ltb, not-T}
 use lib.Ieee.{Float, nan, inf, fin, binary64, ofBits, isNan, nanBits, div}
-use lib.Ieee.Bits.{nanBits-is, nanBits-above, is-true}
+use lib.Ieee.Bits.{nanBits-is, nanBits-above}
 use borrow.Author.Needs.{needs}
 use Rattle.replay.proofs.calls.real.Statement.{statement}
 use Rattle.replay.proofs.calls.real.Tie as tie
