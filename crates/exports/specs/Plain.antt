@@ -8,6 +8,7 @@ use Rattle.rules.specs.declared.Depth.{Depth}
 use Rattle.rules.specs.declared.Splitter.{Splitter}
 use Rattle.rules.specs.declared.Settings.{Settings}
 use Rattle.rules.specs.declared.Shape.{Shape}
+use Rattle.rules.specs.declared.Tried.{Tried}
 use Rattle.rules.specs.declared.Scale.{Scale}
 use Rattle.rules.specs.declared.TreeAnswer.{TreeAnswer}
 use Rattle.rules.specs.declared.Reply.{Reply}
@@ -17,7 +18,9 @@ use Rattle.rules.specs.Answers as Answers
 use Rattle.rules.specs.Fit.{TreeCall, fitTree}
 use Rattle.rules.specs.Reading.{treeImportances}
 use Rattle.exports.specs.declared.TreeSettings.{TreeSettings}
+use Rattle.exports.specs.declared.ForestSettings.{ForestSettings}
 use Rattle.exports.specs.declared.TreeTold.{TreeTold}
+use Rattle.exports.specs.declared.ForestTold.{ForestTold}
 use Rattle.exports.specs.declared.ErrorTold.{ErrorTold}
 use Rattle.exports.specs.declared.NodeTold.{NodeTold}
 
@@ -29,8 +32,17 @@ depthOf limited limit = cond limited (Depth.AtMost limit) Depth.Unlimited
 abbrev pub splitterOf : Bool → Splitter
 splitterOf random = cond random Splitter.Random Splitter.Best
 
-unfoldable pub treeSettingsOf : TreeSettings → Settings
-treeSettingsOf s = record { depth = depthOf (s .limited) (s .limit); leaf = s .leaf; split = s .split; splitter = splitterOf (s .random) }
+abbrev pub triedFrom : Bool → ℕ → Tried
+triedFrom said tried = cond said (Tried.Number tried) Tried.Unsaid
+
+unfoldable pub settingsOf : Bool → ℕ → ℕ → ℕ → Bool → Settings
+settingsOf limited limit leaf split random = record { depth = depthOf limited limit; leaf = leaf; split = split; splitter = splitterOf random }
+
+abbrev pub treeSettingsOf : TreeSettings → Settings
+treeSettingsOf s = settingsOf (s .limited) (s .limit) (s .leaf) (s .split) (s .random)
+
+abbrev pub forestSettingsOf : ForestSettings → Settings
+forestSettingsOf s = settingsOf (s .limited) (s .limit) (s .leaf) (s .split) (s .random)
 
 abbrev pub treeCall : Shape → Settings → ℕ → Given → List ℕ → List Float → TreeCall
 treeCall shape settings tried given words thresholds =
@@ -49,6 +61,9 @@ treeNumbers t =
       search = t .search;
       report = record { nodes = t .nodes; depth = t .depth; mass = t .mass; searches = t .searches; words = t .words; thresholds = t .thresholds };
     }
+
+abbrev pub forestNumbers : ForestTold → Answers.Told
+forestNumbers t = record { number = t .number; tree = t .tree; search = t .search; report = Answers.noReport }
 
 abbrev pub errorNumbers : ErrorTold → Answers.ErrorTold
 errorNumbers t = record { number = t .number; error = t .error }
@@ -70,10 +85,10 @@ told f o = record { answer = f (o .answer); rooms = o .rooms }
 
 -- ---- what the code puts together is what is said here
 
-pub settings-made : (s : TreeSettings) {d : Depth} {p : Splitter} → d ≡ depthOf (s .limited) (s .limit) → p ≡ splitterOf (s .random)
-    → record { depth = d; leaf = s .leaf; split = s .split; splitter = p } ≡ treeSettingsOf s
-unfolding treeSettingsOf
-settings-made s ed ep = λ i. record { depth = ed i; leaf = s .leaf; split = s .split; splitter = ep i }
+pub settings-made : (limited : Bool) (limit leaf split : ℕ) (random : Bool) {d : Depth} {p : Splitter} → d ≡ depthOf limited limit → p ≡ splitterOf random
+    → record { depth = d; leaf = leaf; split = split; splitter = p } ≡ settingsOf limited limit leaf split random
+unfolding settingsOf
+settings-made limited limit leaf split random ed ep = λ i. record { depth = ed i; leaf = leaf; split = split; splitter = ep i }
 
 pub answer-told : {A B R : Type 0} (f : A → B) {a : A} {b : B} {rooms : R} {o : Outcome A R} → record { answer = a; rooms = rooms } ≡ o → b ≡ f a
     → record { answer = b; rooms = rooms } ≡ told f o

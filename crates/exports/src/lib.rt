@@ -15,6 +15,18 @@ pub struct TreeSettings {
     pub random: bool,
 }
 
+// The settings of a forest. How many features a search tries is heeded where it is said.
+#[repr(C)]
+pub struct ForestSettings {
+    pub limited: bool,
+    pub limit: u16,
+    pub leaf: u32,
+    pub split: u32,
+    pub said: bool,
+    pub tried: u32,
+    pub random: bool,
+}
+
 // What the fit of one tree tells: 0 or the number of a refusal, the place of a bad draw, the report of a grown tree.
 #[repr(C)]
 pub struct TreeTold {
@@ -27,6 +39,14 @@ pub struct TreeTold {
     pub searches: u32,
     pub words: u32,
     pub thresholds: u32,
+}
+
+// What the fit of a forest tells: 0 or the number of a refusal, and the place of a bad draw.
+#[repr(C)]
+pub struct ForestTold {
+    pub number: u32,
+    pub tree: u32,
+    pub search: u32,
 }
 
 // The error, or the number of a refusal.

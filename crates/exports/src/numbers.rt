@@ -1,15 +1,18 @@
 // What plain numbers say, and answers as plain numbers.
 ghost use mathlib.Core.Path.{_≡_};
 ghost use Prim.Native.Nat.{_<_};
-ghost use Rattle.rules.specs.Answers.{treeTold, replyTold, errorTold, nodeTold};
-ghost use Rattle.exports.specs.Plain.{depthOf, splitterOf, treeSettingsOf, scaleOf, treeNumbers, errorNumbers, nodeNumbers, noNode};
+ghost use Rattle.rules.specs.Answers.{treeTold, forestTold, replyTold, errorTold, nodeTold};
+ghost use Rattle.exports.specs.Plain.{depthOf, splitterOf, triedFrom, settingsOf, treeSettingsOf, forestSettingsOf, scaleOf, treeNumbers, forestNumbers, errorNumbers, nodeNumbers, noNode};
 ghost use Rattle.exports.specs.Nodes.{trueChildOf, childOf};
 use crate::ErrorTold;
+use crate::ForestSettings;
+use crate::ForestTold;
 use crate::NodeTold;
 use crate::TreeSettings;
 use crate::TreeTold;
 use rules::Depth;
 use rules::ErrorReply;
+use rules::ForestAnswer;
 use rules::Kind;
 use rules::Node;
 use rules::NodeReply;
@@ -18,6 +21,7 @@ use rules::Scale;
 use rules::Settings;
 use rules::Splitter;
 use rules::TreeAnswer;
+use rules::Tried;
 
 // ---- what is given
 
@@ -39,17 +43,50 @@ pub fn splitter_of(random: bool) -> Splitter
     Splitter::Best
 }
 
+pub fn tried_from(said: bool, tried: u32) -> Tried
+    ensures { λ r. ⌜ r ≡ triedFrom said tried ⌝ }
+{
+    if said {
+        return Tried::Number(tried);
+    }
+    Tried::Unsaid
+}
+
+fn settings_of(limited: bool, limit: u16, leaf: u32, split: u32, random: bool) -> Settings
+    ensures { λ r. ⌜ r ≡ settingsOf limited limit leaf split random ⌝ }
+{
+    let depth = depth_of(limited, limit);
+    let splitter = splitter_of(random);
+    Settings {
+        depth,
+        leaf,
+        split,
+        splitter,
+    }
+}
+
 pub fn tree_settings_of(plain: TreeSettings) -> Settings
     ensures { λ r. ⌜ r ≡ treeSettingsOf plain ⌝ }
 {
-    let depth = depth_of(plain.limited, plain.limit);
-    let splitter = splitter_of(plain.random);
-    Settings {
-        depth,
-        leaf: plain.leaf,
-        split: plain.split,
-        splitter,
-    }
+    settings_of(
+        plain.limited,
+        plain.limit,
+        plain.leaf,
+        plain.split,
+        plain.random,
+    )
+}
+
+pub fn forest_settings_of(plain: ForestSettings) -> Settings
+    ensures { λ r. ⌜ r ≡ forestSettingsOf plain ⌝ }
+{
+    settings_of(
+        plain.limited,
+        plain.limit,
+        plain.leaf,
+        plain.split,
+        plain.random,
+    )
 }
 
 pub fn scale_of(bymass: bool, mass: f64) -> Scale
@@ -99,6 +136,28 @@ pub fn tree_told_of(answer: TreeAnswer) -> TreeTold
             searches: r.searches,
             words: r.words,
             thresholds: r.thresholds,
+        },
+    }
+}
+
+pub fn forest_told_of(answer: ForestAnswer) -> ForestTold
+    ensures { λ r. ⌜ forestNumbers r ≡ forestTold answer ⌝ }
+{
+    match answer {
+        ForestAnswer::Refused(n) => ForestTold {
+            number: n,
+            tree: 0,
+            search: 0,
+        },
+        ForestAnswer::BadDraw(place) => ForestTold {
+            number: 7,
+            tree: place.tree,
+            search: place.search,
+        },
+        ForestAnswer::Grown => ForestTold {
+            number: 0,
+            tree: 0,
+            search: 0,
         },
     }
 }
