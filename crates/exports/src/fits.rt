@@ -4,10 +4,10 @@ ghost use Rattle.rules.specs.Lent.{TreeRooms, Outcome, Stack, stack};
 ghost use Rattle.rules.specs.Answers.{Told, treeTold};
 ghost use Rattle.rules.specs.Fit.{fitTree};
 ghost use Rattle.checks.specs.Lent.{givenOf};
-ghost use Rattle.exports.specs.Plain.{treeSettingsOf, treeCall, treeNumbers, told};
-use crate::TreeSettings;
-use crate::TreeTold;
-use crate::numbers;
+ghost use Rattle.numbers.specs.Plain.{treeSettingsOf, treeNumbers};
+ghost use Rattle.exports.specs.Calls.{treeCall, told};
+use numbers::TreeSettings;
+use numbers::TreeTold;
 use rules::Shape;
 
 #[no_mangle]

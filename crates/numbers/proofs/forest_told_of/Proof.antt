@@ -1,9 +1,9 @@
--- `exports::numbers::forest_told_of` meets its contract: a match on the answer. Assumes nothing.
+-- `numbers::forest_told_of` meets its contract: a match on the answer. Assumes nothing.
 use mathlib.Core.Path.{sym, ap}
 use borrow.Author.Needs.{needs}
 use Rattle.rules.specs.Answers.{forestTold}
-use Rattle.exports.proofs.numbers.forest_told_of.Statement.{statement}
-use Rattle.exports.proofs.numbers.forest_told_of.Tie as tie
+use Rattle.numbers.proofs.forest_told_of.Statement.{statement}
+use Rattle.numbers.proofs.forest_told_of.Tie as tie
 
 enum-known-answer : tie.Need-enum-known-answer
 enum-known-answer c = search needs

@@ -1,28 +1,22 @@
 -- Plain numbers as the rules have them: settings from numbers, answers to numbers. Assumes nothing.
 use Prim.Native.Nat.{ℕ}
 use mathlib.Core.Bool.{Bool, false, cond}
-use mathlib.Core.Path.{_≡_, ap, _∙_}
-use mathlib.Core.List.{List}
+use mathlib.Core.Path.{_≡_}
 use lib.Ieee.{Float}
 use Rattle.rules.specs.declared.Depth.{Depth}
 use Rattle.rules.specs.declared.Splitter.{Splitter}
 use Rattle.rules.specs.declared.Settings.{Settings}
-use Rattle.rules.specs.declared.Shape.{Shape}
 use Rattle.rules.specs.declared.Tried.{Tried}
 use Rattle.rules.specs.declared.Scale.{Scale}
-use Rattle.rules.specs.declared.TreeAnswer.{TreeAnswer}
-use Rattle.rules.specs.declared.Reply.{Reply}
 use Rattle.rules.specs.Words.{nought}
-use Rattle.rules.specs.Lent.{Given, Columns, TreeRooms, Outcome, Stack, stack, leafEntry}
+use Rattle.rules.specs.Lent.{leafEntry}
 use Rattle.rules.specs.Answers as Answers
-use Rattle.rules.specs.Fit.{TreeCall, fitTree}
-use Rattle.rules.specs.Reading.{treeImportances}
-use Rattle.exports.specs.declared.TreeSettings.{TreeSettings}
-use Rattle.exports.specs.declared.ForestSettings.{ForestSettings}
-use Rattle.exports.specs.declared.TreeTold.{TreeTold}
-use Rattle.exports.specs.declared.ForestTold.{ForestTold}
-use Rattle.exports.specs.declared.ErrorTold.{ErrorTold}
-use Rattle.exports.specs.declared.NodeTold.{NodeTold}
+use Rattle.numbers.specs.declared.TreeSettings.{TreeSettings}
+use Rattle.numbers.specs.declared.ForestSettings.{ForestSettings}
+use Rattle.numbers.specs.declared.TreeTold.{TreeTold}
+use Rattle.numbers.specs.declared.ForestTold.{ForestTold}
+use Rattle.numbers.specs.declared.ErrorTold.{ErrorTold}
+use Rattle.numbers.specs.declared.NodeTold.{NodeTold}
 
 -- ---- what is given
 
@@ -43,10 +37,6 @@ treeSettingsOf s = settingsOf (s .limited) (s .limit) (s .leaf) (s .split) (s .r
 
 abbrev pub forestSettingsOf : ForestSettings → Settings
 forestSettingsOf s = settingsOf (s .limited) (s .limit) (s .leaf) (s .split) (s .random)
-
-abbrev pub treeCall : Shape → Settings → ℕ → Given → List ℕ → List Float → TreeCall
-treeCall shape settings tried given words thresholds =
-    record { shape = shape; settings = settings; tried = tried; given = given; words = words; thresholds = thresholds }
 
 abbrev pub scaleOf : Bool → Float → Scale
 scaleOf massed mass = cond massed (Scale.ByMass mass) Scale.Normalised
@@ -79,27 +69,9 @@ nodeNumbers t =
 abbrev pub noNode : ℕ → Answers.NodeTold
 noNode n = record { number = n; there = false; entry = leafEntry nought }
 
--- the answer as it is told, and the rooms
-abbrev pub told : {A B R : Type 0} → (A → B) → Outcome A R → Outcome B R
-told f o = record { answer = f (o .answer); rooms = o .rooms }
-
 -- ---- what the code puts together is what is said here
 
 pub settings-made : (limited : Bool) (limit leaf split : ℕ) (random : Bool) {d : Depth} {p : Splitter} → d ≡ depthOf limited limit → p ≡ splitterOf random
     → record { depth = d; leaf = leaf; split = split; splitter = p } ≡ settingsOf limited limit leaf split random
 unfolding settingsOf
 settings-made limited limit leaf split random ed ep = λ i. record { depth = ed i; leaf = leaf; split = split; splitter = ep i }
-
-pub answer-told : {A B R : Type 0} (f : A → B) {a : A} {b : B} {rooms : R} {o : Outcome A R} → record { answer = a; rooms = rooms } ≡ o → b ≡ f a
-    → record { answer = b; rooms = rooms } ≡ told f o
-answer-told f {rooms = rooms} e t = (λ i. record { answer = t i; rooms = rooms }) ∙ ap (told f) e
-
-module _ (shape : Shape) (tried : ℕ) (given : Given) (words : List ℕ) (thresholds : List Float) (R R′ : TreeRooms Stack) where
-  pub tree-linked : {S S′ : Settings} {a : TreeAnswer} {t : TreeTold} → S ≡ S′ → record { answer = a; rooms = R′ } ≡ fitTree stack (treeCall shape S tried given words thresholds) R → treeNumbers t ≡ Answers.treeTold a
-      → record { answer = treeNumbers t; rooms = R′ } ≡ told Answers.treeTold (fitTree stack (treeCall shape S′ tried given words thresholds) R)
-  tree-linked es e t = answer-told Answers.treeTold (e ∙ ap (λ S. fitTree stack (treeCall shape S tried given words thresholds) R) es) t
-
-module _ (features : ℕ) (c : Columns) (out : List Float) where
-  pub importances-linked : {by by′ : Scale} {a : Reply} {n : ℕ} {out′ : List Float} → by ≡ by′ → record { answer = a; rooms = out′ } ≡ treeImportances features by c out → n ≡ Answers.replyTold a
-      → record { answer = n; rooms = out′ } ≡ told Answers.replyTold (treeImportances features by′ c out)
-  importances-linked es e t = answer-told Answers.replyTold (e ∙ ap (λ by. treeImportances features by c out) es) t

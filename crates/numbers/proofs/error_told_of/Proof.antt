@@ -1,9 +1,9 @@
--- `exports::numbers::error_told_of` meets its contract: a match on the answer. Assumes nothing.
+-- `numbers::error_told_of` meets its contract: a match on the answer. Assumes nothing.
 use borrow.Author.Needs.{needs}
 use mathlib.Core.Path.{sym, ap}
 use Rattle.rules.specs.Answers.{errorTold}
-use Rattle.exports.proofs.numbers.error_told_of.Statement.{statement}
-use Rattle.exports.proofs.numbers.error_told_of.Tie as tie
+use Rattle.numbers.proofs.error_told_of.Statement.{statement}
+use Rattle.numbers.proofs.error_told_of.Tie as tie
 
 enum-known-reply : tie.Need-enum-known-reply
 enum-known-reply c = search needs

@@ -1,7 +1,7 @@
--- `exports::numbers::tried_from` meets its contract. Assumes nothing.
+-- `numbers::tried_from` meets its contract. Assumes nothing.
 use borrow.Author.Needs.{needs}
-use Rattle.exports.proofs.numbers.tried_from.Statement.{statement}
-use Rattle.exports.proofs.numbers.tried_from.Tie as tie
+use Rattle.numbers.proofs.tried_from.Statement.{statement}
+use Rattle.numbers.proofs.tried_from.Tie as tie
 
 returns : tie.Need-returns
 returns c = rw (c .if1 .taken)

@@ -1,11 +1,11 @@
--- `exports::numbers::node_read` meets its contract: a match on its kind. Assumes nothing.
+-- `numbers::node_read` meets its contract: a match on its kind. Assumes nothing.
 use borrow.Author.Needs.{needs}
 use Prim.Native.Nat.{_<_}
 use native.Mathlib.Omega.{arith}
 use mathlib.Core.Path.{subst}
-use Rattle.exports.specs.Nodes.{trueChildOf, leaf-told, split-told}
-use Rattle.exports.proofs.numbers.node_read.Statement.{statement}
-use Rattle.exports.proofs.numbers.node_read.Tie as tie
+use Rattle.numbers.specs.Nodes.{trueChildOf, leaf-told, split-told}
+use Rattle.numbers.proofs.node_read.Statement.{statement}
+use Rattle.numbers.proofs.node_read.Tie as tie
 
 enum-told : tie.Need-enum-told
 enum-told c = search needs

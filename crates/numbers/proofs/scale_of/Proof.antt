@@ -1,7 +1,7 @@
--- `exports::numbers::scale_of` meets its contract. Assumes nothing.
+-- `numbers::scale_of` meets its contract. Assumes nothing.
 use borrow.Author.Needs.{needs}
-use Rattle.exports.proofs.numbers.scale_of.Statement.{statement}
-use Rattle.exports.proofs.numbers.scale_of.Tie as tie
+use Rattle.numbers.proofs.scale_of.Statement.{statement}
+use Rattle.numbers.proofs.scale_of.Tie as tie
 
 returns : tie.Need-returns
 returns c = rw (c .if1 .taken)

@@ -1,8 +1,8 @@
--- `exports::numbers::settings_of` meets its contract. Assumes nothing.
+-- `numbers::settings_of` meets its contract. Assumes nothing.
 use borrow.Author.Needs.{needs}
-use Rattle.exports.specs.Plain.{settings-made}
-use Rattle.exports.proofs.numbers.settings_of.Statement.{statement}
-use Rattle.exports.proofs.numbers.settings_of.Tie as tie
+use Rattle.numbers.specs.Plain.{settings-made}
+use Rattle.numbers.proofs.settings_of.Statement.{statement}
+use Rattle.numbers.proofs.settings_of.Tie as tie
 
 depth-of-requires : tie.Need-depth-of-requires
 depth-of-requires c κs = search needs

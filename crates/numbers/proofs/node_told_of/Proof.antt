@@ -1,11 +1,11 @@
--- `exports::numbers::node_told_of` meets its contract: a match on the answer. Assumes nothing.
+-- `numbers::node_told_of` meets its contract: a match on the answer. Assumes nothing.
 use borrow.Author.Needs.{needs}
 use Prim.Native.Nat.{_<_}
 use mathlib.Core.Path.{sym, ap, _∙_, subst}
 use Rattle.rules.specs.Answers.{nodeTold}
-use Rattle.exports.specs.Nodes.{childOf}
-use Rattle.exports.proofs.numbers.node_told_of.Statement.{statement}
-use Rattle.exports.proofs.numbers.node_told_of.Tie as tie
+use Rattle.numbers.specs.Nodes.{childOf}
+use Rattle.numbers.proofs.node_told_of.Statement.{statement}
+use Rattle.numbers.proofs.node_told_of.Tie as tie
 
 enum-known-reply : tie.Need-enum-known-reply
 enum-known-reply c = search needs
