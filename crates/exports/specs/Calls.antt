@@ -5,19 +5,37 @@ use mathlib.Core.List.{List}
 use lib.Ieee.{Float}
 use Rattle.rules.specs.declared.Settings.{Settings}
 use Rattle.rules.specs.declared.Shape.{Shape}
+use Rattle.rules.specs.declared.Tried.{Tried}
 use Rattle.rules.specs.declared.Scale.{Scale}
 use Rattle.rules.specs.declared.TreeAnswer.{TreeAnswer}
+use Rattle.rules.specs.declared.ForestAnswer.{ForestAnswer}
 use Rattle.rules.specs.declared.Reply.{Reply}
-use Rattle.rules.specs.Lent.{Given, Columns, TreeRooms, Outcome, Stack, stack}
-use Rattle.rules.specs.Answers.{treeTold, replyTold}
+use Rattle.rules.specs.Lent.{Given, Columns, TreeRooms, ForestRooms, Outcome, Stack, stack}
+use Rattle.rules.specs.Answers.{treeTold, forestTold, replyTold}
 use Rattle.rules.specs.Fit.{TreeCall, fitTree}
+use Rattle.rules.specs.Forest.{ForestCall, fitForest}
 use Rattle.rules.specs.Reading.{treeImportances}
 use Rattle.numbers.specs.declared.TreeTold.{TreeTold}
-use Rattle.numbers.specs.Plain.{treeNumbers}
+use Rattle.numbers.specs.declared.ForestTold.{ForestTold}
+use Rattle.numbers.specs.Plain.{treeNumbers, forestNumbers}
 
 abbrev pub treeCall : Shape → Settings → ℕ → Given → List ℕ → List Float → TreeCall
 treeCall shape settings tried given words thresholds =
     record { shape = shape; settings = settings; tried = tried; given = given; words = words; thresholds = thresholds }
+
+abbrev pub forestCall : Shape → ℕ → Settings → Tried → Given → List ℕ → List Float → List ℕ → List ℕ → ForestCall
+forestCall shape trees settings tried given words thresholds wordCuts thresholdCuts =
+    record {
+      shape = shape;
+      trees = trees;
+      settings = settings;
+      tried = tried;
+      given = given;
+      words = words;
+      thresholds = thresholds;
+      wordCuts = wordCuts;
+      thresholdCuts = thresholdCuts;
+    }
 
 -- the answer as it is told, and the rooms
 abbrev pub told : {A B R : Type 0} → (A → B) → Outcome A R → Outcome B R
@@ -33,6 +51,14 @@ module _ (shape : Shape) (tried : ℕ) (given : Given) (words : List ℕ) (thres
   pub tree-linked : {S S′ : Settings} {a : TreeAnswer} {t : TreeTold} → S ≡ S′ → record { answer = a; rooms = R′ } ≡ fitTree stack (treeCall shape S tried given words thresholds) R → treeNumbers t ≡ treeTold a
       → record { answer = treeNumbers t; rooms = R′ } ≡ told treeTold (fitTree stack (treeCall shape S′ tried given words thresholds) R)
   tree-linked es e t = answer-told treeTold (e ∙ ap (λ S. fitTree stack (treeCall shape S tried given words thresholds) R) es) t
+
+module _ (shape : Shape) (trees : ℕ) (given : Given) (words : List ℕ) (thresholds : List Float) (wordCuts thresholdCuts : List ℕ) (R R′ : ForestRooms Stack) where
+  abbrev forestOf : Settings → Tried → Outcome ForestAnswer (ForestRooms Stack)
+  forestOf S m = fitForest stack (forestCall shape trees S m given words thresholds wordCuts thresholdCuts) R
+
+  pub forest-linked : {S S′ : Settings} {m m′ : Tried} {a : ForestAnswer} {t : ForestTold} → S ≡ S′ → m ≡ m′ → record { answer = a; rooms = R′ } ≡ forestOf S m → forestNumbers t ≡ forestTold a
+      → record { answer = forestNumbers t; rooms = R′ } ≡ told forestTold (forestOf S′ m′)
+  forest-linked es em e t = answer-told forestTold (e ∙ λ i. forestOf (es i) (em i)) t
 
 module _ (features : ℕ) (c : Columns) (out : List Float) where
   pub importances-linked : {by by′ : Scale} {a : Reply} {n : ℕ} {out′ : List Float} → by ≡ by′ → record { answer = a; rooms = out′ } ≡ treeImportances features by c out → n ≡ replyTold a
