@@ -22,4 +22,5 @@ mod own;
 pub mod pick;
 mod rehearsal;
 pub mod run;
+pub mod tally;
 pub mod wire;
