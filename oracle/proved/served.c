@@ -37,6 +37,9 @@ static void tell_real(double f) {
 // The slices of the call at hand. Before and behind each lies one more entry of a fixed pattern, which must stay.
 enum { MOST = 18, PATTERN = 0xA5 };
 
+typedef uint32_t Wholes[6];
+typedef double Reals[3];
+
 static struct Slice {
     unsigned char *at;
     size_t length, size;
@@ -49,8 +52,8 @@ static size_t size_of(char entry) {
     case 'u': return sizeof(uint32_t);
     case 'z': return sizeof(size_t);
     case 'b': return sizeof(bool);
-    case 'w': return sizeof(uint32_t[6]);
-    default: return sizeof(double[3]);
+    case 'w': return sizeof(Wholes);
+    default: return sizeof(Reals);
     }
 }
 
@@ -80,10 +83,16 @@ static void give_slices(int from) {
     }
 }
 
-#define S(i) (void *)(slices[i].at + slices[i].size), slices[i].length
-#define SIX(i) S(i), S(i + 1), S(i + 2), S(i + 3), S(i + 4), S(i + 5)
+// A slice as it is passed, by the letter of its entries.
+#define S(type, i) (type *)(slices[i].at + slices[i].size), slices[i].length
+#define D(i) S(double, i)
+#define U(i) S(uint32_t, i)
 #define COLUMNS "dudduu"
+#define COLUMNS_AT(i) D(i), U(i + 1), D(i + 2), D(i + 3), U(i + 4), U(i + 5)
+#define GIVEN "ddduuud"
+#define GIVEN_AT(i) D(i), D(i + 1), D(i + 2), U(i + 3), U(i + 4), U(i + 5), D(i + 6)
 #define WORK "uubwr"
+#define WORK_AT(i) U(i), U(i + 1), S(bool, i + 2), S(Wholes, i + 3), S(Reals, i + 4)
 
 static void fit_tree(void) {
     size_t rows = number(), features = number();
@@ -94,9 +103,8 @@ static void fit_tree(void) {
     plain.split = number();
     plain.tried = number();
     plain.random = number();
-    take_slices("ddduuud" COLUMNS WORK);
-    TailboardyTreeTold told = tailboardy_fit_tree(rows, features, plain,
-        S(0), S(1), S(2), S(3), S(4), S(5), S(6), SIX(7), S(13), S(14), S(15), S(16), S(17));
+    take_slices(GIVEN COLUMNS WORK);
+    TailboardyTreeTold told = tailboardy_fit_tree(rows, features, plain, GIVEN_AT(0), COLUMNS_AT(7), WORK_AT(13));
     tell(told.number);
     tell(told.tree);
     tell(told.search);
@@ -112,21 +120,21 @@ static void fit_tree(void) {
 static void predict_tree(void) {
     size_t rows = number(), features = number();
     take_slices("d" COLUMNS "d");
-    tell(tailboardy_predict_tree(rows, features, S(0), SIX(1), S(7)));
+    tell(tailboardy_predict_tree(rows, features, D(0), COLUMNS_AT(1), D(7)));
     give_slices(7);
 }
 
 static void forest_means(void) {
     size_t rows = number(), features = number(), trees = number();
     take_slices("du" COLUMNS "d");
-    tell(tailboardy_forest_means(rows, features, trees, S(0), S(1), SIX(2), S(8)));
+    tell(tailboardy_forest_means(rows, features, trees, D(0), U(1), COLUMNS_AT(2), D(8)));
     give_slices(8);
 }
 
 static void out_of_bag_means(void) {
     size_t rows = number(), features = number(), trees = number();
     take_slices("duu" COLUMNS "d");
-    tell(tailboardy_out_of_bag_means(rows, features, trees, S(0), S(1), S(2), SIX(3), S(9)));
+    tell(tailboardy_out_of_bag_means(rows, features, trees, D(0), U(1), U(2), COLUMNS_AT(3), D(9)));
     give_slices(9);
 }
 
@@ -135,21 +143,21 @@ static void tree_importances(void) {
     bool by_mass = number();
     double mass = real();
     take_slices(COLUMNS "d");
-    tell(tailboardy_tree_importances(features, by_mass, mass, SIX(0), S(6)));
+    tell(tailboardy_tree_importances(features, by_mass, mass, COLUMNS_AT(0), D(6)));
     give_slices(6);
 }
 
 static void forest_importances(void) {
     size_t features = number(), trees = number();
     take_slices("u" COLUMNS "d");
-    tell(tailboardy_forest_importances(features, trees, S(0), SIX(1), S(7)));
+    tell(tailboardy_forest_importances(features, trees, U(0), COLUMNS_AT(1), D(7)));
     give_slices(7);
 }
 
 static void out_of_bag_error(void) {
     size_t rows = number();
     take_slices("dd");
-    TailboardyErrorTold told = tailboardy_out_of_bag_error(rows, S(0), S(1));
+    TailboardyErrorTold told = tailboardy_out_of_bag_error(rows, D(0), D(1));
     tell(told.number);
     tell_real(told.error);
     give_slices(taken);
@@ -158,21 +166,21 @@ static void out_of_bag_error(void) {
 static void check_listings(void) {
     size_t rows = number(), features = number();
     take_slices("du");
-    tell(tailboardy_check_listings(rows, features, S(0), S(1)));
+    tell(tailboardy_check_listings(rows, features, D(0), U(1)));
     give_slices(taken);
 }
 
 static void check_tree(void) {
     size_t features = number();
     take_slices(COLUMNS);
-    tell(tailboardy_check_tree(features, SIX(0)));
+    tell(tailboardy_check_tree(features, COLUMNS_AT(0)));
     give_slices(taken);
 }
 
 static void check_forest(void) {
     size_t features = number(), trees = number();
     take_slices("u" COLUMNS);
-    tell(tailboardy_check_forest(features, trees, S(0), SIX(1)));
+    tell(tailboardy_check_forest(features, trees, U(0), COLUMNS_AT(1)));
     give_slices(taken);
 }
 
@@ -180,7 +188,7 @@ static void read_node(void) {
     size_t features = number();
     take_slices(COLUMNS);
     size_t k = number();
-    TailboardyNodeTold told = tailboardy_read_node(features, SIX(0), k);
+    TailboardyNodeTold told = tailboardy_read_node(features, COLUMNS_AT(0), k);
     tell(told.number);
     tell(told.there);
     tell_real(told.value);
