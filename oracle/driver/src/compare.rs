@@ -6,8 +6,8 @@ use crate::chance::Chance;
 use crate::make_fit::{self, SMALL, Size};
 use crate::tally::{Counts, Tally, caught, passed_over};
 use crate::{
-    crafted, damage_fit, damage_read, differences, exhaustive, faults, limits, make_read, own,
-    rehearsal,
+    crafted, damage_fit, damage_read, differences, exhaustive, faults, limits, limits_read,
+    make_read, own, rehearsal,
 };
 use std::process::ExitCode;
 
@@ -86,6 +86,7 @@ pub fn compare(mut tally: Tally, count: usize, least: &Counts) -> ExitCode {
     exhaustive::tables(|case| tally.hold(&case));
     exhaustive::checks(|case| tally.hold(&case));
     limits::each(&mut chance, |case| tally.hold(&case));
+    limits_read::each(&mut Chance::new(5), |case| tally.hold(&case));
     random(&mut tally, &mut chance, count);
     differences::hold(&mut tally);
     if tally.library.grows_forests() {
