@@ -72,28 +72,23 @@ impl Counts {
 
 impl fmt::Display for Counts {
     fn fmt(&self, to: &mut fmt::Formatter) -> fmt::Result {
-        let (first, last) = self.refusals.split_at(6);
+        let Counts {
+            trees,
+            forests,
+            readers,
+            nodes,
+            checks,
+            bad_draws,
+            refusals,
+        } = self;
+        let (beside, (first, last)) = (self.beside_trees(), refusals.split_at(6));
         write!(
             to,
-            "{} trees grown; {} beside: ",
-            self.trees,
-            self.beside_trees()
+            "{trees} trees grown; {beside} beside: {forests} forests grown, "
         )?;
-        write!(
-            to,
-            "{} forests grown, {} answers of readers, ",
-            self.forests, self.readers
-        )?;
-        write!(
-            to,
-            "{} nodes read out, {} checks passed, ",
-            self.nodes, self.checks
-        )?;
-        write!(
-            to,
-            "{} bad draws, refusals 1 to 6 {first:?}, 8 to 10 {last:?}",
-            self.bad_draws
-        )
+        write!(to, "{readers} answers of readers, {nodes} nodes read out, ")?;
+        write!(to, "{checks} checks passed, {bad_draws} bad draws, ")?;
+        write!(to, "refusals 1 to 6 {first:?}, 8 to 10 {last:?}")
     }
 }
 
