@@ -1,37 +1,10 @@
-// The exported calls for a program of another processor: each call is read from standard input and answered on standard output.
-// First comes its kind, as in the list. Numbers have 64 bits; a slice is its length and its entries, of which lent ones go back.
-#include <stdbool.h>
-#include <stdint.h>
+// The exported calls for a program that has not linked them: each call is read from standard input and answered on standard output.
+// First comes its kind, as in the list. A number has 64 bits; a slice is its length and its entries. Back go the numbers told, then
+// the entries of the lent slices.
+#include "tailboardy.h"
 #include <stdio.h>
 #include <stdlib.h>
 #include <string.h>
-
-typedef struct {
-    bool limited;
-    uint16_t limit;
-    uint32_t leaf, split, tried;
-    bool random;
-} TreeSettings;
-
-typedef struct {
-    uint32_t number, tree, search, nodes, depth;
-    double mass;
-    uint32_t searches, words, thresholds;
-} TreeTold;
-
-#define SHARED(type, name) const type *name, size_t name##_length
-#define LENT(type, name) type *name, size_t name##_length
-
-typedef uint32_t Wholes[6];
-typedef double Reals[3];
-
-TreeTold tailboardy_fit_tree(
-    size_t rows, size_t features, TreeSettings plain,
-    SHARED(double, values), SHARED(double, targets), SHARED(double, weights), SHARED(uint32_t, counts),
-    SHARED(uint32_t, listings), SHARED(uint32_t, words), SHARED(double, thresholds),
-    LENT(double, value), LENT(uint32_t, feature), LENT(double, threshold), LENT(double, score), LENT(uint32_t, yes),
-    LENT(uint32_t, no), LENT(uint32_t, order), LENT(uint32_t, scratch), LENT(bool, flags), LENT(Wholes, wholes),
-    LENT(Reals, reals));
 
 static void take(void *at, size_t size) {
     if (size != 0 && fread(at, size, 1, stdin) != 1) exit(1);
@@ -47,52 +20,197 @@ static uint64_t number(void) {
     return n;
 }
 
-typedef struct {
-    void *at;
-    size_t length, size;
-} Slice;
-
-static Slice slice(size_t size) {
-    Slice s = {.length = number(), .size = size};
-    s.at = malloc(s.length * size + 1);
-    if (s.at == NULL) exit(1);
-    take(s.at, s.length * size);
-    return s;
+static double real(void) {
+    double f;
+    take(&f, sizeof f);
+    return f;
 }
 
-#define S(i) s[i].at, s[i].length
+static void tell(uint64_t n) {
+    give(&n, sizeof n);
+}
+
+static void tell_real(double f) {
+    give(&f, sizeof f);
+}
+
+// The slices of the call at hand. Before and behind each lies one more entry of a fixed pattern, which must stay.
+enum { MOST = 18, PATTERN = 0xA5 };
+
+typedef uint32_t Wholes[6];
+typedef double Reals[3];
+
+static struct Slice {
+    unsigned char *at;
+    size_t length, size;
+} slices[MOST];
+static int taken;
+
+static size_t size_of(char entry) {
+    switch (entry) {
+    case 'd': return sizeof(double);
+    case 'u': return sizeof(uint32_t);
+    case 'z': return sizeof(size_t);
+    case 'b': return sizeof(bool);
+    case 'w': return sizeof(Wholes);
+    default: return sizeof(Reals);
+    }
+}
+
+// Reads a slice for each letter.
+static void take_slices(const char *entries) {
+    for (taken = 0; entries[taken] != 0; taken++) {
+        struct Slice *s = &slices[taken];
+        s->size = size_of(entries[taken]);
+        s->length = number();
+        s->at = malloc((s->length + 2) * s->size);
+        if (s->at == NULL) exit(1);
+        memset(s->at, PATTERN, s->size);
+        take(s->at + s->size, s->length * s->size);
+        memset(s->at + (s->length + 1) * s->size, PATTERN, s->size);
+    }
+}
+
+// Gives back all slices from this one on.
+static void give_slices(int from) {
+    for (int i = 0; i < taken; i++) {
+        struct Slice *s = &slices[i];
+        for (size_t j = 0; j < s->size; j++) {
+            if (s->at[j] != PATTERN || s->at[(s->length + 1) * s->size + j] != PATTERN) exit(2);
+        }
+        if (i >= from) give(s->at + s->size, s->length * s->size);
+        free(s->at);
+    }
+}
+
+// A slice as it is passed, by the letter of its entries.
+#define S(type, i) (type *)(slices[i].at + slices[i].size), slices[i].length
+#define D(i) S(double, i)
+#define U(i) S(uint32_t, i)
+#define COLUMNS "dudduu"
+#define COLUMNS_AT(i) D(i), U(i + 1), D(i + 2), D(i + 3), U(i + 4), U(i + 5)
+#define GIVEN "ddduuud"
+#define GIVEN_AT(i) D(i), D(i + 1), D(i + 2), U(i + 3), U(i + 4), U(i + 5), D(i + 6)
+#define WORK "uubwr"
+#define WORK_AT(i) U(i), U(i + 1), S(bool, i + 2), S(Wholes, i + 3), S(Reals, i + 4)
 
 static void fit_tree(void) {
-    enum { SHARED_ONES = 7, ALL = 18 };
-    static const size_t sizes[ALL] = {8, 8, 8, 4, 4, 4, 8, 8, 4, 8, 8, 4, 4, 4, 4, 1, sizeof(Wholes), sizeof(Reals)};
     size_t rows = number(), features = number();
-    TreeSettings plain;
+    TailboardyTreeSettings plain;
     plain.limited = number();
     plain.limit = number();
     plain.leaf = number();
     plain.split = number();
     plain.tried = number();
     plain.random = number();
-    Slice s[ALL];
-    for (int i = 0; i < ALL; i++) s[i] = slice(sizes[i]);
-    TreeTold told = tailboardy_fit_tree(rows, features, plain,
-        S(0), S(1), S(2), S(3), S(4), S(5), S(6),
-        S(7), S(8), S(9), S(10), S(11), S(12), S(13), S(14), S(15), S(16), S(17));
-    uint64_t mass;
-    memcpy(&mass, &told.mass, sizeof mass);
-    uint64_t numbers[] = {told.number, told.tree, told.search, told.nodes, told.depth, mass, told.searches, told.words, told.thresholds};
-    give(numbers, sizeof numbers);
-    for (int i = SHARED_ONES; i < ALL; i++) give(s[i].at, s[i].length * s[i].size);
-    for (int i = 0; i < ALL; i++) free(s[i].at);
+    take_slices(GIVEN COLUMNS WORK);
+    TailboardyTreeTold told = tailboardy_fit_tree(rows, features, plain, GIVEN_AT(0), COLUMNS_AT(7), WORK_AT(13));
+    tell(told.number);
+    tell(told.tree);
+    tell(told.search);
+    tell(told.nodes);
+    tell(told.depth);
+    tell_real(told.mass);
+    tell(told.searches);
+    tell(told.words);
+    tell(told.thresholds);
+    give_slices(7);
 }
+
+static void predict_tree(void) {
+    size_t rows = number(), features = number();
+    take_slices("d" COLUMNS "d");
+    tell(tailboardy_predict_tree(rows, features, D(0), COLUMNS_AT(1), D(7)));
+    give_slices(7);
+}
+
+static void forest_means(void) {
+    size_t rows = number(), features = number(), trees = number();
+    take_slices("du" COLUMNS "d");
+    tell(tailboardy_forest_means(rows, features, trees, D(0), U(1), COLUMNS_AT(2), D(8)));
+    give_slices(8);
+}
+
+static void out_of_bag_means(void) {
+    size_t rows = number(), features = number(), trees = number();
+    take_slices("duu" COLUMNS "d");
+    tell(tailboardy_out_of_bag_means(rows, features, trees, D(0), U(1), U(2), COLUMNS_AT(3), D(9)));
+    give_slices(9);
+}
+
+static void tree_importances(void) {
+    size_t features = number();
+    bool by_mass = number();
+    double mass = real();
+    take_slices(COLUMNS "d");
+    tell(tailboardy_tree_importances(features, by_mass, mass, COLUMNS_AT(0), D(6)));
+    give_slices(6);
+}
+
+static void forest_importances(void) {
+    size_t features = number(), trees = number();
+    take_slices("u" COLUMNS "d");
+    tell(tailboardy_forest_importances(features, trees, U(0), COLUMNS_AT(1), D(7)));
+    give_slices(7);
+}
+
+static void out_of_bag_error(void) {
+    size_t rows = number();
+    take_slices("dd");
+    TailboardyErrorTold told = tailboardy_out_of_bag_error(rows, D(0), D(1));
+    tell(told.number);
+    tell_real(told.error);
+    give_slices(taken);
+}
+
+static void check_listings(void) {
+    size_t rows = number(), features = number();
+    take_slices("du");
+    tell(tailboardy_check_listings(rows, features, D(0), U(1)));
+    give_slices(taken);
+}
+
+static void check_tree(void) {
+    size_t features = number();
+    take_slices(COLUMNS);
+    tell(tailboardy_check_tree(features, COLUMNS_AT(0)));
+    give_slices(taken);
+}
+
+static void check_forest(void) {
+    size_t features = number(), trees = number();
+    take_slices("u" COLUMNS);
+    tell(tailboardy_check_forest(features, trees, U(0), COLUMNS_AT(1)));
+    give_slices(taken);
+}
+
+static void read_node(void) {
+    size_t features = number();
+    take_slices(COLUMNS);
+    size_t k = number();
+    TailboardyNodeTold told = tailboardy_read_node(features, COLUMNS_AT(0), k);
+    tell(told.number);
+    tell(told.there);
+    tell_real(told.value);
+    tell(told.feature);
+    tell_real(told.threshold);
+    tell_real(told.score);
+    tell(told.yes);
+    tell(told.no);
+    give_slices(taken);
+}
+
+// By kind; both ways to divide a tree's importances are one call.
+static void (*const calls[])(void) = {
+    NULL, fit_tree, NULL, predict_tree, forest_means, out_of_bag_means, tree_importances, NULL, forest_importances,
+    out_of_bag_error, check_listings, check_tree, check_forest, read_node,
+};
 
 int main(void) {
     uint64_t kind;
     while (fread(&kind, sizeof kind, 1, stdin) == 1) {
-        switch (kind) {
-        case 1: fit_tree(); break;
-        default: return 1;
-        }
+        if (kind >= sizeof calls / sizeof *calls || calls[kind] == NULL) return 1;
+        calls[kind]();
         fflush(stdout);
     }
 }

@@ -2,7 +2,8 @@
 
 use crate::calls::{Call, Fit, Read};
 use crate::expect;
-use crate::library::Held;
+use crate::library::Library;
+use crate::run;
 use crate::wire;
 
 pub struct Case {
@@ -31,9 +32,8 @@ impl Case {
         expect::expect(&self.call, self.refusal).encode()
     }
 
-    /// None where the library has no such call.
-    pub fn answer(&self, library: &dyn Held) -> Option<Vec<u64>> {
-        Some(library.outcome(&self.call)?.encode())
+    pub fn answer(&self, library: &dyn Library) -> Vec<u64> {
+        run::run(library, &self.call).encode()
     }
 
     /// The call as numbers, its kind first.

@@ -3,14 +3,13 @@
 use crate::calls::Call;
 use crate::case::{self, Case};
 use crate::chance::Chance;
-use crate::library::{Held, Library};
 use crate::make_fit::{self, SMALL, Size};
+use crate::tally::{Counts, Tally, caught, passed_over};
 use crate::{
-    crafted, damage_fit, damage_read, differences, exhaustive, faults, limits, make_read, own,
-    rehearsal,
+    crafted, damage_fit, damage_read, differences, exhaustive, faults, limits, limits_read,
+    make_read, own, rehearsal,
 };
 use std::process::ExitCode;
-use std::time::Instant;
 
 /// For the fixed list: a few numbers a case.
 pub const TINY: Size = Size {
@@ -69,141 +68,72 @@ pub fn fixed() -> Vec<Case> {
     cases
 }
 
-/// Counts cases, and keeps the shortest that differs.
-pub struct Tally {
-    pub inputs: usize,
-    differences: usize,
-    shortest: Option<String>,
-    refusals: [usize; 11],
-}
-
-impl Tally {
-    fn new() -> Self {
-        Tally {
-            inputs: 0,
-            differences: 0,
-            shortest: None,
-            refusals: [0; 11],
-        }
-    }
-
-    /// A case whose call the library does not have is passed over.
-    fn hold(&mut self, case: &Case, library: &dyn Held) {
-        if let Some(answer) = caught(|| case.answer(library)) {
-            let expected = caught(|| Some(case.expected())).unwrap_or_default();
-            self.answered(case, &expected, &answer);
-        }
-    }
-
-    fn answered(&mut self, case: &Case, expected: &[u64], answer: &[u64]) {
-        self.inputs += 1;
-        if !expected.is_empty() {
-            self.refusals[expected[0] as usize] += 1;
-        }
-        if expected != answer || expected.is_empty() {
-            let told = format!(
-                "{}\n  expected {expected:?}\n  answered {answer:?}",
-                case.call_line()
-            );
-            self.differ(told);
-        }
-    }
-
-    pub fn differ(&mut self, told: String) {
-        self.differences += 1;
-        let shorter = |held: &String| told.len() < held.len();
-        if self.shortest.as_ref().is_none_or(shorter) {
-            self.shortest = Some(told);
-        }
-    }
-
-    /// Of calls that are answered and not refused there must be `least`.
-    fn end(&self, what: &str, since: Instant, least: usize) -> ExitCode {
-        println!(
-            "{what}: {} inputs, {} differences, {:.1} s (by refusal, 0 to 10: {:?})",
-            self.inputs,
-            self.differences,
-            since.elapsed().as_secs_f64(),
-            self.refusals
-        );
-        match &self.shortest {
-            None if self.refusals[0] >= least => ExitCode::SUCCESS,
-            None => {
-                println!("too few: {least} answers were to be compared");
-                ExitCode::FAILURE
-            }
-            Some(told) => {
-                println!("the shortest: {told}");
-                ExitCode::FAILURE
-            }
-        }
-    }
-}
-
-/// Holds made cases, `count` of them random, and what docs/DIFFERENCES.md says.
-fn made(library: &dyn Held, chance: &mut Chance, count: usize, tally: &mut Tally) {
-    for case in fixed() {
-        tally.hold(&case, library);
-    }
-    exhaustive::best(|case| tally.hold(&case, library));
-    exhaustive::random(|case| tally.hold(&case, library));
-    exhaustive::words(|case| tally.hold(&case, library));
-    exhaustive::tables(|case| tally.hold(&case, library));
-    exhaustive::checks(|case| tally.hold(&case, library));
-    limits::each(chance, |case| tally.hold(&case, library));
+/// Random ones.
+fn random(tally: &mut Tally, chance: &mut Chance, count: usize) {
     for i in 0..count {
         let size = if i % 20 == 0 { MIDDLING } else { SMALL };
-        tally.hold(&make_growing(chance, size), library);
+        tally.hold(&make_growing(chance, size));
     }
-    differences::hold(library, tally);
 }
 
-/// Holds a library against the first judge, and against what the makers of inputs know.
-pub fn compare(library: &impl Library, count: usize) -> ExitCode {
-    let (since, mut tally, mut chance) = (Instant::now(), Tally::new(), Chance::new(1));
-    made(library, &mut chance, count, &mut tally);
-    own::hold(library, &mut chance, count / 100, &mut tally);
-    tally.end("compare", since, 1)
+/// Holds made cases, `count` of them random, what docs/DIFFERENCES.md says, and the crate's own `fit`s.
+pub fn compare(mut tally: Tally, count: usize, least: &Counts) -> ExitCode {
+    let mut chance = Chance::new(1);
+    fixed().iter().for_each(|case| tally.hold(case));
+    exhaustive::best(|case| tally.hold(&case));
+    exhaustive::random(|case| tally.hold(&case));
+    exhaustive::words(|case| tally.hold(&case));
+    exhaustive::tables(|case| tally.hold(&case));
+    exhaustive::checks(|case| tally.hold(&case));
+    limits::each(&mut chance, |case| tally.hold(&case));
+    limits_read::each(&mut Chance::new(5), |case| tally.hold(&case));
+    random(&mut tally, &mut chance, count);
+    differences::hold(&mut tally);
+    if tally.library.grows_forests() {
+        own::hold(&mut tally, &mut chance, count / 100);
+    }
+    tally.end("compare", least)
 }
 
-/// The same of a library that has some of the calls: on these alone, and not on the crate's own `fit`s, which take them all.
-pub fn compare_some(library: &dyn Held, count: usize, least: usize) -> ExitCode {
-    let (since, mut tally) = (Instant::now(), Tally::new());
-    made(library, &mut Chance::new(1), count, &mut tally);
-    tally.end("compare", since, least)
+/// The cases that are not left to chance, and `count` random ones: for a short run.
+pub fn sample(mut tally: Tally, count: usize, least: &Counts) -> ExitCode {
+    fixed().iter().for_each(|case| tally.hold(case));
+    random(&mut tally, &mut Chance::new(4), count);
+    tally.end("sample", least)
 }
 
 /// The deepest trees there are: some tens of seconds.
-pub fn longest(library: &dyn Held) -> ExitCode {
-    let since = Instant::now();
-    let mut tally = Tally::new();
-    limits::longest(&mut Chance::new(3), |case| tally.hold(&case, library));
-    tally.end("longest", since, 1)
+pub fn longest(mut tally: Tally) -> ExitCode {
+    limits::longest(&mut Chance::new(3), |case| tally.hold(&case));
+    tally.end("longest", &Counts::each(0))
 }
 
-/// Replays the list through a library, the copy, or both; the copy answers what is marked as the Rust's.
-/// With `each`, tells the place of every case that differs.
-pub fn replay(library: Option<&dyn Held>, copy: bool, file: &str, each: bool) -> ExitCode {
-    let since = Instant::now();
-    let mut tally = Tally::new();
-    let cases = case::read_list(file);
+/// Who answers a list: a tally's library, or the copy, which has what is marked as the Rust's.
+#[derive(Clone, Copy)]
+pub enum By {
+    Library,
+    Copy,
+}
+
+/// Replays the list. With `each`, tells the place of every case that differs.
+pub fn replay(mut tally: Tally, by: &[By], file: &str, each: bool, least: &Counts) -> ExitCode {
+    let library = tally.library;
     // an edited judge may panic on many cases: each is told as one that differs
     std::panic::set_hook(Box::new(|_| ()));
-    for (place, listed) in cases.iter().enumerate() {
-        let by_library = library.and_then(|library| caught(|| listed.case.answer(library)));
-        let by_copy = caught(|| (copy && listed.judge == 1).then(|| listed.case.expected()));
-        for answer in by_library.iter().chain(&by_copy) {
-            if each && *answer != listed.answer {
+    for (place, listed) in case::read_list(file).iter().enumerate() {
+        for by in by {
+            let answer = match by {
+                By::Library if !passed_over(library, &listed.case) => {
+                    caught(|| listed.case.answer(library))
+                }
+                By::Copy if listed.judge == 1 => caught(|| listed.case.expected()),
+                _ => continue,
+            };
+            if each && answer != listed.answer {
                 println!("differs {place}");
             }
-            tally.answered(&listed.case, &listed.answer, answer);
+            tally.answered(&listed.case, &listed.answer, &[answer]);
         }
     }
-    tally.end("replay", since, 1)
-}
-
-/// A judge that panics has answered nothing, which no call should give.
-fn caught(judge: impl Fn() -> Option<Vec<u64>>) -> Option<Vec<u64>> {
-    let ended = std::panic::catch_unwind(std::panic::AssertUnwindSafe(judge));
-    ended.unwrap_or_else(|_| Some(Vec::new()))
+    tally.end("replay", least)
 }

@@ -1,10 +1,10 @@
 //! What docs/DIFFERENCES.md says of its smallest inputs, held against the copy and a library.
 
 use crate::calls::{Call, Fit};
-use crate::compare::Tally;
-use crate::library::Held;
+use crate::library::Library;
 use crate::make_fit::{self, data, params};
-use crate::{chance::Chance, expect};
+use crate::tally::Tally;
+use crate::{chance::Chance, expect, run};
 use copy::harness::{self, Grown, Readable};
 
 /// One feature, rows in the order of the listing, one feature tried, draws that are enough.
@@ -26,12 +26,11 @@ fn rows(x: &[f64], y: &[f64]) -> Fit {
     }
 }
 
-/// The library's answer: refusal, nodes. Every library that is held here fits one tree.
-fn ours(library: &dyn Held, fit: &Fit) -> (u64, u64) {
+/// The library's answer: refusal, nodes.
+fn ours(library: &dyn Library, fit: &Fit) -> (u64, u64) {
     let mut fit = fit.clone();
     make_fit::rooms(&mut Chance::new(0), &mut fit);
-    let left = library.outcome(&Call::Fit(fit));
-    let told = left.expect("a fit of one tree").told;
+    let told = run::run(library, &Call::Fit(fit)).told;
     (told[0], told[3])
 }
 
@@ -46,7 +45,7 @@ fn panics<T>(judge: impl Fn() -> T) -> bool {
     ended.is_err()
 }
 
-fn listings(library: &dyn Held) -> Vec<(&'static str, bool)> {
+fn listings(library: &dyn Library) -> Vec<(&'static str, bool)> {
     let paper = |fit: &Fit| ours(library, fit);
     let mut tenth = rows(&[1.0, 2.0, 3.0, 4.0], &[0.0, 0.0, 10.0, 10.0]);
     tenth.listings = vec![0, 1, 1, 3];
@@ -75,7 +74,7 @@ fn listings(library: &dyn Held) -> Vec<(&'static str, bool)> {
     ]
 }
 
-fn weights(library: &dyn Held) -> Vec<(&'static str, bool)> {
+fn weights(library: &dyn Library) -> Vec<(&'static str, bool)> {
     let paper = |fit: &Fit| ours(library, fit);
     let weighted = |weight: f64| {
         let mut fit = rows(&[1.0], &[3.0]);
@@ -105,7 +104,7 @@ fn weights(library: &dyn Held) -> Vec<(&'static str, bool)> {
     ]
 }
 
-fn numbers(library: &dyn Held) -> Vec<(&'static str, bool)> {
+fn numbers(library: &dyn Library) -> Vec<(&'static str, bool)> {
     let paper = |fit: &Fit| ours(library, fit);
     let ends = rows(&[f64::NEG_INFINITY, f64::INFINITY], &[0.0, 1.0]);
     let target = rows(&[1.0], &[f64::INFINITY]);
@@ -148,12 +147,10 @@ fn numbers(library: &dyn Held) -> Vec<(&'static str, bool)> {
     ]
 }
 
-pub fn hold(library: &dyn Held, tally: &mut Tally) {
+pub fn hold(tally: &mut Tally) {
+    let library = tally.library;
     let all = [listings(library), weights(library), numbers(library)];
     for (what, as_said) in all.concat() {
-        tally.inputs += 1;
-        if !as_said {
-            tally.differ(format!("docs/DIFFERENCES.md: {what}"));
-        }
+        tally.told(as_said, || format!("docs/DIFFERENCES.md: {what}"));
     }
 }

@@ -1,25 +1,18 @@
 //! Libraries of the public calls, by lent slices: the second judge is one, the proved library another.
 
-use crate::calls::Call;
-use crate::outcome::Outcome;
-use crate::run;
+use crate::outcome::bits;
 use paper::{
-    Divisor, ForestAnswer, ForestCall, ForestRooms, NodeRead, Table, TreeAnswer, TreeCall,
+    Divisor, ForestAnswer, ForestCall, ForestRooms, Kind, NodeRead, Table, TreeAnswer, TreeCall,
     TreeRooms,
 };
 
-/// What can be held against the first judge: what a call leaves, or none where it has no such call.
-pub trait Held {
-    fn outcome(&self, call: &Call) -> Option<Outcome>;
-}
-
-pub trait TreeFits {
-    fn fit_tree(&self, call: &TreeCall, rooms: &mut TreeRooms) -> TreeAnswer;
-}
-
 /// All public calls.
-#[allow(clippy::too_many_arguments)]
-pub trait Library: TreeFits {
+pub trait Library {
+    /// Whether it has the fit of a forest; else such cases are passed over.
+    fn grows_forests(&self) -> bool {
+        true
+    }
+    fn fit_tree(&self, call: &TreeCall, rooms: &mut TreeRooms) -> TreeAnswer;
     fn fit_forest(&self, call: &ForestCall, rooms: &mut ForestRooms) -> ForestAnswer;
     fn predictions(
         &self,
@@ -59,25 +52,17 @@ pub trait Library: TreeFits {
     fn check_listings(&self, rows: usize, features: usize, x: &[f64], listings: &[u32]) -> u32;
     fn check_tree(&self, features: usize, t: &Table) -> u32;
     fn check_forest(&self, features: usize, trees: usize, t: &Table, starts: &[u32]) -> u32;
-    fn read_node(&self, features: usize, t: &Table, number: usize) -> NodeRead;
-}
-
-impl<L: Library> Held for L {
-    fn outcome(&self, call: &Call) -> Option<Outcome> {
-        Some(run::run(self, call))
-    }
+    /// The refusal, 1 if the node is there, then its value, feature, threshold, score, true child and false child.
+    fn read_node(&self, features: usize, t: &Table, number: usize) -> [u64; 8];
 }
 
 /// The second judge.
 pub struct Paper;
 
-impl TreeFits for Paper {
+impl Library for Paper {
     fn fit_tree(&self, call: &TreeCall, rooms: &mut TreeRooms) -> TreeAnswer {
         paper::fit_tree(call, rooms)
     }
-}
-
-impl Library for Paper {
     fn fit_forest(&self, call: &ForestCall, rooms: &mut ForestRooms) -> ForestAnswer {
         paper::fit_forest(call, rooms)
     }
@@ -137,7 +122,26 @@ impl Library for Paper {
     fn check_forest(&self, features: usize, trees: usize, t: &Table, starts: &[u32]) -> u32 {
         paper::check_forest(features, trees, t, starts)
     }
-    fn read_node(&self, features: usize, t: &Table, number: usize) -> NodeRead {
-        paper::read_node(features, t, number)
+    fn read_node(&self, features: usize, t: &Table, number: usize) -> [u64; 8] {
+        node_told(paper::read_node(features, t, number))
     }
+}
+
+/// What a leaf has not, and all six entries where there is no node, are zeros.
+fn node_told(read: NodeRead) -> [u64; 8] {
+    let mut told = [0; 8];
+    match read {
+        NodeRead::Refused(refusal) => told[0] = u64::from(refusal),
+        NodeRead::Missing => (),
+        NodeRead::Read(node) => {
+            told[1..3].copy_from_slice(&[1, bits(node.value)]);
+            if let Kind::Split(cut) = node.kind {
+                let [on_true, on_false] = [cut.true_child, cut.false_child].map(u64::from);
+                let [threshold, score] = [cut.threshold, cut.score].map(bits);
+                let rest = [u64::from(cut.feature), threshold, score, on_true, on_false];
+                told[3..].copy_from_slice(&rest);
+            }
+        }
+    }
+    told
 }

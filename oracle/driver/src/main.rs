@@ -1,6 +1,8 @@
 //! The command: compares both judges, replays the list, and what the list is made with.
 
-use driver::{case::Case, chance::Chance, compare, library::Paper, mutants, pick};
+use driver::compare::{self, By};
+use driver::tally::{Counts, Tally};
+use driver::{case::Case, chance::Chance, library::Paper, mutants, pick};
 use std::process::ExitCode;
 
 const USE: &str = "compare [COUNT] | longest | replay LIST | each LIST paper|copy | pool COUNT
@@ -10,12 +12,12 @@ fn main() -> ExitCode {
     let args: Vec<String> = std::env::args().skip(1).collect();
     let args: Vec<&str> = args.iter().map(String::as_str).collect();
     match args.as_slice() {
-        ["compare"] => return compare::compare(&Paper, 600_000),
-        ["compare", count] => return compare::compare(&Paper, number(count)),
-        ["longest"] => return compare::longest(&Paper),
-        ["replay", list] => return compare::replay(Some(&Paper), true, list, false),
-        ["each", list, "paper"] => return compare::replay(Some(&Paper), false, list, true),
-        ["each", list, "copy"] => return compare::replay(None, true, list, true),
+        ["compare"] => return compared(600_000),
+        ["compare", count] => return compared(number(count)),
+        ["longest"] => return compare::longest(paper()),
+        ["replay", list] => return replayed(&[By::Library, By::Copy], list, false),
+        ["each", list, "paper"] => return replayed(&[By::Library], list, true),
+        ["each", list, "copy"] => return replayed(&[By::Copy], list, true),
         ["pool", count] => pool(number(count)),
         // one line an edit, and whether it shows
         ["mutants", file] => mutants::parse(&read(file)).iter().for_each(|mutant| {
@@ -33,6 +35,20 @@ fn main() -> ExitCode {
         }
     }
     ExitCode::SUCCESS
+}
+
+fn paper() -> Tally<'static> {
+    Tally::new("the judges", &Paper, None)
+}
+
+fn compared(count: usize) -> ExitCode {
+    compare::compare(paper(), count, &Counts::each(1))
+}
+
+/// A list of any cases may be told of one by one.
+fn replayed(by: &[By], list: &str, each: bool) -> ExitCode {
+    let least = if each { 0 } else { 1 };
+    compare::replay(paper(), by, list, each, &Counts::each(least))
 }
 
 fn number(word: &str) -> usize {

@@ -3,28 +3,21 @@
 
 use crate::calls::{Call, Fit, Read, Reader, Table};
 use crate::chance::Chance;
-use crate::compare::Tally;
 use crate::expect;
 use crate::floats;
 use crate::library::Library;
 use crate::make_fit::{self, data, params};
 use crate::outcome::{Outcome, bits};
 use crate::run;
+use crate::tally::Tally;
 use copy::harness::{self, NodeRecord, Tape};
 
-pub fn hold(library: &dyn Library, chance: &mut Chance, count: usize, tally: &mut Tally) {
+pub fn hold(tally: &mut Tally, chance: &mut Chance, count: usize) {
     for _ in 0..count {
-        let (fit, same) = forest(library, chance);
-        told(tally, same, &fit);
-        let (fit, same) = tree(library, chance);
-        told(tally, same, &fit);
-    }
-}
-
-fn told(tally: &mut Tally, same: bool, fit: &Fit) {
-    tally.inputs += 1;
-    if !same {
-        tally.differ(format!("the crate's own fit of {fit:?}"));
+        for one in [forest, tree] {
+            let (fit, same) = one(tally.library, chance);
+            tally.told(same, || format!("the crate's own fit of {fit:?}"));
+        }
     }
 }
 

@@ -1,11 +1,11 @@
 //! Runs a call through a library, in rooms filled with nines, and tells what it left.
 
 use crate::calls::{Call, Fit, Lengths, Read, Reader, Table};
-use crate::library::{Library, TreeFits};
+use crate::library::Library;
 use crate::outcome::{FILL, FILL_FLOAT, Outcome, Room, bits};
 use paper::{
-    Columns, Cuts, Divisor, Draws, ForestCall, ForestRooms, Given, Kind, NodeRead, Reports,
-    Settings, Splitter, TreeCall, TreeRooms, Waiting, Work,
+    Columns, Cuts, Divisor, Draws, ForestCall, ForestRooms, Given, Reports, Settings, Splitter,
+    TreeCall, TreeRooms, Waiting, Work,
 };
 
 pub fn run(library: &dyn Library, call: &Call) -> Outcome {
@@ -153,7 +153,7 @@ fn draws(fit: &Fit) -> Draws<'_> {
     }
 }
 
-pub fn run_tree(library: &dyn TreeFits, fit: &Fit) -> Outcome {
+fn run_tree(library: &dyn Library, fit: &Fit) -> Outcome {
     let mut owned = Owned::new(&fit.rooms);
     let call = TreeCall {
         given: given(fit),
@@ -240,7 +240,7 @@ fn run_read(library: &dyn Library, read: &Read) -> Outcome {
             let refusal = library.check_forest(features, trees, &t, starts);
             return told_only(vec![u64::from(refusal)]);
         }
-        Reader::Node => return told_only(node_told(library.read_node(features, &t, read.node))),
+        Reader::Node => return told_only(library.read_node(features, &t, read.node).to_vec()),
     };
     Outcome {
         told: vec![u64::from(refusal)],
@@ -253,23 +253,4 @@ fn told_only(told: Vec<u64>) -> Outcome {
         told,
         rooms: Vec::new(),
     }
-}
-
-/// The refusal, whether the node is there, and its six values: zeros where it has none.
-fn node_told(read: NodeRead) -> Vec<u64> {
-    let mut told = vec![0; 8];
-    match read {
-        NodeRead::Refused(refusal) => told[0] = u64::from(refusal),
-        NodeRead::Missing => (),
-        NodeRead::Read(node) => {
-            told[1..3].copy_from_slice(&[1, bits(node.value)]);
-            if let Kind::Split(cut) = node.kind {
-                let [on_true, on_false] = [cut.true_child, cut.false_child].map(u64::from);
-                let [threshold, score] = [cut.threshold, cut.score].map(bits);
-                let rest = [u64::from(cut.feature), threshold, score, on_true, on_false];
-                told[3..].copy_from_slice(&rest);
-            }
-        }
-    }
-    told
 }

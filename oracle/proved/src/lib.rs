@@ -1,71 +1,184 @@
-//! The proved library behind its exported calls, for the driver to hold against the first judge. It is compiled for x86-64:
-//! there it is linked, and elsewhere a program that runs on an emulator answers for it.
+//! The proved library behind its exported calls, for the driver to hold against both judges. It is compiled for x86-64: there it is
+//! linked, and elsewhere a program that runs on an emulator answers for it.
 
+#![allow(clippy::too_many_arguments)]
+
+#[macro_use]
+mod boundary;
+mod either;
+#[cfg(target_arch = "x86_64")]
 mod linked;
 mod served;
 mod waiting;
 
-use driver::calls::Call;
-use driver::library::{Held, TreeFits};
-use driver::outcome::Outcome;
-use driver::run;
-use linked::{TreeSettings, TreeTold};
-use paper::{Numbers, Splitter, TreeAnswer, TreeCall, TreeRooms};
-use waiting::{Longer, Stack};
+use boundary::TreeSettings;
+use driver::library::Library;
+use driver::outcome::bits;
+use paper::{
+    Divisor, ForestAnswer, ForestCall, ForestRooms, Given, Numbers, Splitter, Table, TreeAnswer,
+    TreeCall, TreeRooms,
+};
+pub use served::named as served;
+use waiting::Stack;
 
 pub struct Proved;
 
-impl Held for Proved {
-    fn outcome(&self, call: &Call) -> Option<Outcome> {
-        match call {
-            Call::Fit(fit) if !fit.forest => Some(run::run_tree(self, fit)),
-            _ => None,
+/// A call over a table, whose six columns stand between what comes before and after them.
+macro_rules! over {
+    ($call:ident($($before:expr),*; $table:ident; $($after:expr),*)) => {
+        either::$call(
+            $($before,)*
+            $table.value,
+            $table.feature,
+            $table.threshold,
+            $table.score,
+            $table.true_child,
+            $table.false_child,
+            $($after),*
+        )
+    };
+}
+
+impl Library for Proved {
+    fn fit_tree(&self, call: &TreeCall, rooms: &mut TreeRooms) -> TreeAnswer {
+        let TreeRooms { nodes, work } = rooms;
+        let (given, draws) = (&call.given, &call.draws);
+        let mut stack = Stack::new(work.waiting.len(), lot(given, draws.words));
+        let told = either::fit_tree(
+            given.rows,
+            given.features,
+            tree_settings(call),
+            given.x,
+            given.y,
+            given.weights,
+            given.counts,
+            given.listings,
+            draws.words,
+            draws.thresholds,
+            nodes.value,
+            nodes.feature,
+            nodes.threshold,
+            nodes.score,
+            nodes.true_child,
+            nodes.false_child,
+            work.columns,
+            work.scratch,
+            work.flags,
+            &mut stack.wholes,
+            &mut stack.reals,
+        );
+        stack.told(work.waiting);
+        TreeAnswer {
+            refusal: told.number,
+            tree: told.tree,
+            search: told.search,
+            numbers: Numbers {
+                nodes: told.nodes,
+                depth: told.depth,
+                root_mass: told.mass,
+                searches: told.searches,
+                words_used: told.words,
+                thresholds_used: told.thresholds,
+            },
         }
     }
-}
 
-impl TreeFits for Proved {
-    fn fit_tree(&self, call: &TreeCall, rooms: &mut TreeRooms) -> TreeAnswer {
-        let length = rooms.work.waiting.len();
-        let mut stack = Stack::new(length, longer(call, length));
-        let told = match cfg!(target_arch = "x86_64") {
-            true => linked::fit_tree(call, settings(call), rooms, &mut stack),
-            false => served::fit_tree(call, settings(call), rooms, &mut stack),
+    fn grows_forests(&self) -> bool {
+        false
+    }
+
+    fn fit_forest(&self, _: &ForestCall, _: &mut ForestRooms) -> ForestAnswer {
+        unreachable!("not exported yet")
+    }
+
+    fn predictions(
+        &self,
+        rows: usize,
+        features: usize,
+        x: &[f64],
+        t: &Table,
+        out: &mut [f64],
+    ) -> u32 {
+        over!(predict_tree(rows, features, x; t; out))
+    }
+
+    fn forest_means(
+        &self,
+        [rows, features, trees]: [usize; 3],
+        x: &[f64],
+        t: &Table,
+        starts: &[u32],
+        out: &mut [f64],
+    ) -> u32 {
+        over!(forest_means(rows, features, trees, x, starts; t; out))
+    }
+
+    fn out_of_bag_means(
+        &self,
+        [rows, features, trees]: [usize; 3],
+        x: &[f64],
+        counts: &[u32],
+        t: &Table,
+        starts: &[u32],
+        out: &mut [f64],
+    ) -> u32 {
+        over!(out_of_bag_means(rows, features, trees, x, counts, starts; t; out))
+    }
+
+    fn tree_importances(&self, features: usize, by: Divisor, t: &Table, out: &mut [f64]) -> u32 {
+        let (by_mass, mass) = match by {
+            Divisor::TheirSum => (false, 0.0),
+            Divisor::RootMass(mass) => (true, mass),
         };
-        stack.told(rooms.work.waiting);
-        answer(told)
+        over!(tree_importances(features, by_mass, mass; t; out))
+    }
+
+    fn forest_importances(
+        &self,
+        features: usize,
+        trees: usize,
+        t: &Table,
+        starts: &[u32],
+        out: &mut [f64],
+    ) -> u32 {
+        over!(forest_importances(features, trees, starts; t; out))
+    }
+
+    fn out_of_bag_error(&self, rows: usize, targets: &[f64], means: &[f64]) -> (u32, f64) {
+        let told = either::out_of_bag_error(rows, targets, means);
+        (told.number, told.error)
+    }
+
+    fn check_listings(&self, rows: usize, features: usize, x: &[f64], listings: &[u32]) -> u32 {
+        either::check_listings(rows, features, x, listings)
+    }
+
+    fn check_tree(&self, features: usize, t: &Table) -> u32 {
+        over!(check_tree(features; t;))
+    }
+
+    fn check_forest(&self, features: usize, trees: usize, t: &Table, starts: &[u32]) -> u32 {
+        over!(check_forest(features, trees, starts; t;))
+    }
+
+    fn read_node(&self, features: usize, t: &Table, number: usize) -> [u64; 8] {
+        let told = over!(read_node(features; t; number));
+        let [feature, yes, no] = [told.feature, told.yes, told.no].map(u64::from);
+        let [value, threshold, score] = [told.value, told.threshold, told.score].map(bits);
+        let (number, there) = (u64::from(told.number), u64::from(told.there));
+        [number, there, value, feature, threshold, score, yes, no]
     }
 }
 
-fn answer(told: TreeTold) -> TreeAnswer {
-    TreeAnswer {
-        refusal: told.number,
-        tree: told.tree,
-        search: told.search,
-        numbers: Numbers {
-            nodes: told.nodes,
-            depth: told.depth,
-            root_mass: told.mass,
-            searches: told.searches,
-            words_used: told.words,
-            thresholds_used: told.thresholds,
-        },
-    }
+/// A number by the input, for what is to differ between inputs and to be the same when one is tried again.
+fn lot(given: &Given, words: &[u32]) -> u32 {
+    let numbers = given.counts.iter().chain(words);
+    numbers.fold(given.features as u32, |sum, number| {
+        sum.wrapping_add(*number)
+    })
 }
 
-/// A third of the fits each; by the input, so that a difference shows again. A list of no entries has none to tell of a longer slice.
-fn longer(call: &TreeCall, waiting: usize) -> Longer {
-    let numbers = call.given.counts.iter().chain(call.draws.words);
-    let sum = numbers.fold(call.tried, |sum, number| sum.wrapping_add(*number));
-    match sum % 3 {
-        _ if waiting == 0 => Longer::Neither,
-        0 => Longer::Neither,
-        1 => Longer::Wholes,
-        _ => Longer::Reals,
-    }
-}
-
-fn settings(call: &TreeCall) -> TreeSettings {
+fn tree_settings(call: &TreeCall) -> TreeSettings {
     TreeSettings {
         limited: call.settings.limit.is_some(),
         limit: call.settings.limit.unwrap_or(0),

@@ -1,24 +1,51 @@
-//! The command: holds the proved library against the first judge, and replays the list through it.
+//! The command: holds the proved library against both judges, and replays the list through it.
 
-use driver::compare;
+use driver::compare::{self, By};
+use driver::library::Paper;
+use driver::tally::{Counts, Tally};
 use proved::Proved;
 use std::process::ExitCode;
 
-/// So many trees must be grown and compared.
-const LEAST: usize = 100_000;
+/// So many of each kind must be compared in a full run,
+const FULL: Counts = Counts {
+    trees: 400_000,
+    forests: 0,
+    readers: 50_000,
+    nodes: 9_000,
+    checks: 25_000,
+    bad_draws: 8_000,
+    refusals: [
+        30_000, 20_000, 5_000, 5_000, 6_000, 15_000, 150_000, 1_500, 1_200,
+    ],
+};
+
+/// in a sample, and in the list.
+const SAMPLE: Counts = Counts {
+    forests: 0,
+    ..Counts::each(50)
+};
+const LIST: Counts = Counts {
+    forests: 0,
+    ..Counts::each(1)
+};
 
 fn main() -> ExitCode {
     let args: Vec<String> = std::env::args().skip(1).collect();
     let args: Vec<&str> = args.iter().map(String::as_str).collect();
+    let what = match proved::served() {
+        true => "the library served",
+        false => "the library linked",
+    };
+    let tally = Tally::new(what, &Proved, Some(&Paper));
+    let number = |word: &str| word.parse().expect("a number");
     match args.as_slice() {
-        ["compare"] => compare::compare_some(&Proved, 600_000, LEAST),
-        ["compare", count] => {
-            compare::compare_some(&Proved, count.parse().expect("a number"), LEAST)
-        }
-        ["longest"] => compare::longest(&Proved),
-        ["replay", list] => compare::replay(Some(&Proved), false, list, false),
+        ["compare"] => compare::compare(tally, 600_000, &FULL),
+        ["compare", count] => compare::compare(tally, number(count), &FULL),
+        ["sample", count] => compare::sample(tally, number(count), &SAMPLE),
+        ["longest"] => compare::longest(tally),
+        ["replay", list] => compare::replay(tally, &[By::Library], list, false, &LIST),
         _ => {
-            eprintln!("compare [COUNT] | longest | replay LIST");
+            eprintln!("compare [COUNT] | sample COUNT | longest | replay LIST");
             ExitCode::from(2)
         }
     }

@@ -12,12 +12,13 @@ pub struct Stack {
 }
 
 impl Stack {
-    /// All nines and `length` long; if longer, the one slice or the other has an entry more.
-    pub fn new(length: usize, longer: Longer) -> Self {
-        let more = |slice: Longer| length + usize::from(longer == slice);
+    /// All nines and `length` long; by lot one slice or the other has an entry more, a third each.
+    /// A list of no entries has none to tell of a longer slice.
+    pub fn new(length: usize, lot: u32) -> Self {
+        let more = |third: u32| length + usize::from(length > 0 && lot % 3 == third);
         Stack {
-            wholes: vec![WHOLES; more(Longer::Wholes)],
-            reals: vec![REALS; more(Longer::Reals)],
+            wholes: vec![WHOLES; more(1)],
+            reals: vec![REALS; more(2)],
         }
     }
 
@@ -40,11 +41,4 @@ impl Stack {
             }
         }
     }
-}
-
-#[derive(Clone, Copy, PartialEq)]
-pub enum Longer {
-    Neither,
-    Wholes,
-    Reals,
 }

@@ -1,0 +1,189 @@
+//! What was compared: how much of each kind, and the shortest input that differs.
+
+use crate::calls::{Call, Reader};
+use crate::case::Case;
+use crate::library::Library;
+use std::fmt;
+use std::process::ExitCode;
+use std::time::Instant;
+
+/// How many calls were answered, by kind, and how many refused, by number.
+#[derive(Clone, Copy)]
+pub struct Counts {
+    pub trees: usize,
+    pub forests: usize,
+    /// Predictions, means, importances and errors.
+    pub readers: usize,
+    pub nodes: usize,
+    pub checks: usize,
+    pub bad_draws: usize,
+    /// 1 to 6, then 8 to 10.
+    pub refusals: [usize; 9],
+}
+
+impl Counts {
+    /// The same of every kind.
+    pub const fn each(count: usize) -> Self {
+        Counts {
+            trees: count,
+            forests: count,
+            readers: count,
+            nodes: count,
+            checks: count,
+            bad_draws: count,
+            refusals: [count; 9],
+        }
+    }
+
+    fn add(&mut self, call: &Call, refusal: u64) {
+        let count = match (refusal, call) {
+            (0, Call::Fit(fit)) if fit.forest => &mut self.forests,
+            (0, Call::Fit(_)) => &mut self.trees,
+            (0, Call::Read(read)) => match read.reader {
+                Reader::CheckListings | Reader::CheckTree | Reader::CheckForest => &mut self.checks,
+                Reader::Node => &mut self.nodes,
+                _ => &mut self.readers,
+            },
+            (7, _) => &mut self.bad_draws,
+            (number @ 1..7, _) => &mut self.refusals[number as usize - 1],
+            (number, _) => &mut self.refusals[number as usize - 2],
+        };
+        *count += 1;
+    }
+
+    fn list(&self) -> impl Iterator<Item = usize> {
+        let answered = [self.trees, self.forests, self.readers];
+        let others = [self.nodes, self.checks, self.bad_draws];
+        let all = answered.into_iter().chain(others);
+        all.chain(self.refusals)
+    }
+
+    fn reach(&self, least: &Counts) -> bool {
+        self.list()
+            .zip(least.list())
+            .all(|(count, least)| count >= least)
+    }
+
+    /// Forests, readers and refusals: all but the trees grown.
+    fn beside_trees(&self) -> usize {
+        self.list().skip(1).sum()
+    }
+}
+
+impl fmt::Display for Counts {
+    fn fmt(&self, to: &mut fmt::Formatter) -> fmt::Result {
+        let Counts {
+            trees,
+            forests,
+            readers,
+            nodes,
+            checks,
+            bad_draws,
+            refusals,
+        } = self;
+        let (beside, (first, last)) = (self.beside_trees(), refusals.split_at(6));
+        write!(
+            to,
+            "{trees} trees grown; {beside} beside: {forests} forests grown, "
+        )?;
+        write!(to, "{readers} answers of readers, {nodes} nodes read out, ")?;
+        write!(to, "{checks} checks passed, {bad_draws} bad draws, ")?;
+        write!(to, "refusals 1 to 6 {first:?}, 8 to 10 {last:?}")
+    }
+}
+
+/// Holds cases against a library, counts them, and keeps the shortest that differs.
+pub struct Tally<'a> {
+    what: &'static str,
+    pub library: &'a dyn Library,
+    /// Asked the same, and held to the same.
+    second: Option<&'a dyn Library>,
+    since: Instant,
+    inputs: usize,
+    differences: usize,
+    shortest: Option<String>,
+    counts: Counts,
+}
+
+impl<'a> Tally<'a> {
+    pub fn new(
+        what: &'static str,
+        library: &'a dyn Library,
+        second: Option<&'a dyn Library>,
+    ) -> Self {
+        Tally {
+            what,
+            library,
+            second,
+            since: Instant::now(),
+            inputs: 0,
+            differences: 0,
+            shortest: None,
+            counts: Counts::each(0),
+        }
+    }
+
+    pub fn hold(&mut self, case: &Case) {
+        if passed_over(self.library, case) {
+            return;
+        }
+        let expected = caught(|| case.expected());
+        let by = |library: &dyn Library| caught(|| case.answer(library));
+        match self.second {
+            None => self.answered(case, &expected, &[by(self.library)]),
+            Some(second) => self.answered(case, &expected, &[by(self.library), by(second)]),
+        }
+    }
+
+    /// Each answer is to be what is expected, which is never nothing.
+    pub fn answered(&mut self, case: &Case, expected: &[u64], answers: &[Vec<u64>]) {
+        if let [refusal, ..] = expected {
+            self.counts.add(&case.call, *refusal);
+        }
+        let same = !expected.is_empty() && answers.iter().all(|answer| answer == expected);
+        self.told(same, || {
+            let call = case.call_line();
+            format!("{call}\n  expected {expected:?}\n  answered {answers:?}")
+        });
+    }
+
+    pub fn told(&mut self, same: bool, input: impl Fn() -> String) {
+        self.inputs += 1;
+        if same {
+            return;
+        }
+        self.differences += 1;
+        let told = input();
+        let shorter = |held: &String| told.len() < held.len();
+        if self.shortest.as_ref().is_none_or(shorter) {
+            self.shortest = Some(told);
+        }
+    }
+
+    /// Fails where an input differs, and where there are fewer than `least` of any kind.
+    pub fn end(&self, run: &str, least: &Counts) -> ExitCode {
+        let (inputs, differences) = (self.inputs, self.differences);
+        let seconds = self.since.elapsed().as_secs_f64();
+        println!(
+            "{run}, {}: {inputs} inputs, {differences} differences, {seconds:.1} s: {}",
+            self.what, self.counts
+        );
+        match &self.shortest {
+            None if self.counts.reach(least) => return ExitCode::SUCCESS,
+            None => println!("too few of a kind; at least {least}"),
+            Some(told) => println!("the shortest: {told}"),
+        }
+        ExitCode::FAILURE
+    }
+}
+
+/// Whether a library has no call for this case.
+pub fn passed_over(library: &dyn Library, case: &Case) -> bool {
+    matches!(&case.call, Call::Fit(fit) if fit.forest) && !library.grows_forests()
+}
+
+/// A judge that panics has answered nothing, which no call should give.
+pub fn caught(judge: impl Fn() -> Vec<u64>) -> Vec<u64> {
+    let ended = std::panic::catch_unwind(std::panic::AssertUnwindSafe(judge));
+    ended.unwrap_or_default()
+}

@@ -1,0 +1,27 @@
+//! The calls, by whichever way the library is reached: linked, or served where `SERVED` names a program.
+
+use crate::boundary::*;
+#[cfg(target_arch = "x86_64")]
+use crate::linked;
+use crate::served;
+
+macro_rules! choose {
+    ($($kind:literal $name:ident = $symbol:ident($($given:ident: $number:ty),*)
+        reads($($shared:ident: $read:ty),*) writes($($lent:ident: $written:ty),*)
+        ($($last:ident: $after:ty),*) -> $told:ty;)*) => {$(
+        pub fn $name(
+            $($given: $number,)*
+            $($shared: &[$read],)*
+            $($lent: &mut [$written],)*
+            $($last: $after,)*
+        ) -> $told {
+            #[cfg(target_arch = "x86_64")]
+            if !served::named() {
+                return linked::$name($($given,)* $($shared,)* $($lent,)* $($last,)*);
+            }
+            served::$name($($given,)* $($shared,)* $($lent,)* $($last,)*)
+        }
+    )*};
+}
+
+calls!(choose);
