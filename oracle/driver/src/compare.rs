@@ -4,7 +4,7 @@ use crate::calls::Call;
 use crate::case::{self, Case};
 use crate::chance::Chance;
 use crate::make_fit::{self, SMALL, Size};
-use crate::tally::{Counts, Tally, caught, passed_over};
+use crate::tally::{Counts, Tally, caught};
 use crate::{
     crafted, damage_fit, damage_read, differences, exhaustive, faults, limits, limits_read,
     make_read, own, rehearsal,
@@ -89,9 +89,7 @@ pub fn compare(mut tally: Tally, count: usize, least: &Counts) -> ExitCode {
     limits_read::each(&mut Chance::new(5), |case| tally.hold(&case));
     random(&mut tally, &mut chance, count);
     differences::hold(&mut tally);
-    if tally.library.grows_forests() {
-        own::hold(&mut tally, &mut chance, count / 100);
-    }
+    own::hold(&mut tally, &mut chance, count / 100);
     tally.end("compare", least)
 }
 
@@ -123,9 +121,7 @@ pub fn replay(mut tally: Tally, by: &[By], file: &str, each: bool, least: &Count
     for (place, listed) in case::read_list(file).iter().enumerate() {
         for by in by {
             let answer = match by {
-                By::Library if !passed_over(library, &listed.case) => {
-                    caught(|| listed.case.answer(library))
-                }
+                By::Library => caught(|| listed.case.answer(library)),
                 By::Copy if listed.judge == 1 => caught(|| listed.case.expected()),
                 _ => continue,
             };

@@ -124,9 +124,6 @@ impl<'a> Tally<'a> {
     }
 
     pub fn hold(&mut self, case: &Case) {
-        if passed_over(self.library, case) {
-            return;
-        }
         let expected = caught(|| case.expected());
         let by = |library: &dyn Library| caught(|| case.answer(library));
         match self.second {
@@ -175,11 +172,6 @@ impl<'a> Tally<'a> {
         }
         ExitCode::FAILURE
     }
-}
-
-/// Whether a library has no call for this case.
-pub fn passed_over(library: &dyn Library, case: &Case) -> bool {
-    matches!(&case.call, Call::Fit(fit) if fit.forest) && !library.grows_forests()
 }
 
 /// A judge that panics has answered nothing, which no call should give.

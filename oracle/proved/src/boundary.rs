@@ -25,6 +25,26 @@ pub struct TreeTold {
     pub thresholds: u32,
 }
 
+/// The number tried is heeded where it is said; else it is the floor of the root of the features.
+#[repr(C)]
+pub struct ForestSettings {
+    pub limited: bool,
+    pub limit: u16,
+    pub leaf: u32,
+    pub split: u32,
+    pub said: bool,
+    pub tried: u32,
+    pub random: bool,
+}
+
+/// 0 or a refusal's number, and the place of a bad draw.
+#[repr(C)]
+pub struct ForestTold {
+    pub number: u32,
+    pub tree: u32,
+    pub search: u32,
+}
+
 /// 0 or a refusal's number, and the error.
 #[repr(C)]
 pub struct ErrorTold {
@@ -55,6 +75,13 @@ macro_rules! calls {
                 writes(value: f64, feature: u32, threshold: f64, score: f64, yes: u32, no: u32,
                     order: u32, scratch: u32, flags: bool, wholes: [u32; 6], reals: [f64; 3])
                 () -> TreeTold;
+            2 fit_forest = tailboardy_fit_forest(rows: usize, features: usize, trees: usize, plain: ForestSettings)
+                reads(values: f64, targets: f64, weights: f64, counts: u32, listings: u32, words: u32, thresholds: f64,
+                    wordcuts: usize, thresholdcuts: usize)
+                writes(value: f64, feature: u32, threshold: f64, score: f64, yes: u32, no: u32, starts: u32,
+                    nodes: u32, depth: u32, mass: f64, searches: u32, wordsused: u32, thresholdsused: u32,
+                    order: u32, scratch: u32, flags: bool, wholes: [u32; 6], reals: [f64; 3])
+                () -> ForestTold;
             3 predict_tree = tailboardy_predict_tree(rows: usize, features: usize)
                 reads(values: f64, value: f64, feature: u32, threshold: f64, score: f64, yes: u32, no: u32)
                 writes(out: f64) () -> u32;

@@ -124,6 +124,8 @@ macro_rules! fields {
 fields! {
     TreeSettings: limited limit leaf split tried random;
     TreeTold: number tree search nodes depth mass searches words thresholds;
+    ForestSettings: limited limit leaf split said tried random;
+    ForestTold: number tree search;
     ErrorTold: number error;
     NodeTold: number there value feature threshold score yes no;
 }
