@@ -1,7 +1,6 @@
 // The numbers and lists of a call. A list begins with its length, and its place is where that stands. No list is copied: the call stands
 // three times, as numbers, as floats and as words, and a list is a part of one of the three.
 ghost use mathlib.Core.Path.{_≡_};
-ghost use Prim.Native.Nat.{_≤_};
 ghost use lib.Ieee as Ieee;
 ghost use lib.Ieee.{binary64};
 use rules::Depth;
@@ -82,6 +81,14 @@ pub fn words(call: &[u32], at: usize, end: usize) -> &[u32] {
     &call[0..0]
 }
 
+// What stands from a place on.
+pub fn rest(call: &[usize], at: usize) -> &[usize] {
+    if at <= call.len() {
+        return &call[at..];
+    }
+    &call[0..0]
+}
+
 // ---- where a list ends: there the call goes on
 
 pub fn next(at: usize) -> usize {
@@ -150,26 +157,6 @@ pub fn columns_at(call: &[usize], at: usize) -> Columns {
         no,
         end,
     }
-}
-
-// ---- the lengths of the rooms: lent rooms have 64 entries at most
-
-pub fn rooms_fit(lengths: &[usize]) -> bool {
-    let mut i: usize = 0;
-    while i < lengths.len() {
-        if 64 < lengths[i] {
-            return false;
-        }
-        i += 1;
-    }
-    true
-}
-
-// A length of which `rooms_fit` is known.
-pub fn room(length: usize) -> usize
-    ensures { λ r. ⌜ r ≤ 64 ⌝ }
-{
-    if length <= 64 { length } else { 0 }
 }
 
 // ---- what a fit is told of its trees

@@ -95,8 +95,7 @@ fn tell_counts(name: &[u8], kind: usize, tally: &[usize]) {
     write(b" malformed\n");
 }
 
-fn tell_tally(tally: &[usize]) {
-    tell_counts(b"fits of one tree: ", 1, tally);
+fn tell_readers(tally: &[usize]) {
     tell_counts(b"predictions: ", 3, tally);
     tell_counts(b"means of a forest: ", 4, tally);
     tell_counts(b"means out of bag: ", 5, tally);
@@ -104,10 +103,19 @@ fn tell_tally(tally: &[usize]) {
     tell_counts(b"importances of a tree, by the root mass: ", 7, tally);
     tell_counts(b"importances of a forest: ", 8, tally);
     tell_counts(b"errors out of bag: ", 9, tally);
+}
+
+fn tell_checks(tally: &[usize]) {
     tell_counts(b"checks of listings: ", 10, tally);
     tell_counts(b"checks of a tree's table: ", 11, tally);
     tell_counts(b"checks of a forest's table: ", 12, tally);
     tell_counts(b"nodes read out: ", 13, tally);
+}
+
+fn tell_tally(tally: &[usize]) {
+    tell_counts(b"fits of one tree: ", 1, tally);
+    tell_readers(tally);
+    tell_checks(tally);
     write(b"passed over: ");
     decimal(tallied(tally, 2, 3));
     write(b", no case: ");
@@ -121,6 +129,7 @@ fn replay(kind: usize, call: &[usize], reals: &[f64], words: &[u32], answer: &[u
     match kind {
         1 => trees::replay(call, reals, words, answer),
         2 => Verdict::PassedOver,
+        9 => readers::replay_error(call, reals, answer),
         13 => nodes::replay(call, reals, words, answer),
         _ => readers::replay(kind, call, reals, words, answer),
     }

@@ -49,11 +49,8 @@ fn told_of(r: NodeReply) -> [usize; 8]
 
 pub fn replay(call: &[usize], reals: &[f64], words: &[u32], answer: &[usize]) -> Verdict {
     let c = calls::columns_at(call, 1);
-    let end = c.end;
-    if call.len() <= end {
-        return Verdict::Malformed;
-    }
-    if call.len() - end != 1 {
+    let asked = calls::rest(call, c.end);
+    if asked.len() != 1 {
         return Verdict::Malformed;
     }
     let r = tables::read_node(
@@ -64,7 +61,7 @@ pub fn replay(call: &[usize], reals: &[f64], words: &[u32], answer: &[usize]) ->
         calls::reals(reals, c.score, c.yes),
         calls::words(words, c.yes, c.no),
         calls::words(words, c.no, c.end),
-        call[end],
+        asked[0],
     );
     let told = told_of(r);
     rooms::judged_numbers(answer, &told)

@@ -192,7 +192,7 @@ fn lend(
 }
 
 // Kinds 3 to 8 leave a room.
-fn compare(kind: usize, answer: &[usize], size: usize, r: Reply, out: &[f64]) -> Verdict {
+fn compare(kind: usize, answer: &[usize], lengths: &[usize], r: Reply, out: &[f64]) -> Verdict {
     let told = [refusal(r)];
     if 8 < kind {
         return rooms::judged_numbers(answer, &told);
@@ -202,8 +202,32 @@ fn compare(kind: usize, answer: &[usize], size: usize, r: Reply, out: &[f64]) ->
         return Verdict::Number(wrong);
     }
     let first = Check { at: 1, wrong: 0 };
-    let c = rooms::reals(answer, &[size], first, 1, out);
+    let c = rooms::reals(answer, lengths, first, 1, out);
     rooms::judged(answer, c)
+}
+
+pub fn replay(
+    kind: usize,
+    call: &[usize],
+    reals: &[f64],
+    words: &[u32],
+    answer: &[usize],
+) -> Verdict {
+    let p = places_of(call);
+    let lengths = calls::rest(call, p.room);
+    if lengths.len() != 1 {
+        return Verdict::Malformed;
+    }
+    let mut out = [9.0; 64];
+    let r = lend(
+        kind,
+        call,
+        p,
+        reals,
+        words,
+        rooms::lent_reals(lengths, 1, &mut out),
+    );
+    compare(kind, answer, lengths, r, &out)
 }
 
 // ---- the error
@@ -215,7 +239,12 @@ fn told_of_error(r: ErrorReply) -> [usize; 2] {
     }
 }
 
-fn error(call: &[usize], p: Places, reals: &[f64], answer: &[usize]) -> Verdict {
+pub fn replay_error(call: &[usize], reals: &[f64], answer: &[usize]) -> Verdict {
+    let p = places_of(call);
+    let lengths = calls::rest(call, p.room);
+    if lengths.len() != 1 {
+        return Verdict::Malformed;
+    }
     let r = means::errors::out_of_bag_error(
         calls::number(call, 0),
         calls::reals(reals, p.targets, p.means),
@@ -223,38 +252,4 @@ fn error(call: &[usize], p: Places, reals: &[f64], answer: &[usize]) -> Verdict 
     );
     let told = told_of_error(r);
     rooms::judged_numbers(answer, &told)
-}
-
-pub fn replay(
-    kind: usize,
-    call: &[usize],
-    reals: &[f64],
-    words: &[u32],
-    answer: &[usize],
-) -> Verdict {
-    let p = places_of(call);
-    let last = p.room;
-    if call.len() <= last {
-        return Verdict::Malformed;
-    }
-    if call.len() - last != 1 {
-        return Verdict::Malformed;
-    }
-    let size = call[last];
-    if 64 < size {
-        return Verdict::Malformed;
-    }
-    if kind == 9 {
-        return error(call, p, reals, answer);
-    }
-    let mut out = [9.0; 64];
-    let r = lend(
-        kind,
-        call,
-        p,
-        reals,
-        words,
-        rooms::lent_reals(&call[last..], 1, &mut out),
-    );
-    compare(kind, answer, size, r, &out)
 }

@@ -45,7 +45,8 @@ pub fn wrong_number(answer: &[usize], told: &[usize]) -> usize {
     0
 }
 
-// ---- lent rooms: the first entries of longer ones. Their lengths stand in the order of the rooms' numbers
+// ---- lent rooms: the first entries of longer ones. Their lengths stand in the order of the rooms' numbers. A room that is
+// to have more entries than there are is lent none, and is never found the same
 
 fn length_of(lengths: &[usize], number: usize) -> usize {
     if 0 < number {
@@ -239,18 +240,21 @@ pub fn flags(answer: &[usize], lengths: &[usize], c: Check, number: usize, room:
 
 // ---- the waiting list
 
+fn same_entry(word: usize, real: usize, wholes: &[u32], triple: &[f64]) -> bool {
+    let none: [usize; 0] = [];
+    if same_words(&none, word, 6, wholes) {
+        return same_reals(&none, real, 3, triple);
+    }
+    false
+}
+
 // An entry counts as a whole: 9 as it was, 0 zero, else 1.
 fn mark(wholes: [u32; 6], triple: [f64; 3]) -> usize {
-    let empty: [usize; 0] = [];
-    if same_words(&empty, 9, 6, &wholes) {
-        if same_reals(&empty, pattern(9.0), 3, &triple) {
-            return 9;
-        }
+    if same_entry(9, pattern(9.0), &wholes, &triple) {
+        return 9;
     }
-    if same_words(&empty, 0, 6, &wholes) {
-        if same_reals(&empty, 0, 3, &triple) {
-            return 0;
-        }
+    if same_entry(0, 0, &wholes, &triple) {
+        return 0;
     }
     1
 }

@@ -187,18 +187,12 @@ fn with_lists(
     tried: u32,
 ) -> Verdict {
     let l = lists_at(call, 7);
-    let end = l.end;
-    if call.len() < end {
-        return Verdict::Malformed;
-    }
-    if call.len() - end != 10 {
-        return Verdict::Malformed;
-    }
-    if !calls::rooms_fit(&call[end..]) {
+    let lengths = calls::rest(call, l.end);
+    if lengths.len() != 10 {
         return Verdict::Malformed;
     }
     fit(
-        &call[end..],
+        lengths,
         answer,
         shape,
         settings,
