@@ -1,3 +1,2 @@
--- Plain numbers as the rules' inputs and answers. Nothing is assumed.
-
-pub mod Plain
+-- what the exported calls promise
+pub mod Calls

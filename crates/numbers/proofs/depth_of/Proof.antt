@@ -1,7 +1,7 @@
--- `exports::depth_of` meets its contract. Assumes nothing.
+-- `numbers::depth_of` meets its contract. Assumes nothing.
 use borrow.Author.Needs.{needs}
-use Rattle.exports.proofs.depth_of.Statement.{statement}
-use Rattle.exports.proofs.depth_of.Tie as tie
+use Rattle.numbers.proofs.depth_of.Statement.{statement}
+use Rattle.numbers.proofs.depth_of.Tie as tie
 
 returns : tie.Need-returns
 returns c = rw (c .if1 .taken)

@@ -1,20 +1,20 @@
--- `exports::tailboardy_fit_tree` meets its contract: settings from plain numbers, the fit, and its answer as plain numbers. Assumes nothing.
+-- `exports::fits::tailboardy_fit_tree` meets its contract: settings from plain numbers, the fit, and its answer as plain numbers. Assumes nothing.
 use borrow.Author.Needs.{needs}
-use Rattle.exports.specs.Plain.{tree-linked}
-use Rattle.exports.proofs.tailboardy_fit_tree.Statement.{statement}
-use Rattle.exports.proofs.tailboardy_fit_tree.Tie as tie
+use Rattle.exports.specs.Calls.{tree-linked}
+use Rattle.exports.proofs.fits.tailboardy_fit_tree.Statement.{statement}
+use Rattle.exports.proofs.fits.tailboardy_fit_tree.Tie as tie
 
-abbrev fitted : tie.After-told-of → tie.After-fit-tree
+abbrev fitted : tie.After-tree-told-of → tie.After-fit-tree
 fitted c = c .before .before .before .before .before .before .before .before .before .before .before .before .before .before .before .before .before .before .before .before .before
 
-settings-of-requires : tie.Need-settings-of-requires
-settings-of-requires c κs = search needs
+tree-settings-of-requires : tie.Need-tree-settings-of-requires
+tree-settings-of-requires c κs = search needs
 
 fit-tree-requires : tie.Need-fit-tree-requires
 fit-tree-requires c κs = search needs
 
-told-of-requires : tie.Need-told-of-requires
-told-of-requires c κs = search needs
+tree-told-of-requires : tie.Need-tree-told-of-requires
+tree-told-of-requires c κs = search needs
 
 same-length : tie.Need-same-length
 same-length c = fitted c .fit-tree .kept .1 .1 .1 .1 .1 .1 .1 .1 .1 .1 .0
@@ -50,15 +50,15 @@ same-length-11 : tie.Need-same-length-11
 same-length-11 c = fitted c .fit-tree .kept .1 .1 .1 .1 .1 .1 .1 .1 .1 .1 .1 .1 .1 .1 .1 .1 .1 .1 .1 .1 .0
 
 returns : tie.Need-returns
-returns c = tree-linked _ _ _ _ _ _ _ (fitted c .before .before .before .before .before .before .before .before .before .before .before .before .settings-of .ensures) (fitted c .fit-tree .ensures) (c .told-of .ensures)
+returns c = tree-linked _ _ _ _ _ _ _ (fitted c .before .before .before .before .before .before .before .before .before .before .before .before .tree-settings-of .ensures) (fitted c .fit-tree .ensures) (c .tree-told-of .ensures)
 
 pub tailboardy-fit-tree-spec : {M : Type 1} → statement M
 tailboardy-fit-tree-spec =
     tie.close
     (tie.spec
-    settings-of-requires
+    tree-settings-of-requires
     fit-tree-requires
-    told-of-requires
+    tree-told-of-requires
     same-length
     same-length-2
     same-length-3

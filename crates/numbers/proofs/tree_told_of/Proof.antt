@@ -1,9 +1,9 @@
--- `exports::told_of` meets its contract: a match on the answer. Assumes nothing.
+-- `numbers::tree_told_of` meets its contract: a match on the answer. Assumes nothing.
 use mathlib.Core.Path.{sym, ap}
 use borrow.Author.Needs.{needs}
 use Rattle.rules.specs.Answers.{treeTold}
-use Rattle.exports.proofs.told_of.Statement.{statement}
-use Rattle.exports.proofs.told_of.Tie as tie
+use Rattle.numbers.proofs.tree_told_of.Statement.{statement}
+use Rattle.numbers.proofs.tree_told_of.Tie as tie
 
 enum-known-answer : tie.Need-enum-known-answer
 enum-known-answer c = search needs
@@ -23,8 +23,8 @@ returns-2 c = sym (ap treeTold (c .before .answer2 .given .1))
 returns-3 : tie.Need-returns-3
 returns-3 c = sym (ap treeTold (c .before .answer3 .given .1))
 
-pub told-of-spec : {M : Type 1} → statement M
-told-of-spec =
+pub tree-told-of-spec : {M : Type 1} → statement M
+tree-told-of-spec =
     tie.close
     (tie.spec
     enum-known-answer

@@ -1,0 +1,83 @@
+// Checks of listings and of tables, and a node read out.
+ghost use mathlib.Core.Path.{_≡_};
+ghost use Rattle.rules.specs.Answers.{replyTold, nodeTold};
+ghost use Rattle.rules.specs.Listing.{checkListings};
+ghost use Rattle.rules.specs.Table.{checkTree, checkForest, readNode};
+ghost use Rattle.tables.specs.Table.{columnsOf, tableOf};
+ghost use Rattle.numbers.specs.Plain.{nodeNumbers};
+use numbers::NodeTold;
+use rules::Shape;
+
+#[no_mangle]
+pub extern "C" fn tailboardy_check_listings(
+    rows: usize,
+    features: usize,
+    values: &[f64],
+    listings: &[u32],
+) -> u32
+    ensures { λ r. ⌜ r ≡ replyTold (checkListings (record { rows = rows; features = features }) (now (values .entry)) (now (listings .entry))) ⌝ }
+{
+    let reply = checks::listing::check_listings(Shape { rows, features }, values, listings);
+    numbers::number_of(reply)
+}
+
+#[no_mangle]
+pub extern "C" fn tailboardy_check_tree(
+    features: usize,
+    value: &[f64],
+    feature: &[u32],
+    threshold: &[f64],
+    score: &[f64],
+    yes: &[u32],
+    no: &[u32],
+) -> u32
+    ensures { λ r. ⌜ r ≡ replyTold (checkTree features (columnsOf (now (value .entry)) (now (feature .entry)) (now (threshold .entry)) (now (score .entry)) (now (yes .entry)) (now (no .entry)))) ⌝ }
+{
+    let reply = tables::check_tree(features, value, feature, threshold, score, yes, no);
+    numbers::number_of(reply)
+}
+
+#[no_mangle]
+pub extern "C" fn tailboardy_check_forest(
+    features: usize,
+    trees: usize,
+    starts: &[u32],
+    value: &[f64],
+    feature: &[u32],
+    threshold: &[f64],
+    score: &[f64],
+    yes: &[u32],
+    no: &[u32],
+) -> u32
+    ensures { λ r. ⌜ r ≡ replyTold (checkForest features (tableOf trees (now (starts .entry)) (columnsOf (now (value .entry)) (now (feature .entry)) (now (threshold .entry)) (now (score .entry)) (now (yes .entry)) (now (no .entry))))) ⌝ }
+{
+    let reply = tables::check_forest(
+        features,
+        trees,
+        starts,
+        value,
+        feature,
+        threshold,
+        score,
+        yes,
+        no,
+    );
+    numbers::number_of(reply)
+}
+
+#[no_mangle]
+pub extern "C" fn tailboardy_read_node(
+    features: usize,
+    value: &[f64],
+    feature: &[u32],
+    threshold: &[f64],
+    score: &[f64],
+    yes: &[u32],
+    no: &[u32],
+    k: usize,
+) -> NodeTold
+    ensures { λ r. ⌜ nodeNumbers r ≡ nodeTold (readNode features (columnsOf (now (value .entry)) (now (feature .entry)) (now (threshold .entry)) (now (score .entry)) (now (yes .entry)) (now (no .entry))) k) ⌝ }
+{
+    let reply = tables::read_node(features, value, feature, threshold, score, yes, no, k);
+    numbers::node_told_of(reply)
+}

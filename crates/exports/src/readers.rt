@@ -1,0 +1,188 @@
+// Predictions, means and their error, importances.
+ghost use mathlib.Core.Path.{_≡_};
+ghost use mathlib.Core.List.{List};
+ghost use Prim.Native.Nat.{ℕ};
+ghost use lib.Ieee.{Float};
+ghost use Rattle.rules.specs.Lent.{Outcome};
+ghost use Rattle.rules.specs.Answers.{replyTold, errorTold};
+ghost use Rattle.rules.specs.Reading.{predictTree, forestMeans, treeImportances, forestImportances};
+ghost use Rattle.rules.specs.OutOfBag.{outOfBagMeans, outOfBagError};
+ghost use Rattle.tables.specs.Table.{columnsOf, tableOf};
+ghost use Rattle.numbers.specs.Plain.{scaleOf, errorNumbers};
+ghost use Rattle.exports.specs.Calls.{told};
+use numbers::ErrorTold;
+use rules::Shape;
+
+#[no_mangle]
+pub extern "C" fn tailboardy_predict_tree(
+    rows: usize,
+    features: usize,
+    values: &[f64],
+    value: &[f64],
+    feature: &[u32],
+    threshold: &[f64],
+    score: &[f64],
+    yes: &[u32],
+    no: &[u32],
+    out: &mut [f64],
+) -> u32
+    ensures { λ r. ⌜ _≡_ {A = Outcome ℕ (List Float)} (record { answer = r; rooms = now (out .exit) })
+        (told replyTold (predictTree (record { rows = rows; features = features }) (now (values .entry)) (columnsOf (now (value .entry)) (now (feature .entry)) (now (threshold .entry)) (now (score .entry)) (now (yes .entry)) (now (no .entry))) (now (out .entry)))) ⌝ }
+{
+    let reply = reading::predict_tree(
+        Shape { rows, features },
+        values,
+        value,
+        feature,
+        threshold,
+        score,
+        yes,
+        no,
+        out,
+    );
+    numbers::number_of(reply)
+}
+
+#[no_mangle]
+pub extern "C" fn tailboardy_forest_means(
+    rows: usize,
+    features: usize,
+    trees: usize,
+    values: &[f64],
+    starts: &[u32],
+    value: &[f64],
+    feature: &[u32],
+    threshold: &[f64],
+    score: &[f64],
+    yes: &[u32],
+    no: &[u32],
+    out: &mut [f64],
+) -> u32
+    ensures { λ r. ⌜ _≡_ {A = Outcome ℕ (List Float)} (record { answer = r; rooms = now (out .exit) })
+        (told replyTold (forestMeans (record { rows = rows; features = features }) (now (values .entry)) (tableOf trees (now (starts .entry)) (columnsOf (now (value .entry)) (now (feature .entry)) (now (threshold .entry)) (now (score .entry)) (now (yes .entry)) (now (no .entry)))) (now (out .entry)))) ⌝ }
+{
+    let reply = means::forest_means(
+        Shape { rows, features },
+        trees,
+        values,
+        starts,
+        value,
+        feature,
+        threshold,
+        score,
+        yes,
+        no,
+        out,
+    );
+    numbers::number_of(reply)
+}
+
+#[no_mangle]
+pub extern "C" fn tailboardy_out_of_bag_means(
+    rows: usize,
+    features: usize,
+    trees: usize,
+    values: &[f64],
+    counts: &[u32],
+    starts: &[u32],
+    value: &[f64],
+    feature: &[u32],
+    threshold: &[f64],
+    score: &[f64],
+    yes: &[u32],
+    no: &[u32],
+    out: &mut [f64],
+) -> u32
+    ensures { λ r. ⌜ _≡_ {A = Outcome ℕ (List Float)} (record { answer = r; rooms = now (out .exit) })
+        (told replyTold (outOfBagMeans (record { rows = rows; features = features }) (now (values .entry)) (now (counts .entry)) (tableOf trees (now (starts .entry)) (columnsOf (now (value .entry)) (now (feature .entry)) (now (threshold .entry)) (now (score .entry)) (now (yes .entry)) (now (no .entry)))) (now (out .entry)))) ⌝ }
+{
+    let reply = means::out_of_bag_means(
+        Shape { rows, features },
+        trees,
+        values,
+        counts,
+        starts,
+        value,
+        feature,
+        threshold,
+        score,
+        yes,
+        no,
+        out,
+    );
+    numbers::number_of(reply)
+}
+
+#[no_mangle]
+pub extern "C" fn tailboardy_out_of_bag_error(
+    rows: usize,
+    targets: &[f64],
+    means: &[f64],
+) -> ErrorTold
+    ensures { λ r. ⌜ errorNumbers r ≡ errorTold (outOfBagError rows (now (targets .entry)) (now (means .entry))) ⌝ }
+{
+    let reply = means::errors::out_of_bag_error(rows, targets, means);
+    numbers::error_told_of(reply)
+}
+
+#[no_mangle]
+pub extern "C" fn tailboardy_tree_importances(
+    features: usize,
+    bymass: bool,
+    mass: f64,
+    value: &[f64],
+    feature: &[u32],
+    threshold: &[f64],
+    score: &[f64],
+    yes: &[u32],
+    no: &[u32],
+    out: &mut [f64],
+) -> u32
+    ensures { λ r. ⌜ _≡_ {A = Outcome ℕ (List Float)} (record { answer = r; rooms = now (out .exit) })
+        (told replyTold (treeImportances features (scaleOf bymass mass) (columnsOf (now (value .entry)) (now (feature .entry)) (now (threshold .entry)) (now (score .entry)) (now (yes .entry)) (now (no .entry))) (now (out .entry)))) ⌝ }
+{
+    let by = numbers::scale_of(bymass, mass);
+    let reply = importances::tree_importances(
+        features,
+        by,
+        value,
+        feature,
+        threshold,
+        score,
+        yes,
+        no,
+        out,
+    );
+    numbers::number_of(reply)
+}
+
+#[no_mangle]
+pub extern "C" fn tailboardy_forest_importances(
+    features: usize,
+    trees: usize,
+    starts: &[u32],
+    value: &[f64],
+    feature: &[u32],
+    threshold: &[f64],
+    score: &[f64],
+    yes: &[u32],
+    no: &[u32],
+    out: &mut [f64],
+) -> u32
+    ensures { λ r. ⌜ _≡_ {A = Outcome ℕ (List Float)} (record { answer = r; rooms = now (out .exit) })
+        (told replyTold (forestImportances features (tableOf trees (now (starts .entry)) (columnsOf (now (value .entry)) (now (feature .entry)) (now (threshold .entry)) (now (score .entry)) (now (yes .entry)) (now (no .entry)))) (now (out .entry)))) ⌝ }
+{
+    let reply = importances::forest_importances(
+        features,
+        trees,
+        starts,
+        value,
+        feature,
+        threshold,
+        score,
+        yes,
+        no,
+        out,
+    );
+    numbers::number_of(reply)
+}
