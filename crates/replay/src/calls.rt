@@ -1,60 +1,23 @@
-// The numbers and lists of a call. Lists are put down into buffers. That a list is malformed, longer than its buffer or not there
-// is told by the next place, which is then one that no line has; so it is after every further list.
+// The numbers and lists of a call. A list begins with its length, and its place is where that stands. No list is copied: the call stands
+// three times, as numbers, as floats and as words, and a list is a part of one of the three.
 ghost use mathlib.Core.Path.{_≡_};
-ghost use Prim.Native.Nat.{_≤_};
 ghost use lib.Ieee as Ieee;
 ghost use lib.Ieee.{binary64};
-ghost use lib.ListN.{length};
-ghost use Rattle.replay.specs.Places.{Listed};
 use rules::Depth;
 use rules::Settings;
 use rules::Splitter;
 
+// The end of a list that is malformed or cut off, and of every further list.
 pub const NOWHERE: usize = 18446744073709551615;
 
-// Where a list's entries begin and end, and where the line goes on.
-struct Span {
-    from: usize,
-    end: usize,
-    next: usize,
+// ---- the numbers, as they are, as floats and as words
+
+pub fn number(call: &[usize], at: usize) -> usize {
+    if at < call.len() { call[at] } else { 0 }
 }
 
-// How many entries were put down, and where the line goes on.
-pub struct Taken {
-    pub count: usize,
-    pub next: usize,
-}
-
-fn missing() -> Span
-    ensures { λ r. ⌜ (r .from ≡ 0) × (r .end ≡ 0) ⌝ }
-{
-    Span {
-        from: 0,
-        end: 0,
-        next: NOWHERE,
-    }
-}
-
-fn entries_at(call: &[u64], at: usize, most: usize) -> Span
-    ensures { λ r. ⌜ Listed (now (call .entry)) most (r .from) (r .end) ⌝ }
-{
-    if call.len() <= at {
-        return missing();
-    }
-    let count = call[at] as usize;
-    if most < count {
-        return missing();
-    }
-    let from = at + 1;
-    if call.len() - from < count {
-        return missing();
-    }
-    let end = from + count;
-    Span {
-        from,
-        end,
-        next: end,
-    }
+pub fn float(call: &[f64], at: usize) -> f64 {
+    if at < call.len() { call[at] } else { 0.0 }
 }
 
 // The float of 64 bits. Each NaN is the one.
@@ -68,81 +31,132 @@ fn real(n: u64) -> f64
     }
 }
 
-fn put_reals(entries: &[u64], into: &mut [f64])
-    requires { ⌜ length (now entries) ≤ length (now into) ⌝ }
-{
+pub fn as_reals(call: &[usize], into: &mut [f64]) {
     let mut i: usize = 0;
-    while i < entries.len() {
-        into[i] = real(entries[i]);
+    while i < into.len() {
+        into[i] = real(number(call, i) as u64);
         i += 1;
     }
 }
 
-pub fn reals(call: &[u64], at: usize, into: &mut [f64]) -> Taken
-    ensures { λ r. ⌜ r .count ≤ length (now (into .exit)) ⌝ }
-{
-    let s = entries_at(call, at, into.len());
-    let from = s.from;
-    let end = s.end;
-    put_reals(&call[from..end], into);
-    Taken {
-        count: end - from,
-        next: s.next,
+// A number that is no word stands in no list of words.
+fn word(n: usize) -> u32 {
+    if n <= 4294967295 { n as u32 } else { 0 }
+}
+
+pub fn as_words(call: &[usize], into: &mut [u32]) {
+    let mut i: usize = 0;
+    while i < into.len() {
+        into[i] = word(number(call, i));
+        i += 1;
     }
 }
 
-// Whether all entries fit 32 bits.
-fn put_words(entries: &[u64], into: &mut [u32]) -> bool
-    requires { ⌜ length (now entries) ≤ length (now into) ⌝ }
-{
+// ---- the entries of a list, from its place to its end
+
+pub fn numbers(call: &[usize], at: usize, end: usize) -> &[usize] {
+    if at < end {
+        if end <= call.len() {
+            return &call[at + 1..end];
+        }
+    }
+    &call[0..0]
+}
+
+pub fn reals(call: &[f64], at: usize, end: usize) -> &[f64] {
+    if at < end {
+        if end <= call.len() {
+            return &call[at + 1..end];
+        }
+    }
+    &call[0..0]
+}
+
+pub fn words(call: &[u32], at: usize, end: usize) -> &[u32] {
+    if at < end {
+        if end <= call.len() {
+            return &call[at + 1..end];
+        }
+    }
+    &call[0..0]
+}
+
+// What stands from a place on.
+pub fn rest(call: &[usize], at: usize) -> &[usize] {
+    if at <= call.len() {
+        return &call[at..];
+    }
+    &call[0..0]
+}
+
+// ---- where a list ends: there the call goes on
+
+pub fn next(at: usize) -> usize {
+    if at < NOWHERE { at + 1 } else { at }
+}
+
+pub fn after(call: &[usize], at: usize) -> usize {
+    if call.len() <= at {
+        return NOWHERE;
+    }
+    let from = at + 1;
+    let count = call[at];
+    if call.len() - from < count {
+        return NOWHERE;
+    }
+    from + count
+}
+
+fn words_fit(entries: &[usize]) -> bool {
     let mut i: usize = 0;
     while i < entries.len() {
-        let n = entries[i];
-        if 4294967295 < n {
+        if 4294967295 < entries[i] {
             return false;
         }
-        into[i] = n as u32;
         i += 1;
     }
     true
 }
 
-pub fn words(call: &[u64], at: usize, into: &mut [u32]) -> Taken
-    ensures { λ r. ⌜ r .count ≤ length (now (into .exit)) ⌝ }
-{
-    let s = entries_at(call, at, into.len());
-    let from = s.from;
-    let end = s.end;
-    if !put_words(&call[from..end], into) {
-        return Taken {
-            count: 0,
-            next: NOWHERE,
-        };
-    }
-    Taken {
-        count: end - from,
-        next: s.next,
+// The end of a list whose entries have to be words.
+pub fn after_words(call: &[usize], at: usize) -> usize {
+    let end = after(call, at);
+    if words_fit(numbers(call, at, end)) {
+        end
+    } else {
+        NOWHERE
     }
 }
 
-// ---- the lengths of the rooms: lent rooms have 64 entries at most
+// ---- the six columns of a tree, or of a forest
 
-pub fn rooms_fit(lengths: &[u64]) -> bool {
-    let mut i: usize = 0;
-    while i < lengths.len() {
-        if 64 < lengths[i] {
-            return false;
-        }
-        i += 1;
-    }
-    true
+// The places of the columns, and the last one's end.
+pub struct Columns {
+    pub value: usize,
+    pub feature: usize,
+    pub threshold: usize,
+    pub score: usize,
+    pub yes: usize,
+    pub no: usize,
+    pub end: usize,
 }
 
-// A length of which `rooms_fit` is known.
-pub fn room(length: u64) -> usize
-    ensures { λ r. ⌜ r ≤ 64 ⌝ }
-{
-    if length <= 64 { length as usize } else { 0 }
+pub fn columns_at(call: &[usize], at: usize) -> Columns {
+    let feature = after(call, at);
+    let threshold = after_words(call, feature);
+    let score = after(call, threshold);
+    let yes = after(call, score);
+    let no = after_words(call, yes);
+    let end = after_words(call, no);
+    Columns {
+        value: at,
+        feature,
+        threshold,
+        score,
+        yes,
+        no,
+        end,
+    }
 }
 
 // ---- what a fit is told of its trees
@@ -152,7 +166,7 @@ pub enum Set {
     Malformed,
 }
 
-fn depth_of(n: u64) -> Depth {
+fn depth_of(n: usize) -> Depth {
     if n < 65536 {
         Depth::AtMost(n as u16)
     } else {
@@ -160,7 +174,7 @@ fn depth_of(n: u64) -> Depth {
     }
 }
 
-fn splitter_of(n: u64) -> Splitter {
+fn splitter_of(n: usize) -> Splitter {
     if n == 0 {
         Splitter::Best
     } else {
@@ -168,7 +182,7 @@ fn splitter_of(n: u64) -> Splitter {
     }
 }
 
-pub fn settings_of(depth: u64, leaf: u64, split: u64, splitter: u64) -> Set {
+pub fn settings_of(depth: usize, leaf: usize, split: usize, splitter: usize) -> Set {
     if 65536 < depth {
         return Set::Malformed;
     }

@@ -1,9 +1,9 @@
--- `replay::reading::find` meets its contract: i is within the text. Assumes nothing.
+-- `replay::lines::find` meets its contract: i is within the text. Assumes nothing.
 use Prim.Native.Nat.{_≤_, _-_}
 use lib.ListN.{length}
 use borrow.Author.Needs.{needs}
-use Rattle.replay.proofs.reading.find.Statement.{statement}
-use Rattle.replay.proofs.reading.find.Tie as tie
+use Rattle.replay.proofs.lines.find.Statement.{statement}
+use Rattle.replay.proofs.lines.find.Tie as tie
 
 abbrev Inv-loop : tie.InvT-loop
 Inv-loop text at byte i₀ i = (at ≤ i) × (i ≤ length text)

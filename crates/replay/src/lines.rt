@@ -18,12 +18,12 @@ pub fn find(text: &[u8], at: usize, byte: u8) -> usize
 }
 
 pub enum Number {
-    Is(u64),
+    Is(usize),
     Malformed,
 }
 
 // The number with one digit more, if that is a digit and 64 bits hold it.
-fn longer(value: u64, digit: u8) -> Number {
+fn longer(value: usize, digit: u8) -> Number {
     if digit < 48 {
         return Number::Malformed;
     }
@@ -33,7 +33,7 @@ fn longer(value: u64, digit: u8) -> Number {
     if 1844674407370955161 < value {
         return Number::Malformed;
     }
-    let d = (digit - 48) as u64;
+    let d = (digit - 48) as usize;
     let tens = value * 10;
     if 18446744073709551615 - tens < d {
         return Number::Malformed;
@@ -45,7 +45,7 @@ fn value_of(word: &[u8]) -> Number {
     if word.len() == 0 {
         return Number::Malformed;
     }
-    let mut value: u64 = 0;
+    let mut value: usize = 0;
     let mut i: usize = 0;
     while i < word.len() {
         let Number::Is(v) = longer(value, word[i]) else {
@@ -58,7 +58,7 @@ fn value_of(word: &[u8]) -> Number {
 }
 
 // Puts a line's numbers down and tells how many there are: 0 if the line is malformed or too long.
-pub fn numbers(line: &[u8], into: &mut [u64]) -> usize
+pub fn numbers(line: &[u8], into: &mut [usize]) -> usize
     ensures { λ r. ⌜ r ≤ length (now (into .exit)) ⌝ }
 {
     let mut at: usize = 0;

@@ -1,28 +1,25 @@
--- `replay::calls::put_reals` is safe and ends: i is within the entries. Assumes nothing.
+-- `replay::calls::as_words` is safe and ends: i is within the room. Assumes nothing.
 use Prim.Native.Nat.{_≤_, _-_}
 use mathlib.Core.Path.{_≡_}
 use lib.ListN.{length}
 use borrow.Author.Needs.{needs}
-use Rattle.replay.proofs.calls.put_reals.Statement.{statement}
-use Rattle.replay.proofs.calls.put_reals.Tie as tie
+use Rattle.replay.proofs.calls.as_words.Statement.{statement}
+use Rattle.replay.proofs.calls.as_words.Tie as tie
 
 abbrev Inv-loop : tie.InvT-loop
-Inv-loop entries into₀ i₀ into i = (i ≤ length entries) × (length into ≡ length into₀)
+Inv-loop call into₀ i₀ into i = (i ≤ length into₀) × (length into ≡ length into₀)
 
 abbrev μ-loop : tie.MeasureT-loop
-μ-loop entries into₀ i₀ into i = length entries - i
+μ-loop call into₀ i₀ into i = length into₀ - i
 
 loop-holds : tie.Need-loop-holds Inv-loop μ-loop
 loop-holds c = search needs
 
-mul-real : tie.Need-mul-real Inv-loop μ-loop
-mul-real c = search needs
+number-requires : tie.Need-number-requires Inv-loop μ-loop
+number-requires c κs = search needs
 
-shared-slice-read-real : tie.Need-shared-slice-read-real Inv-loop μ-loop
-shared-slice-read-real c = search needs
-
-real-requires : tie.Need-real-requires Inv-loop μ-loop
-real-requires c κs = search needs
+word-requires : tie.Need-word-requires Inv-loop μ-loop
+word-requires c κs = search needs
 
 mul-into : tie.Need-mul-into Inv-loop μ-loop
 mul-into c = search needs
@@ -45,16 +42,15 @@ same-length c = search needs
 returns : tie.Need-returns Inv-loop μ-loop
 returns c = search needs
 
-pub put-reals-spec : {M : Type 1} → statement M
-put-reals-spec =
+pub as-words-spec : {M : Type 1} → statement M
+as-words-spec =
     tie.close
     (tie.spec
     Inv-loop
     μ-loop
     loop-holds
-    mul-real
-    shared-slice-read-real
-    real-requires
+    number-requires
+    word-requires
     mul-into
     slice-write-into
     add-i

@@ -1,11 +1,11 @@
--- `replay::reading::numbers` meets its contract: at is at most one past the line, and n is within the buffer. Assumes nothing.
+-- `replay::lines::numbers` meets its contract: at is at most one past the line, and n is within the buffer. Assumes nothing.
 use Prim.Native.Nat.{_≤_, _+_, _-_}
 use mathlib.Core.Path.{_≡_}
 use lib.ListN.{length, length-set}
 use borrow.Author.Needs.{needs}
 use native.Mathlib.Omega.{arith}
-use Rattle.replay.proofs.reading.numbers.Statement.{statement}
-use Rattle.replay.proofs.reading.numbers.Tie as tie
+use Rattle.replay.proofs.lines.numbers.Statement.{statement}
+use Rattle.replay.proofs.lines.numbers.Tie as tie
 
 abbrev Inv-loop : tie.InvT-loop
 Inv-loop line into₀ at₀ n₀ into at n = (at ≤ length line + 1) × ((n ≤ length into) × (length into ≡ length into₀))

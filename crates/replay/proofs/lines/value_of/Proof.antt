@@ -1,9 +1,9 @@
--- `replay::reading::value_of` is safe and ends: i is within the word. Assumes nothing.
+-- `replay::lines::value_of` is safe and ends: i is within the word. Assumes nothing.
 use Prim.Native.Nat.{_≤_, _-_}
 use lib.ListN.{length}
 use borrow.Author.Needs.{needs}
-use Rattle.replay.proofs.reading.value_of.Statement.{statement}
-use Rattle.replay.proofs.reading.value_of.Tie as tie
+use Rattle.replay.proofs.lines.value_of.Statement.{statement}
+use Rattle.replay.proofs.lines.value_of.Tie as tie
 
 abbrev Inv-loop : tie.InvT-loop
 Inv-loop word value₀ i₀ value i = i ≤ length word

@@ -1,15 +1,15 @@
--- `replay::calls::rooms_fit` is safe and ends: i is within the lengths. Assumes nothing.
+-- `replay::calls::words_fit` is safe and ends: i is within the entries. Assumes nothing.
 use Prim.Native.Nat.{_≤_, _-_}
 use lib.ListN.{length}
 use borrow.Author.Needs.{needs}
-use Rattle.replay.proofs.calls.rooms_fit.Statement.{statement}
-use Rattle.replay.proofs.calls.rooms_fit.Tie as tie
+use Rattle.replay.proofs.calls.words_fit.Statement.{statement}
+use Rattle.replay.proofs.calls.words_fit.Tie as tie
 
 abbrev Inv-loop : tie.InvT-loop
-Inv-loop lengths i₀ i = i ≤ length lengths
+Inv-loop entries i₀ i = i ≤ length entries
 
 abbrev μ-loop : tie.MeasureT-loop
-μ-loop lengths i₀ i = length lengths - i
+μ-loop entries i₀ i = length entries - i
 
 loop-holds : tie.Need-loop-holds Inv-loop μ-loop
 loop-holds c = search needs
@@ -35,8 +35,8 @@ loop-again c = search needs
 returns-2 : tie.Need-returns-2 Inv-loop μ-loop
 returns-2 c = search needs
 
-pub rooms-fit-spec : {M : Type 1} → statement M
-rooms-fit-spec =
+pub words-fit-spec : {M : Type 1} → statement M
+words-fit-spec =
     tie.close
     (tie.spec
     Inv-loop
