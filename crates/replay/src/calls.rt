@@ -3,9 +3,9 @@
 ghost use mathlib.Core.Path.{_≡_};
 ghost use lib.Ieee as Ieee;
 ghost use lib.Ieee.{binary64};
-use rules::Depth;
+use numbers::TreeSettings;
 use rules::Settings;
-use rules::Splitter;
+use rules::Shape;
 
 // The end of a list that is malformed or cut off, and of every further list.
 pub const NOWHERE: usize = 18446744073709551615;
@@ -40,7 +40,7 @@ pub fn as_reals(call: &[usize], into: &mut [f64]) {
 }
 
 // A number that is no word stands in no list of words.
-fn word(n: usize) -> u32 {
+pub fn word(n: usize) -> u32 {
     if n <= 4294967295 { n as u32 } else { 0 }
 }
 
@@ -52,9 +52,16 @@ pub fn as_words(call: &[usize], into: &mut [u32]) {
     }
 }
 
+pub fn shape_of(call: &[usize]) -> Shape {
+    Shape {
+        rows: number(call, 0),
+        features: number(call, 1),
+    }
+}
+
 // ---- the entries of a list, from its place to its end
 
-pub fn numbers(call: &[usize], at: usize, end: usize) -> &[usize] {
+pub fn entries(call: &[usize], at: usize, end: usize) -> &[usize] {
     if at < end {
         if end <= call.len() {
             return &call[at + 1..end];
@@ -121,7 +128,7 @@ fn words_fit(entries: &[usize]) -> bool {
 // The end of a list whose entries have to be words.
 pub fn after_words(call: &[usize], at: usize) -> usize {
     let end = after(call, at);
-    if words_fit(numbers(call, at, end)) {
+    if words_fit(entries(call, at, end)) {
         end
     } else {
         NOWHERE
@@ -159,46 +166,68 @@ pub fn columns_at(call: &[usize], at: usize) -> Columns {
     }
 }
 
+// ---- the lists that a fit of one tree and that of a forest are both lent
+
+// The places of the lists, and the last one's end.
+pub struct Lists {
+    pub values: usize,
+    pub targets: usize,
+    pub weights: usize,
+    pub counts: usize,
+    pub listings: usize,
+    pub words: usize,
+    pub thresholds: usize,
+    pub end: usize,
+}
+
+pub fn lists_at(call: &[usize], at: usize) -> Lists {
+    let targets = after(call, at);
+    let weights = after(call, targets);
+    let counts = after(call, weights);
+    let listings = after_words(call, counts);
+    let words = after_words(call, listings);
+    let thresholds = after_words(call, words);
+    let end = after(call, thresholds);
+    Lists {
+        values: at,
+        targets,
+        weights,
+        counts,
+        listings,
+        words,
+        thresholds,
+        end,
+    }
+}
+
 // ---- what a fit is told of its trees
 
-pub enum Set {
-    Is(Settings),
-    Malformed,
+// Depth, least leaf, least split, the number tried, and the splitter. How many features may be tried is for the call to say.
+pub fn settings_good(told: &[usize]) -> bool {
+    if told.len() < 5 {
+        return false;
+    }
+    if 65536 < told[0] {
+        return false;
+    }
+    if 1 < told[4] {
+        return false;
+    }
+    words_fit(&told[1..3])
 }
 
-fn depth_of(n: usize) -> Depth {
-    if n < 65536 {
-        Depth::AtMost(n as u16)
-    } else {
-        Depth::Unlimited
-    }
+fn limit_of(n: usize) -> u16 {
+    if n < 65536 { n as u16 } else { 0 }
 }
 
-fn splitter_of(n: usize) -> Splitter {
-    if n == 0 {
-        Splitter::Best
-    } else {
-        Splitter::Random
-    }
-}
-
-pub fn settings_of(depth: usize, leaf: usize, split: usize, splitter: usize) -> Set {
-    if 65536 < depth {
-        return Set::Malformed;
-    }
-    if 4294967295 < leaf {
-        return Set::Malformed;
-    }
-    if 4294967295 < split {
-        return Set::Malformed;
-    }
-    if 1 < splitter {
-        return Set::Malformed;
-    }
-    Set::Is(Settings {
-        depth: depth_of(depth),
-        leaf: leaf as u32,
-        split: split as u32,
-        splitter: splitter_of(splitter),
+pub fn settings_of(told: &[usize]) -> Settings {
+    let depth = number(told, 0);
+    numbers::tree_settings_of(TreeSettings {
+        limited: depth < 65536,
+        limit: limit_of(depth),
+        leaf: word(number(told, 1)),
+        split: word(number(told, 2)),
+        tried: word(number(told, 3)),
+        random: number(told, 4) == 1,
     })
 }

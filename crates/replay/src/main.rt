@@ -1,12 +1,12 @@
-// Replays the list of answers (standard input) through the proved calls and compares by bits. Kinds that are not replayed yet
-// are passed over. What the numbers of a line mean is in oracle/README.md, "The list". A further kind is a module with a function
-// `replay` as `trees` has, an arm of `replay` here and a line of `tell_tally`.
+// Replays the list of answers (standard input) through the proved calls and compares by bits. What the numbers of a line mean is
+// in oracle/README.md, "The list".
 mod calls;
+mod forest_fits;
 mod lines;
 mod nodes;
 mod readers;
 mod rooms;
-mod trees;
+mod tree_fits;
 
 use crate::rooms::Verdict;
 
@@ -45,12 +45,10 @@ fn tell(line: usize, v: Verdict) {
         Verdict::Number(n) => tell_part(line, b": number ", n),
         Verdict::Room(n) => tell_part(line, b": room ", n),
         Verdict::Malformed => tell_malformed(line),
-        Verdict::PassedOver => {}
     }
 }
 
-// ---- the tally: of each kind up to 13, how many cases agree, differ, are malformed and are passed over. Lines that are no case
-// count as of kind 0.
+// ---- the tally: of each kind up to 13, how many cases agree, differ and are malformed. Lines that are no case count as of kind 0
 
 fn column(v: Verdict) -> usize {
     match v {
@@ -58,7 +56,6 @@ fn column(v: Verdict) -> usize {
         Verdict::Number(n) => 1,
         Verdict::Room(n) => 1,
         Verdict::Malformed => 2,
-        Verdict::PassedOver => 3,
     }
 }
 
@@ -66,20 +63,20 @@ fn tallied(tally: &[usize], kind: usize, column: usize) -> usize {
     if 13 < kind {
         return 0;
     }
-    if 3 < column {
+    if 2 < column {
         return 0;
     }
-    calls::number(tally, kind * 4 + column)
+    calls::number(tally, kind * 3 + column)
 }
 
 fn count(kind: usize, column: usize, tally: &mut [usize]) {
     if 13 < kind {
         return;
     }
-    if 3 < column {
+    if 2 < column {
         return;
     }
-    let at = kind * 4 + column;
+    let at = kind * 3 + column;
     if at < tally.len() {
         tally[at] = more(tally[at]);
     }
@@ -114,11 +111,10 @@ fn tell_checks(tally: &[usize]) {
 
 fn tell_tally(tally: &[usize]) {
     tell_counts(b"fits of one tree: ", 1, tally);
+    tell_counts(b"fits of a forest: ", 2, tally);
     tell_readers(tally);
     tell_checks(tally);
-    write(b"passed over: ");
-    decimal(tallied(tally, 2, 3));
-    write(b", no case: ");
+    write(b"lines that are no case: ");
     decimal(tallied(tally, 0, 2));
     write(b"\n");
 }
@@ -127,8 +123,8 @@ fn tell_tally(tally: &[usize]) {
 
 fn replay(kind: usize, call: &[usize], reals: &[f64], words: &[u32], answer: &[usize]) -> Verdict {
     match kind {
-        1 => trees::replay(call, reals, words, answer),
-        2 => Verdict::PassedOver,
+        1 => tree_fits::replay(call, reals, words, answer),
+        2 => forest_fits::replay(call, reals, words, answer),
         9 => readers::replay_error(call, reals, answer),
         13 => nodes::replay(call, reals, words, answer),
         _ => readers::replay(kind, call, reals, words, answer),
@@ -198,7 +194,7 @@ fn tell_said(text: &[u8]) {
 }
 
 fn replay_all(text: &[u8]) {
-    let mut tally = [0usize; 56];
+    let mut tally = [0usize; 42];
     tell_said(text);
     read_cases(text, &mut tally);
     tell_tally(&tally);

@@ -4,47 +4,35 @@ ghost use lib.ListN.{length};
 use crate::calls;
 use crate::rooms;
 use crate::rooms::Verdict;
-use rules::Fork;
-use rules::Kind;
-use rules::Node;
-use rules::NodeReply;
+use numbers::NodeTold;
 
-// ---- what is told: the refusal, whether the node is there, its value, feature, threshold, score and children
-
-fn told_of_split(value: f64, f: Fork) -> [usize; 8]
+fn told_of(t: NodeTold) -> [usize; 8]
     ensures { λ r. ⌜ 8 ≡ length r ⌝ }
 {
-    let yes = f.children as usize;
     [
-        0,
-        1,
-        rooms::pattern(value),
-        f.cut.feature as usize,
-        rooms::pattern(f.cut.threshold),
-        rooms::pattern(f.score),
-        yes,
-        yes + 1,
+        t.number as usize,
+        rooms::flag(t.there),
+        rooms::pattern(t.value),
+        t.feature as usize,
+        rooms::pattern(t.threshold),
+        rooms::pattern(t.score),
+        t.yes as usize,
+        t.no as usize,
     ]
 }
 
-fn told_of_node(n: Node) -> [usize; 8]
-    ensures { λ r. ⌜ 8 ≡ length r ⌝ }
-{
-    let kind = n.kind;
-    match kind {
-        Kind::Leaf => [0, 1, rooms::pattern(n.value), 0, 0, 0, 0, 0],
-        Kind::Split(f) => told_of_split(n.value, f),
-    }
-}
-
-fn told_of(r: NodeReply) -> [usize; 8]
-    ensures { λ r. ⌜ 8 ≡ length r ⌝ }
-{
-    match r {
-        NodeReply::Refused(n) => [n as usize, 0, 0, 0, 0, 0, 0, 0],
-        NodeReply::Missing => [0, 0, 0, 0, 0, 0, 0, 0],
-        NodeReply::Read(node) => told_of_node(node),
-    }
+fn read(
+    features: usize,
+    value: &[f64],
+    feature: &[u32],
+    threshold: &[f64],
+    score: &[f64],
+    yes: &[u32],
+    no: &[u32],
+    k: usize,
+) -> NodeTold {
+    let r = tables::read_node(features, value, feature, threshold, score, yes, no, k);
+    numbers::node_told_of(r)
 }
 
 pub fn replay(call: &[usize], reals: &[f64], words: &[u32], answer: &[usize]) -> Verdict {
@@ -53,7 +41,7 @@ pub fn replay(call: &[usize], reals: &[f64], words: &[u32], answer: &[usize]) ->
     if asked.len() != 1 {
         return Verdict::Malformed;
     }
-    let r = tables::read_node(
+    let t = read(
         calls::number(call, 0),
         calls::reals(reals, c.value, c.feature),
         calls::words(words, c.feature, c.threshold),
@@ -63,6 +51,6 @@ pub fn replay(call: &[usize], reals: &[f64], words: &[u32], answer: &[usize]) ->
         calls::words(words, c.no, c.end),
         asked[0],
     );
-    let told = told_of(r);
-    rooms::judged_numbers(answer, &told)
+    let told = told_of(t);
+    rooms::judged(answer, &told, rooms::first(8))
 }

@@ -2,9 +2,7 @@
 use crate::calls;
 use crate::calls::Columns;
 use crate::rooms;
-use crate::rooms::Check;
 use crate::rooms::Verdict;
-use rules::ErrorReply;
 use rules::Reply;
 use rules::Scale;
 use rules::Shape;
@@ -46,21 +44,6 @@ fn places_of(call: &[usize]) -> Places {
 }
 
 // ---- readers that write a room, and checks
-
-fn refusal(r: Reply) -> usize {
-    match r {
-        Reply::Refused(n) => n as usize,
-        Reply::Done => 0,
-    }
-}
-
-fn scale_of(kind: usize, mass: f64) -> Scale {
-    if kind == 6 {
-        Scale::Normalised
-    } else {
-        Scale::ByMass(mass)
-    }
-}
 
 fn ask(
     kind: usize,
@@ -167,14 +150,10 @@ fn lend(
     out: &mut [f64],
 ) -> Reply {
     let c = p.columns;
-    let shape = Shape {
-        rows: calls::number(call, 0),
-        features: calls::number(call, 1),
-    };
-    let scale = scale_of(kind, calls::float(reals, p.mass));
+    let scale = numbers::scale_of(kind == 7, calls::float(reals, p.mass));
     ask(
         kind,
-        shape,
+        calls::shape_of(call),
         calls::number(call, 2),
         scale,
         calls::reals(reals, p.values, p.counts),
@@ -193,17 +172,13 @@ fn lend(
 
 // Kinds 3 to 8 leave a room.
 fn compare(kind: usize, answer: &[usize], lengths: &[usize], r: Reply, out: &[f64]) -> Verdict {
-    let told = [refusal(r)];
+    let told = [numbers::number_of(r) as usize];
+    let c = rooms::first(1);
     if 8 < kind {
-        return rooms::judged_numbers(answer, &told);
+        return rooms::judged(answer, &told, c);
     }
-    let wrong = rooms::wrong_number(answer, &told);
-    if 0 < wrong {
-        return Verdict::Number(wrong);
-    }
-    let first = Check { at: 1, wrong: 0 };
-    let c = rooms::reals(answer, lengths, first, 1, out);
-    rooms::judged(answer, c)
+    let d = rooms::reals(answer, lengths, c, out);
+    rooms::judged(answer, &told, d)
 }
 
 pub fn replay(
@@ -225,19 +200,12 @@ pub fn replay(
         p,
         reals,
         words,
-        rooms::lent_reals(lengths, 1, &mut out),
+        rooms::lent_reals(lengths, 0, &mut out),
     );
     compare(kind, answer, lengths, r, &out)
 }
 
 // ---- the error
-
-fn told_of_error(r: ErrorReply) -> [usize; 2] {
-    match r {
-        ErrorReply::Refused(n) => [n as usize, 0],
-        ErrorReply::Error(e) => [0, rooms::pattern(e)],
-    }
-}
 
 pub fn replay_error(call: &[usize], reals: &[f64], answer: &[usize]) -> Verdict {
     let p = places_of(call);
@@ -250,6 +218,7 @@ pub fn replay_error(call: &[usize], reals: &[f64], answer: &[usize]) -> Verdict 
         calls::reals(reals, p.targets, p.means),
         calls::reals(reals, p.means, p.room),
     );
-    let told = told_of_error(r);
-    rooms::judged_numbers(answer, &told)
+    let t = numbers::error_told_of(r);
+    let told = [t.number as usize, rooms::pattern(t.error)];
+    rooms::judged(answer, &told, rooms::first(2))
 }

@@ -10,13 +10,6 @@ pub enum Verdict {
     Number(usize),
     Room(usize),
     Malformed,
-    PassedOver,
-}
-
-// Where the next room is written, and the first that differs, or 0.
-pub struct Check {
-    pub at: usize,
-    pub wrong: usize,
 }
 
 // The 64 bits of a float; each NaN has the same.
@@ -30,8 +23,10 @@ pub fn pattern(x: f64) -> usize
     }
 }
 
+// ---- what is told
+
 // The first number that is not as the answer begins, or 0.
-pub fn wrong_number(answer: &[usize], told: &[usize]) -> usize {
+fn wrong_number(answer: &[usize], told: &[usize]) -> usize {
     let mut i: usize = 0;
     while i < told.len() {
         if answer.len() <= i {
@@ -45,35 +40,27 @@ pub fn wrong_number(answer: &[usize], told: &[usize]) -> usize {
     0
 }
 
-// ---- lent rooms: the first entries of longer ones. Their lengths stand in the order of the rooms' numbers. A room that is
-// to have more entries than there are is lent none, and is never found the same
+// ---- lent rooms: the first entries of longer ones, as many as the lengths say. A room that is to have more entries than there
+// are is lent none, and is never found the same
 
-fn length_of(lengths: &[usize], number: usize) -> usize {
-    if 0 < number {
-        calls::number(lengths, number - 1)
-    } else {
-        0
-    }
-}
-
-pub fn lent_reals<'a>(lengths: &[usize], number: usize, room: &'a mut [f64]) -> &'a mut [f64] {
-    let n = length_of(lengths, number);
+pub fn lent_reals<'a>(lengths: &[usize], i: usize, room: &'a mut [f64]) -> &'a mut [f64] {
+    let n = calls::number(lengths, i);
     if n <= room.len() {
         return &mut room[0..n];
     }
     &mut room[0..0]
 }
 
-pub fn lent_words<'a>(lengths: &[usize], number: usize, room: &'a mut [u32]) -> &'a mut [u32] {
-    let n = length_of(lengths, number);
+pub fn lent_words<'a>(lengths: &[usize], i: usize, room: &'a mut [u32]) -> &'a mut [u32] {
+    let n = calls::number(lengths, i);
     if n <= room.len() {
         return &mut room[0..n];
     }
     &mut room[0..0]
 }
 
-pub fn lent_flags<'a>(lengths: &[usize], number: usize, room: &'a mut [bool]) -> &'a mut [bool] {
-    let n = length_of(lengths, number);
+pub fn lent_flags<'a>(lengths: &[usize], i: usize, room: &'a mut [bool]) -> &'a mut [bool] {
+    let n = calls::number(lengths, i);
     if n <= room.len() {
         return &mut room[0..n];
     }
@@ -82,10 +69,10 @@ pub fn lent_flags<'a>(lengths: &[usize], number: usize, room: &'a mut [bool]) ->
 
 pub fn lent_wholes<'a>(
     lengths: &[usize],
-    number: usize,
+    i: usize,
     room: &'a mut [[u32; 6]],
 ) -> &'a mut [[u32; 6]] {
-    let n = length_of(lengths, number);
+    let n = calls::number(lengths, i);
     if n <= room.len() {
         return &mut room[0..n];
     }
@@ -94,19 +81,27 @@ pub fn lent_wholes<'a>(
 
 pub fn lent_triples<'a>(
     lengths: &[usize],
-    number: usize,
+    i: usize,
     room: &'a mut [[f64; 3]],
 ) -> &'a mut [[f64; 3]] {
-    let n = length_of(lengths, number);
+    let n = calls::number(lengths, i);
     if n <= room.len() {
         return &mut room[0..n];
     }
     &mut room[0..0]
 }
 
-// ---- how a room is written: 0 for zeros, 1 for as it was, or 2 and a list of its first entries, after which it is as it was
+// ---- rooms compared one after another
 
-fn end_of(answer: &[usize], at: usize, room: usize) -> usize {
+// Where the next room is written, how many were compared, and the first that differs, or 0.
+pub struct Check {
+    at: usize,
+    compared: usize,
+    wrong: usize,
+}
+
+// How a room is written: 0 for zeros, 1 for as it was, or 2 and a list of its first entries, after which it is as it was.
+fn end_of(answer: &[usize], at: usize, length: usize) -> usize {
     if answer.len() <= at {
         return calls::NOWHERE;
     }
@@ -114,7 +109,7 @@ fn end_of(answer: &[usize], at: usize, room: usize) -> usize {
     match answer[at] {
         0 | 1 => next,
         2 => {
-            if calls::number(answer, next) <= room {
+            if calls::number(answer, next) <= length {
                 return calls::after(answer, next);
             }
             calls::NOWHERE
@@ -125,7 +120,7 @@ fn end_of(answer: &[usize], at: usize, room: usize) -> usize {
 
 fn entries(answer: &[usize], at: usize, end: usize) -> &[usize] {
     if at < end {
-        return calls::numbers(answer, at + 1, end);
+        return calls::entries(answer, at + 1, end);
     }
     &answer[0..0]
 }
@@ -144,17 +139,26 @@ fn expected(entries: &[usize], i: usize, rest: usize) -> usize {
     if i < entries.len() { entries[i] } else { rest }
 }
 
-fn after(c: Check, next: usize, room: usize, same: bool) -> Check {
-    let wrong = c.wrong;
+fn after(c: Check, end: usize, same: bool) -> Check {
+    let compared = calls::next(c.compared);
     if same {
-        return Check { at: next, wrong };
+        return Check {
+            at: end,
+            compared,
+            wrong: c.wrong,
+        };
     }
-    if 0 < wrong {
-        return Check { at: next, wrong };
+    if 0 < c.wrong {
+        return Check {
+            at: end,
+            compared,
+            wrong: c.wrong,
+        };
     }
     Check {
-        at: next,
-        wrong: room,
+        at: end,
+        compared,
+        wrong: compared,
     }
 }
 
@@ -174,12 +178,12 @@ fn same_reals(entries: &[usize], rest: usize, n: usize, room: &[f64]) -> bool {
     true
 }
 
-pub fn reals(answer: &[usize], lengths: &[usize], c: Check, number: usize, room: &[f64]) -> Check {
-    let n = length_of(lengths, number);
+pub fn reals(answer: &[usize], lengths: &[usize], c: Check, room: &[f64]) -> Check {
+    let n = calls::number(lengths, c.compared);
     let end = end_of(answer, c.at, n);
     let rest = rest_of(answer, c.at, pattern(9.0));
     let same = same_reals(entries(answer, c.at, end), rest, n, room);
-    after(c, end, number, same)
+    after(c, end, same)
 }
 
 // ---- rooms of numbers
@@ -202,17 +206,17 @@ fn same_words(entries: &[usize], rest: usize, n: usize, room: &[u32]) -> bool {
     true
 }
 
-pub fn words(answer: &[usize], lengths: &[usize], c: Check, number: usize, room: &[u32]) -> Check {
-    let n = length_of(lengths, number);
+pub fn words(answer: &[usize], lengths: &[usize], c: Check, room: &[u32]) -> Check {
+    let n = calls::number(lengths, c.compared);
     let end = end_of(answer, c.at, n);
     let rest = rest_of(answer, c.at, 9);
     let same = same_words(entries(answer, c.at, end), rest, n, room);
-    after(c, end, number, same)
+    after(c, end, same)
 }
 
 // ---- rooms of flags
 
-fn flag(b: bool) -> usize {
+pub fn flag(b: bool) -> usize {
     if b { 1 } else { 0 }
 }
 
@@ -230,12 +234,12 @@ fn same_flags(entries: &[usize], rest: usize, n: usize, room: &[bool]) -> bool {
     true
 }
 
-pub fn flags(answer: &[usize], lengths: &[usize], c: Check, number: usize, room: &[bool]) -> Check {
-    let n = length_of(lengths, number);
+fn flags(answer: &[usize], lengths: &[usize], c: Check, room: &[bool]) -> Check {
+    let n = calls::number(lengths, c.compared);
     let end = end_of(answer, c.at, n);
     let rest = rest_of(answer, c.at, 1);
     let same = same_flags(entries(answer, c.at, end), rest, n, room);
-    after(c, end, number, same)
+    after(c, end, same)
 }
 
 // ---- the waiting list
@@ -282,41 +286,78 @@ fn same_waiting(
     true
 }
 
-pub fn waiting(
+fn waiting(
     answer: &[usize],
     lengths: &[usize],
     c: Check,
-    number: usize,
     wholes: &[[u32; 6]],
     triples: &[[f64; 3]],
 ) -> Check {
-    let n = length_of(lengths, number);
+    let n = calls::number(lengths, c.compared);
     let end = end_of(answer, c.at, n);
     let rest = rest_of(answer, c.at, 9);
     let same = same_waiting(entries(answer, c.at, end), rest, n, wholes, triples);
-    after(c, end, number, same)
+    after(c, end, same)
+}
+
+// ---- the rooms that a fit of one tree and that of a forest are both lent
+
+pub fn nodes<'a>(
+    answer: &[usize],
+    lengths: &[usize],
+    c: Check,
+    value: &'a [f64],
+    feature: &'a [u32],
+    threshold: &'a [f64],
+    score: &'a [f64],
+    yes: &'a [u32],
+    no: &'a [u32],
+) -> Check {
+    let d = reals(answer, lengths, c, value);
+    let e = words(answer, lengths, d, feature);
+    let f = reals(answer, lengths, e, threshold);
+    let g = reals(answer, lengths, f, score);
+    let h = words(answer, lengths, g, yes);
+    words(answer, lengths, h, no)
+}
+
+pub fn work<'a>(
+    answer: &[usize],
+    lengths: &[usize],
+    c: Check,
+    order: &'a [u32],
+    scratch: &'a [u32],
+    marks: &'a [bool],
+    wholes: &'a [[u32; 6]],
+    triples: &'a [[f64; 3]],
+) -> Check {
+    let d = words(answer, lengths, c, order);
+    let e = words(answer, lengths, d, scratch);
+    let f = flags(answer, lengths, e, marks);
+    waiting(answer, lengths, f, wholes, triples)
 }
 
 // ---- the verdict
 
-pub fn judged(answer: &[usize], c: Check) -> Verdict {
+// Rooms are written after what is told.
+pub fn first(told: usize) -> Check {
+    Check {
+        at: told,
+        compared: 0,
+        wrong: 0,
+    }
+}
+
+pub fn judged(answer: &[usize], told: &[usize], c: Check) -> Verdict {
+    let wrong = wrong_number(answer, told);
+    if 0 < wrong {
+        return Verdict::Number(wrong);
+    }
     if c.at != answer.len() {
         return Verdict::Malformed;
     }
     if 0 < c.wrong {
         return Verdict::Room(c.wrong);
-    }
-    Verdict::Agrees
-}
-
-// Of a call that tells numbers and leaves no room.
-pub fn judged_numbers(answer: &[usize], told: &[usize]) -> Verdict {
-    let wrong = wrong_number(answer, told);
-    if 0 < wrong {
-        return Verdict::Number(wrong);
-    }
-    if told.len() != answer.len() {
-        return Verdict::Malformed;
     }
     Verdict::Agrees
 }
