@@ -10,9 +10,8 @@ mod tree_fits;
 
 use crate::rooms::Verdict;
 
-fn more(n: usize) -> usize {
-    if n < 18446744073709551615 { n + 1 } else { n }
-}
+// No line has more numbers.
+const LONGEST: usize = 512;
 
 // ---- telling
 
@@ -59,26 +58,23 @@ fn column(v: Verdict) -> usize {
     }
 }
 
-fn tallied(tally: &[usize], kind: usize, column: usize) -> usize {
-    if 13 < kind {
-        return 0;
+fn place(kind: usize, column: usize) -> usize {
+    if kind <= 13 {
+        if column <= 2 {
+            return kind * 3 + column;
+        }
     }
-    if 2 < column {
-        return 0;
-    }
-    calls::number(tally, kind * 3 + column)
+    calls::NOWHERE
 }
 
-fn count(kind: usize, column: usize, tally: &mut [usize]) {
-    if 13 < kind {
-        return;
-    }
-    if 2 < column {
-        return;
-    }
-    let at = kind * 3 + column;
+fn tallied(tally: &[usize], kind: usize, column: usize) -> usize {
+    calls::number(tally, place(kind, column))
+}
+
+fn count(kind: usize, v: Verdict, tally: &mut [usize]) {
+    let at = place(kind, column(v));
     if at < tally.len() {
-        tally[at] = more(tally[at]);
+        tally[at] = calls::next(tally[at]);
     }
 }
 
@@ -132,8 +128,8 @@ fn replay(kind: usize, call: &[usize], reals: &[f64], words: &[u32], answer: &[u
 }
 
 fn view(kind: usize, call: &[usize], answer: &[usize]) -> Verdict {
-    let mut reals = [0.0; 512];
-    let mut words = [0u32; 512];
+    let mut reals = [0.0; LONGEST];
+    let mut words = [0u32; LONGEST];
     calls::as_reals(call, &mut reals);
     calls::as_words(call, &mut words);
     replay(kind, call, &reals, &words, answer)
@@ -165,12 +161,12 @@ fn case(kind: usize, numbers: &[usize]) -> Verdict {
 }
 
 fn read_case(line: usize, text: &[u8], tally: &mut [usize]) {
-    let mut numbers = [0usize; 512];
+    let mut numbers = [0usize; LONGEST];
     let n = lines::numbers(text, &mut numbers);
     let kind = kind_of(&numbers[0..n]);
     let v = case(kind, &numbers[0..n]);
     tell(line, v);
-    count(kind, column(v), tally);
+    count(kind, v, tally);
 }
 
 // The cases from the list's second line on.
@@ -180,7 +176,7 @@ fn read_cases(text: &[u8], tally: &mut [usize]) {
     while at < text.len() {
         let end = lines::find(text, at, b'\n');
         read_case(line, &text[at..end], tally);
-        line = more(line);
+        line = calls::next(line);
         at = end + 1;
     }
 }

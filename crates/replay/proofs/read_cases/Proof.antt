@@ -36,8 +36,8 @@ part-read-case-end c = search needs
 read-case-requires : tie.Need-read-case-requires Inv-loop μ-loop
 read-case-requires c κs = search needs
 
-more-requires : tie.Need-more-requires Inv-loop μ-loop
-more-requires c κs = search needs
+next-requires : tie.Need-next-requires Inv-loop μ-loop
+next-requires c κs = search needs
 
 add-at-2 : tie.Need-add-at-2 Inv-loop μ-loop
 add-at-2 c = search needs
@@ -68,7 +68,7 @@ read-cases-spec =
     part-read-case-start
     part-read-case-end
     read-case-requires
-    more-requires
+    next-requires
     add-at-2
     loop-less
     loop-again
