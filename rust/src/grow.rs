@@ -34,8 +34,8 @@ pub(crate) fn grow(
     let settings = parameters.settings();
     let source = Source::new(given, settings, parameters.seed);
     let trees = given.counts.shape().0;
-    let groups = plan(&source, trees);
-    let threads = threads(parameters.n_threads, given.x.shape()).min(groups.len());
+    let (groups, words) = plan(&source, trees);
+    let threads = threads(parameters.n_threads, given.x.shape(), words).min(groups.len());
     let field = Field {
         given,
         settings,
@@ -59,13 +59,14 @@ pub(crate) fn grow(
         .filter_map(OnceLock::into_inner)
         .collect();
     let grown = grown.map_err(|it| explain::fit(&it, given, trees, None))?;
-    Ok(join(&grown))
+    Ok(join(grown))
 }
 
-fn plan(source: &Source, trees: usize) -> Vec<Range<usize>> {
+/// Groups of trees that follow each other, and how many words of tape the largest has.
+fn plan(source: &Source, trees: usize) -> (Vec<Range<usize>>, usize) {
     let most = trees / PARTS + 1;
     let mut groups: Vec<Range<usize>> = Vec::new();
-    let mut words = 0;
+    let (mut words, mut largest) = (0, 0);
     for tree in 0..trees {
         let own = source.words(tree);
         match groups.last_mut() {
@@ -78,13 +79,14 @@ fn plan(source: &Source, trees: usize) -> Vec<Range<usize>> {
                 words = own;
             }
         }
+        largest = words.max(largest);
     }
-    groups
+    (groups, largest)
 }
 
-fn threads(said: Option<usize>, shape: (usize, usize)) -> usize {
+fn threads(said: Option<usize>, shape: (usize, usize), words: usize) -> usize {
     let machine = || thread::available_parallelism().map_or(1, usize::from);
-    let each = Work::bytes(shape) + 4 * TAPE;
+    let each = Work::bytes(shape) + 4 * words;
     said.unwrap_or_else(machine)
         .clamp(1, (MEMORY / each).max(1))
 }
@@ -127,8 +129,8 @@ impl Field<'_> {
     }
 }
 
-/// Lays groups one after another.
-fn join(groups: &[Grown]) -> Grown {
+/// Lays groups one after another, each let go once it is laid.
+fn join(groups: Vec<Grown>) -> Grown {
     let mut whole = Grown {
         starts: vec![0],
         ..Grown::default()

@@ -182,7 +182,7 @@ impl fmt::Display for Fault {
             Fault::Rows(is) => write!(f, "{is} rows, where 1 to {MAX_ROWS} are taken"),
             Fault::Features(is) => write!(f, "{is} features, where 1 to {MAX_FEATURES} are taken"),
             Fault::Trees(is) => write!(f, "{is} trees, where 1 to {MAX_TREES} are taken"),
-            Fault::Length { list, is, asked } => write!(f, "{is} {list}, where {asked} are asked"),
+            Fault::Length { list, is, asked } => write!(f, "{list}: {is}, where {asked} are asked"),
             Fault::Ragged { row, is, asked } => {
                 write!(f, "row {row} has {is} values, and the first row {asked}")
             }

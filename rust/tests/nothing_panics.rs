@@ -25,6 +25,12 @@ fn told<T>(answer: Result<T, Refusal>, tally: &mut [usize; 11]) -> Option<T> {
     }
 }
 
+/// So many answers, and refusals by number, there are to be at least.
+fn held(tally: [usize; 11], least: [usize; 11]) {
+    let enough = tally.iter().zip(least).all(|(is, least)| *is >= least);
+    assert!(enough, "{tally:?}");
+}
+
 impl Maker {
     /// Mostly as asked.
     fn about(&mut self, asked: usize) -> usize {
@@ -111,10 +117,7 @@ fn seeded() {
         }
     }
     let least = [5000, 500, 500, 500, 0, 100, 0, 0, 0, 100, 10];
-    assert!(
-        tally.iter().zip(least).all(|(is, least)| *is >= least),
-        "{tally:?}"
-    );
+    held(tally, least);
     assert_eq!(tally[7], 0, "a seed's draws are good");
 }
 
@@ -149,8 +152,7 @@ fn lent() {
         let x = made.any_matrix(rows, features);
         let y = made.about(rows);
         let y = made.any_numbers(y);
-        let trees = 1 + made.up_to(2);
-        let counted = 1 + made.about(rows - 1);
+        let (trees, counted) = (1 + made.up_to(2), 1 + made.about(rows - 1));
         let counts = match made.chance(3) {
             true => Counts::ones(trees, counted).unwrap(),
             false => made.counts(trees, counted),
@@ -160,32 +162,20 @@ fn lent() {
             false => vec![],
         };
         let listings = made.any_listings(&x);
-        let given = Given {
-            x: &x,
-            y: &y,
-            weights: &weights,
-            counts: &counts,
-            listings: &listings,
-        };
+        #[rustfmt::skip]
+        let given = Given { x: &x, y: &y, weights: &weights, counts: &counts, listings: &listings };
         let parameters = made.parameters();
         let draws = match made.chance(2) {
             true => made.any_draws(trees, features),
             false => Draws::seeded(&given, &parameters),
         };
-        told(
-            RandomForestRegressor::fit_given(&given, &draws, &parameters),
-            &mut tally,
-        );
-        told(
-            DecisionTreeRegressor::fit_given(&given, &draws, &Default::default()),
-            &mut tally,
-        );
+        let forest = RandomForestRegressor::fit_given(&given, &draws, &parameters);
+        told(forest, &mut tally);
+        let tree = DecisionTreeRegressor::fit_given(&given, &draws, &Default::default());
+        told(tree, &mut tally);
     }
     let least = [500, 50, 500, 500, 50, 100, 0, 300, 0, 0, 0];
-    assert!(
-        tally.iter().zip(least).all(|(is, least)| *is >= least),
-        "{tally:?}"
-    );
+    held(tally, least);
 }
 
 #[test]
@@ -214,10 +204,7 @@ fn tables() {
         }
     }
     let least = [3000, 10, 10, 0, 0, 0, 0, 0, 1000, 0, 0];
-    assert!(
-        tally.iter().zip(least).all(|(is, least)| *is >= least),
-        "{tally:?}"
-    );
+    held(tally, least);
 }
 
 fn damage(made: &mut Maker, starts: &mut Vec<u32>, nodes: &mut Nodes) {

@@ -60,37 +60,16 @@ fn lengths() {
         let parameters = parameters().with_bootstrap(bootstrap);
         RandomForestRegressor::fit_with_weights(&x, y, weights, parameters)
     };
-    refused(fit(&[1.0], &[], true), 2, "1 targets, where 2 are asked");
+    refused(fit(&[1.0], &[], true), 2, "targets: 1, where 2 are asked");
     refused(
         fit(&[1.0; 2], &[1.0], true),
         2,
-        "1 weights, where 2 are asked",
+        "weights: 1, where 2 are asked",
     );
     refused(
         fit(&[1.0; 2], &[1.0; 3], false),
         2,
-        "3 weights, where 2 are asked",
-    );
-    refused(
-        DenseMatrix::from_2d_array(&[vec![1.0], vec![]]),
-        2,
-        "row 1 has 0 values",
-    );
-    refused(DenseMatrix::new(usize::MAX, 2, vec![]), 2, "0 values");
-    refused(
-        Counts::new(2, 2, vec![1; 3]),
-        2,
-        "3 counts, where 4 are asked",
-    );
-    let ragged = Listings::from_columns(&[vec![0, 1], vec![0]]);
-    refused(ragged, 2, "1 row numbers in a listing, where 2 are asked");
-    let one = Listings::from_columns(&[[0, 1]]).unwrap();
-    refused(one.check(&x), 2, "1 listings, where 2 are asked");
-    let short = Listings::from_columns(&[[1], [0]]).unwrap();
-    refused(
-        short.check(&x),
-        2,
-        "feature 0: it ends after 1 rows, and row 0 is missing",
+        "weights: 3, where 2 are asked",
     );
 
     let forest = fit(&[1.0; 2], &[], true).unwrap();
@@ -98,26 +77,55 @@ fn lengths() {
     refused(
         forest.predict(&narrow),
         2,
-        "1 values a row, where 2 are asked",
+        "values a row: 1, where 2 are asked",
     );
     let kept = RandomForestRegressor::fit(&x, &[1.0; 2], parameters().with_keep_samples(true));
     let means = kept.unwrap().predict_oob(&x).unwrap();
-    refused(means.error(&[1.0]), 2, "1 targets, where 2 are asked");
+    refused(means.error(&[1.0]), 2, "targets: 1, where 2 are asked");
+}
+
+#[test]
+fn shapes() {
+    let x = DenseMatrix::from_2d_array(&[[1.0, 2.0], [3.0, 4.0]]).unwrap();
+    refused(
+        DenseMatrix::from_2d_array(&[vec![1.0], vec![]]),
+        2,
+        "row 1 has 0 values",
+    );
+    refused(DenseMatrix::new(usize::MAX, 2, vec![]), 2, "values: 0");
+    refused(
+        Counts::new(2, 2, vec![1; 3]),
+        2,
+        "counts: 3, where 4 are asked",
+    );
+    refused(Counts::new(usize::MAX, 2, vec![]), 1, "trees");
+    let ragged = Listings::from_columns(&[vec![0, 1], vec![0]]);
+    refused(ragged, 2, "row numbers in a listing: 1, where 2 are asked");
+    let one = Listings::from_columns(&[[0, 1]]).unwrap();
+    refused(one.check(&x), 2, "listings: 1, where 2 are asked");
+    let short = Listings::from_columns(&[[1], [0]]).unwrap();
+    refused(
+        short.check(&x),
+        2,
+        "feature 0: it ends after 1 rows, and row 0 is missing",
+    );
 }
 
 #[test]
 fn lent_lengths() {
     let x = DenseMatrix::from_2d_array(&[[1.0], [2.0]]).unwrap();
     let listings = Listings::sorted(&x);
-    let fit = |counts: &Counts, draws: &Draws| {
-        let given = Given {
-            x: &x,
+    fn given<'a>(x: &'a DenseMatrix, listings: &'a Listings, counts: &'a Counts) -> Given<'a> {
+        Given {
+            x,
             y: &[1.0; 2],
             weights: &[],
             counts,
-            listings: &listings,
-        };
-        RandomForestRegressor::fit_given(&given, draws, &parameters())
+            listings,
+        }
+    }
+    let fit = |counts: &Counts, draws: &Draws| {
+        RandomForestRegressor::fit_given(&given(&x, &listings, counts), draws, &parameters())
     };
     let counts = Counts::ones(2, 2).unwrap();
     let mut draws = Draws::none();
@@ -134,17 +142,14 @@ fn lent_lengths() {
     refused(
         fit(&Counts::ones(2, 3).unwrap(), &draws),
         2,
-        "6 counts, where 4 are asked",
+        "counts: 6, where 4 are asked",
     );
-    let given = Given {
-        x: &x,
-        y: &[1.0; 2],
-        weights: &[],
-        counts: &counts,
-        listings: &listings,
-    };
-    let tree = DecisionTreeRegressor::fit_given(&given, &draws, &Default::default());
-    refused(tree, 2, "4 counts, where 2 are asked");
+    let tree = DecisionTreeRegressor::fit_given(
+        &given(&x, &listings, &counts),
+        &draws,
+        &Default::default(),
+    );
+    refused(tree, 2, "counts: 4, where 2 are asked");
 }
 
 #[test]
@@ -207,9 +212,9 @@ fn counts_and_draws() {
 }
 
 #[test]
-fn tables_and_bags() {
+fn bags() {
     let x = DenseMatrix::from_2d_array(&[[1.0], [2.0], [3.0]]).unwrap();
-    let forest = RandomForestRegressor::fit(&x, &[0.0, 1.0, 5.0], parameters()).unwrap();
+    let forest = RandomForestRegressor::fit(&x, &[0.0; 3], parameters()).unwrap();
     refused(forest.predict_oob(&x), 9, "keep_samples");
     let kept = RandomForestRegressor::fit(&x, &[0.0; 3], parameters().with_keep_samples(true));
     let other = DenseMatrix::from_2d_array(&[[1.0]]).unwrap();
@@ -218,43 +223,32 @@ fn tables_and_bags() {
         10,
         "the rows that the forest was fitted on",
     );
+}
 
+#[test]
+fn tables() {
+    let x = DenseMatrix::from_2d_array(&[[1.0], [2.0], [3.0]]).unwrap();
+    let forest = RandomForestRegressor::fit(&x, &[0.0, 1.0, 5.0], parameters()).unwrap();
     let starts = forest.starts().to_vec();
-    let table =
-        |starts: &[u32], nodes: Nodes| RandomForestRegressor::from_table(1, starts.to_vec(), nodes);
-    assert!(table(&starts, forest.nodes().clone()).is_ok());
-    refused(table(&[], forest.nodes().clone()), 1, "0 trees");
+    let table = |starts: &[u32], nodes: &Nodes| {
+        RandomForestRegressor::from_table(1, starts.to_vec(), nodes.clone())
+    };
+    assert!(table(&starts, forest.nodes()).is_ok());
+    refused(table(&[], forest.nodes()), 1, "0 trees");
     refused(
-        table(&[1, 2], forest.nodes().clone()),
+        table(&[1, 2], forest.nodes()),
         8,
         "the starts break at place 0",
     );
     refused(
-        table(&[0, 0], forest.nodes().clone()),
+        table(&[0, 0], forest.nodes()),
         8,
         "the starts break at place 1",
     );
     refused(
-        table(&[0, u32::MAX], forest.nodes().clone()),
+        table(&[0, u32::MAX], forest.nodes()),
         8,
         "the starts break at place 1",
-    );
-    let split = |nodes: &Nodes| {
-        nodes
-            .true_child
-            .iter()
-            .position(|child| *child > 0)
-            .unwrap()
-    };
-    let mut loops = forest.nodes().clone();
-    let at = split(&loops);
-    let tree = starts.iter().filter(|start| **start as usize <= at).count() - 1;
-    let node = at - starts[tree] as usize;
-    loops.true_child[at] = node as u32;
-    refused(
-        table(&starts, loops),
-        8,
-        &format!("node {node} of tree {tree} is no good split"),
     );
     refused(
         DecisionTreeRegressor::from_table(1, Nodes::default()),
@@ -265,6 +259,28 @@ fn tables_and_bags() {
         DecisionTreeRegressor::from_table(0, Nodes::default()),
         1,
         "0 features",
+    );
+}
+
+#[test]
+fn a_table_that_loops() {
+    let x = DenseMatrix::from_2d_array(&[[1.0], [2.0], [3.0]]).unwrap();
+    let forest = RandomForestRegressor::fit(&x, &[0.0, 1.0, 5.0], parameters()).unwrap();
+    let starts = forest.starts().to_vec();
+    let mut loops = forest.nodes().clone();
+    let at = loops
+        .true_child
+        .iter()
+        .position(|child| *child > 0)
+        .unwrap();
+    let tree = starts.iter().filter(|start| **start as usize <= at).count() - 1;
+    let node = at - starts[tree] as usize;
+    loops.true_child[at] = node as u32;
+    let sentence = format!("node {node} of tree {tree} is no good split");
+    refused(
+        RandomForestRegressor::from_table(1, starts, loops),
+        8,
+        &sentence,
     );
 }
 
