@@ -85,3 +85,8 @@ pub const MAX_ROWS: usize = 65_535;
 pub const MAX_FEATURES: usize = 1_024;
 /// The most trees that a forest has.
 pub const MAX_TREES: usize = 1_024;
+
+/// The page for those who come from smartcore, whose examples run as tests too.
+#[cfg(doctest)]
+#[doc = include_str!("../../docs/SMARTCORE.md")]
+struct ComingFromSmartcore;
