@@ -144,6 +144,13 @@ fn running(weights: &[f64]) -> Vec<f64> {
 mod tests {
     use super::*;
 
+    /// Worked out apart from this code.
+    #[test]
+    fn bags_come_of_one_stream() {
+        let bags = Counts::drawn(2, 6, 42).unwrap();
+        assert_eq!(bags.numbers(), [0, 0, 2, 1, 1, 2, 0, 0, 1, 0, 2, 3]);
+    }
+
     #[test]
     fn bags_by_weight_leave_out_what_weighs_nothing() {
         let weights = [0.0, 3.0, -0.0, 1.0, 0.0];

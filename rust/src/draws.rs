@@ -112,24 +112,28 @@ impl<'a> Source<'a> {
     /// Adds one tree's draws. The best splitter takes no thresholds, so its orders are drawn ahead, for as many searches as there can
     /// be; the random splitter's draws follow the growth.
     pub(crate) fn draw(&self, tree: usize, draws: &mut Draws) {
-        let mut own = TreeDraws::new(self.seed, tree, self.given.x.shape().1);
-        if self.fits && self.settings.random {
-            scout::draw(
-                self.given,
-                tree,
-                self.settings,
-                own,
-                &mut draws.words,
-                &mut draws.thresholds,
-            );
-        } else {
-            let end = draws.words.len() + self.words(tree);
-            draws.words.reserve(end - draws.words.len());
-            while draws.words.len() < end {
-                draws.words.extend_from_slice(own.order());
+        if self.fits {
+            let own = TreeDraws::new(self.seed, tree, self.given.x.shape().1);
+            match self.settings.random {
+                true => self.follow(tree, own, draws),
+                false => self.ahead(tree, own, draws),
             }
         }
         draws.cut();
+    }
+
+    fn follow(&self, tree: usize, own: TreeDraws, draws: &mut Draws) {
+        let (words, thresholds) = (&mut draws.words, &mut draws.thresholds);
+        scout::draw(self.given, tree, self.settings, own, words, thresholds);
+    }
+
+    fn ahead(&self, tree: usize, mut own: TreeDraws, draws: &mut Draws) {
+        let more = self.words(tree);
+        let end = draws.words.len() + more;
+        draws.words.reserve(more);
+        while draws.words.len() < end {
+            draws.words.extend_from_slice(own.order());
+        }
     }
 }
 

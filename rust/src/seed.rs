@@ -120,6 +120,21 @@ mod tests {
         assert_eq!(words, published);
     }
 
+    /// Worked out apart from this code, so that seeds stay what they are.
+    #[test]
+    fn draws_are_made_as_they_are_said_to_be() {
+        let mut tree = TreeDraws::new(42, 1, 4);
+        let orders: Vec<u32> = (0..3).flat_map(|_| tree.order().to_vec()).collect();
+        assert_eq!(orders, [1, 3, 2, 0, 3, 1, 0, 2, 0, 2, 1, 3]);
+        let mut last = TreeDraws::new(u64::MAX, 1, 2);
+        let mut first = TreeDraws::new(0, 0, 2);
+        assert_eq!(last.order(), first.order());
+        let mut draws = SplitMix64::new(7);
+        let thresholds = [0; 3].map(|_| draws.within(-2.0, 6.0));
+        let worked_out = [1.118637987130172, -1.865693643774751, 5.206085444855067];
+        assert_eq!(thresholds, worked_out);
+    }
+
     #[test]
     fn draws_stay_within_their_bounds() {
         let mut draws = SplitMix64::new(7);

@@ -145,6 +145,30 @@ fn read(
 }
 
 #[test]
+fn shapes_that_no_memory_holds() {
+    let endless = [(usize::MAX, 0), (0, usize::MAX), (0, 1 << 32)];
+    for (rows, features) in endless {
+        let x = DenseMatrix::new(rows, features, vec![]).unwrap();
+        let (counts, listings) = (Counts::ones(1, 1).unwrap(), Listings::sorted(&x));
+        #[rustfmt::skip]
+        let given = Given { x: &x, y: &[], weights: &[], counts: &counts, listings: &listings };
+        let draws = Draws::seeded(&given, &Default::default());
+        let mut tally = [0; 11];
+        told(
+            RandomForestRegressor::fit_given(&given, &draws, &Default::default()),
+            &mut tally,
+        );
+        told(
+            Fitting::new(&x, &[]).forest(&Default::default()),
+            &mut tally,
+        );
+        told(Fitting::new(&x, &[]).tree(&Default::default()), &mut tally);
+        told(listings.check(&x), &mut tally);
+        assert_eq!(tally[1], 4);
+    }
+}
+
+#[test]
 fn lent() {
     let (mut made, mut tally) = (Maker::new(32), [0; 11]);
     for _ in 0..4000 {

@@ -45,6 +45,12 @@ fn corrections_are_the_crates_predictions() {
 }
 
 #[test]
+fn corrections_stay_what_they_are() {
+    let corrected = fs::read_to_string(show("new-house-corrected.csv")).unwrap();
+    assert_eq!(correct(&[]).out, corrected);
+}
+
+#[test]
 fn the_forest_is_told_of_beside() {
     let told = correct(&[]).err;
     for line in [
