@@ -1,0 +1,271 @@
+//! The words of the command line, and the help that is made of the same list.
+
+use crate::{Output, Stop, record};
+use std::fmt::Write;
+use tailboardy::{RandomForestRegressorParameters, Splitter};
+
+/// An option: what it is called, what follows it (nothing: a flag), and what it does.
+struct Choice {
+    name: &'static str,
+    value: &'static str,
+    help: &'static str,
+}
+
+const fn choice(name: &'static str, value: &'static str, help: &'static str) -> Choice {
+    Choice { name, value, help }
+}
+
+/// A command: its files, what it does, its options by groups, and what runs it.
+pub struct Command {
+    pub name: &'static str,
+    files: &'static [&'static str],
+    pub about: &'static str,
+    more: &'static str,
+    groups: &'static [&'static [Choice]],
+    pub run: fn(&Args) -> Result<Output, Stop>,
+}
+
+const COLUMNS: &[Choice] = &[
+    choice("--target", "NAME", "the column that is predicted"),
+    choice(
+        "--weight",
+        "NAME",
+        "a column of weights: how much each fixture counts",
+    ),
+    choice(
+        "--features",
+        "A,B,..",
+        "the columns to go by; else every other column of numbers",
+    ),
+    choice(
+        "--id",
+        "A,B,..",
+        "columns that are no features, even if they hold numbers",
+    ),
+    choice(
+        "--listing",
+        "FILE",
+        "listings of one's own, in place of sorted ones: a column of row numbers for each feature",
+    ),
+];
+
+const GROWTH: &[Choice] = &[
+    choice("--n-trees", "N", "how many trees, up to 1024; else 100"),
+    choice(
+        "--m",
+        "N",
+        "how many features a search tries; else the root of their number",
+    ),
+    choice("--max-depth", "N", "the greatest depth; else none"),
+    choice(
+        "--min-samples-leaf",
+        "N",
+        "how many fixtures a leaf has at least; else 1",
+    ),
+    choice(
+        "--min-samples-split",
+        "N",
+        "how many fixtures a node must have to be split; else 2",
+    ),
+    choice(
+        "--splitter",
+        "best|random",
+        "how cuts are chosen; else best",
+    ),
+    choice(
+        "--no-bootstrap",
+        "",
+        "every tree has all fixtures once, and takes the weights itself; no out-of-bag error then",
+    ),
+    choice(
+        "--seed",
+        "N",
+        "what bags, orders and thresholds are drawn from; else 0",
+    ),
+    choice(
+        "--n-threads",
+        "N",
+        "how many threads; else as many as the machine runs. It changes nothing but the time",
+    ),
+];
+
+const OUT: &[Choice] = &[choice(
+    "--out",
+    "FILE",
+    "where the corrections go; else to standard output",
+)];
+
+pub const COMMANDS: [Command; 3] = [
+    Command {
+        name: "check",
+        files: &["SHOW.csv"],
+        about: "says whether a show, and its listing, is fit to use, and what is wrong where it is not",
+        more: "A listing is a table with a column for each feature, named as in the show. Its cells are row numbers, counted\n\
+               from 0, in the order in which the feature's values never fall. Without --features its columns are the features.",
+        groups: &[COLUMNS],
+        run: crate::check::run,
+    },
+    Command {
+        name: "fit",
+        files: &["SHOW.csv"],
+        about: "fits a forest on a show and tells its out-of-bag error and importances",
+        more: "Nothing is kept: a file for models is still to come. `correct` fits and predicts in one run.",
+        groups: &[COLUMNS, GROWTH],
+        run: crate::fit::fit,
+    },
+    Command {
+        name: "correct",
+        files: &["OLD.csv", "NEW.csv"],
+        about: "fits a forest on the old show and writes a correction for each fixture of the new one",
+        more: "Written are the new show's columns, or with --id those alone, and a column NAME_correction, NAME being the target.\n\
+               Without --features both shows' common columns of numbers are the features. What the forest is like goes to\n\
+               standard error.",
+        groups: &[COLUMNS, GROWTH, OUT],
+        run: crate::fit::correct,
+    },
+];
+
+/// What was said.
+#[derive(Debug)]
+pub struct Args {
+    pub files: Vec<String>,
+    said: Vec<(&'static str, String)>,
+}
+
+impl Command {
+    fn usage(&self) -> String {
+        format!(
+            "tailboardy {} {} [OPTION..]",
+            self.name,
+            self.files.join(" ")
+        )
+    }
+
+    pub fn help(&self) -> String {
+        let mut text = format!("{}\n\n{}.\n{}\n\n", self.usage(), self.about, self.more);
+        for choice in self.groups.iter().copied().flatten() {
+            let said = format!("{} {}", choice.name, choice.value);
+            let _ = writeln!(text, "  {said:<24}{}", choice.help);
+        }
+        text + "\nExit status: 0 done, 1 refused, with the reason on standard error, 2 bad usage.\n"
+    }
+
+    /// Sorts out the words that follow the command's name. None where help is asked.
+    pub fn parse(&self, words: &[String]) -> Result<Option<Args>, Stop> {
+        let (mut files, mut said) = (Vec::new(), Vec::new());
+        let mut words = words.iter();
+        while let Some(word) = words.next() {
+            match word.as_str() {
+                "--help" | "-h" => return Ok(None),
+                "--" => files.extend(words.by_ref().cloned()),
+                option if option.starts_with("--") => {
+                    let (name, value) = self.option(option, &mut words)?;
+                    if said.iter().any(|(it, _)| *it == name)
+                        && !["--features", "--id"].contains(&name)
+                    {
+                        return Err(self.bad(&format!("{name} is said twice")));
+                    }
+                    said.push((name, value));
+                }
+                _ => files.push(word.clone()),
+            }
+        }
+        if files.len() != self.files.len() {
+            return Err(self.bad(&format!("the files asked are {}", self.files.join(" "))));
+        }
+        Ok(Some(Args { files, said }))
+    }
+
+    /// An option and its value, which follows it, or stands behind a sign of equality.
+    fn option<'a>(
+        &self,
+        word: &str,
+        words: &mut impl Iterator<Item = &'a String>,
+    ) -> Result<(&'static str, String), Stop> {
+        let (name, behind) = match word.split_once('=') {
+            Some((name, value)) => (name, Some(value.to_owned())),
+            None => (word, None),
+        };
+        let mut choices = self.groups.iter().copied().flatten();
+        let choice = choices.find(|choice| choice.name == name);
+        let choice = choice.ok_or_else(|| self.bad(&format!("there is no option {name}")))?;
+        match (choice.value, behind) {
+            ("", None) => Ok((choice.name, String::new())),
+            ("", Some(_)) => Err(self.bad(&format!("{name} takes nothing"))),
+            (_, Some(value)) => Ok((choice.name, value)),
+            (value, None) => match words.next() {
+                Some(word) => Ok((choice.name, word.clone())),
+                None => Err(self.bad(&format!("{name} takes {value}"))),
+            },
+        }
+    }
+
+    fn bad(&self, why: &str) -> Stop {
+        Stop::Usage(format!(
+            "{why}\nusage: {}\n`tailboardy {} --help` tells more",
+            self.usage(),
+            self.name
+        ))
+    }
+}
+
+impl Args {
+    /// What an option was given.
+    pub fn get(&self, name: &str) -> Option<&str> {
+        let said = self.said.iter().find(|(it, _)| *it == name);
+        said.map(|(_, value)| value.as_str())
+    }
+
+    /// The names that an option was given, parted like the cells of a table; none where it was not.
+    pub fn names(&self, name: &str) -> Result<Option<Vec<String>>, Stop> {
+        let mut names = None;
+        for (_, value) in self.said.iter().filter(|(it, _)| *it == name) {
+            let record =
+                record::record(value).map_err(|why| Stop::Usage(format!("{name}: {why}")))?;
+            let trimmed = record.iter().map(|it| it.trim().to_owned());
+            names.get_or_insert_with(Vec::new).extend(trimmed);
+        }
+        Ok(names)
+    }
+
+    fn number<N: TryFrom<u64>>(&self, name: &str, most: u64) -> Result<Option<N>, Stop> {
+        let read = |text: &str| {
+            let number = text.parse::<u64>().ok().filter(|it| *it <= most);
+            let number = number.and_then(|it| N::try_from(it).ok());
+            let why = || format!("{name} {text}: a whole number up to {most} is asked");
+            number.ok_or_else(|| Stop::Usage(why()))
+        };
+        self.get(name).map(read).transpose()
+    }
+
+    /// How the forest is to be grown.
+    pub fn parameters(&self) -> Result<RandomForestRegressorParameters, Stop> {
+        let plain = RandomForestRegressorParameters::default();
+        let splitter = match self.get("--splitter") {
+            None | Some("best") => Splitter::Best,
+            Some("random") => Splitter::Random,
+            Some(other) => {
+                return Err(Stop::Usage(format!(
+                    "--splitter {other}: best or random is asked"
+                )));
+            }
+        };
+        let count = u64::from(u32::MAX);
+        Ok(RandomForestRegressorParameters {
+            n_trees: self.number("--n-trees", count)?.unwrap_or(plain.n_trees),
+            m: self.number("--m", count)?,
+            max_depth: self.number("--max-depth", u16::MAX.into())?,
+            min_samples_leaf: self
+                .number("--min-samples-leaf", count)?
+                .unwrap_or(plain.min_samples_leaf),
+            min_samples_split: self
+                .number("--min-samples-split", count)?
+                .unwrap_or(plain.min_samples_split),
+            bootstrap: self.get("--no-bootstrap").is_none(),
+            keep_samples: true,
+            splitter,
+            seed: self.number("--seed", u64::MAX)?.unwrap_or(plain.seed),
+            n_threads: self.number("--n-threads", count)?,
+        })
+    }
+}

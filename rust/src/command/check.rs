@@ -1,0 +1,40 @@
+//! The command `check`.
+
+use crate::args::Args;
+use crate::csv::Csv;
+use crate::fit::refused;
+use crate::listing::Listing;
+use crate::show::{Roles, Show};
+use crate::{Output, Stop, report};
+use tailboardy::Fitting;
+
+/// Makes the proved checks of a fit on what the files hold.
+pub fn run(args: &Args) -> Result<Output, Stop> {
+    let roles = Roles::said(args)?;
+    let csv = Csv::read(&args.files[0])?;
+    roles.ids_in(&csv)?;
+    let features = match (&roles.features, args.get("--listing")) {
+        (None, Some(listed)) => Csv::read(listed)?.names().to_vec(),
+        _ => roles.features(&csv, None)?,
+    };
+    let show = Show::new(csv, &roles, features)?;
+    let listing = Listing::lent(args, &show)?;
+    let mut fitting = Fitting::new(&show.x, &show.y).with_weights(&show.weights);
+    if let Some(listing) = &listing {
+        fitting = fitting.with_listings(&listing.listings);
+    }
+    let checked = fitting.check();
+    checked.map_err(|refusal| refused(&refusal, &show, listing.as_ref()))?;
+    let mut text = format!(
+        "{} is fit to use\n{}",
+        show.csv.file(),
+        report::columns(&show)
+    );
+    if let Some(listing) = &listing {
+        text += &format!(
+            "{} is fit to use: every column has each row once, and no value falls along it\n",
+            listing.file()
+        );
+    }
+    Ok(Output::told(text))
+}

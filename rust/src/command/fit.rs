@@ -1,0 +1,163 @@
+//! The commands `fit` and `correct`.
+
+use crate::args::Args;
+use crate::csv::Csv;
+use crate::listing::Listing;
+use crate::output::{Output, same_file};
+use crate::progress::Progress;
+use crate::show::{Roles, Show, matrix};
+use crate::{Stop, number, record, report};
+use tailboardy::{Fault, Fitting, RandomForestRegressor, RandomForestRegressorParameters, Refusal};
+
+/// What was said, found to make sense before any file is read.
+struct Task<'a> {
+    args: &'a Args,
+    roles: Roles,
+    parameters: RandomForestRegressorParameters,
+}
+
+impl<'a> Task<'a> {
+    fn new(args: &'a Args) -> Result<Self, Stop> {
+        let roles = Roles::said(args)?;
+        if roles.target.is_none() {
+            let why = "--target NAME is asked: the column that is predicted";
+            return Err(Stop::Usage(why.into()));
+        }
+        Ok(Task {
+            args,
+            roles,
+            parameters: args.parameters()?,
+        })
+    }
+}
+
+/// Fits, and tells what the forest is like.
+pub fn fit(args: &Args) -> Result<Output, Stop> {
+    let task = Task::new(args)?;
+    let csv = Csv::read(&args.files[0])?;
+    task.roles.ids_in(&csv)?;
+    let features = task.roles.features(&csv, None)?;
+    let (_, _, told) = task.fitted(csv, features)?;
+    Ok(Output::told(told))
+}
+
+/// Fits on the old show and predicts the new one.
+pub fn correct(args: &Args) -> Result<Output, Stop> {
+    let task = Task::new(args)?;
+    let out = args.get("--out");
+    if out.is_some_and(|out| args.files.iter().any(|file| same_file(file, out))) {
+        return Err(Stop::Usage("--out names a file that is read".into()));
+    }
+    let (old, new) = (Csv::read(&args.files[0])?, Csv::read(&args.files[1])?);
+    let features = task.roles.features(&old, Some(&new))?;
+    let lacking = task.roles.lacking(&old, &new).join(", ");
+    let x = matrix(&new, &features)?;
+    let (columns, name) = written(&task.roles, &new)?;
+    let (show, forest, mut beside) = task.fitted(old, features)?;
+    if !lacking.is_empty() {
+        beside += &format!("not gone by, since {} lacks them: {lacking}\n", new.file());
+    }
+    let means = forest.predict(&x);
+    let means = means.map_err(|refusal| Stop::refused(new.file(), &refusal.to_string()))?;
+    if let Some(row) = means.iter().position(|mean| !mean.is_finite()) {
+        let place = format!("{}, line {}", new.file(), new.line(row));
+        let why =
+            "its correction is no number: there are targets so large that their sums overflow, in";
+        return Err(Stop::refused(&place, &format!("{why} {}", show.csv.file())));
+    }
+    let mut text = String::new();
+    let names = columns.iter().map(|column| new.names()[*column].as_str());
+    record::write(names.chain([name.as_str()]), &mut text);
+    for (row, mean) in means.iter().enumerate() {
+        let cells = columns.iter().map(|column| new.cell(row, *column));
+        record::write(cells.chain([number::write(*mean).as_str()]), &mut text);
+    }
+    Ok(Output {
+        beside,
+        text,
+        file: out.map(str::to_owned),
+    })
+}
+
+/// Which of the new show's columns are written, and how the corrections' column is called.
+fn written(roles: &Roles, new: &Csv) -> Result<(Vec<usize>, String), Stop> {
+    let columns: Result<Vec<usize>, Stop> = match &roles.ids {
+        Some(ids) => ids.iter().map(|id| new.column(id)).collect(),
+        None => Ok((0..new.names().len()).collect()),
+    };
+    let columns = columns?;
+    let name = format!("{}_correction", roles.target.as_deref().unwrap_or_default());
+    if columns.iter().any(|column| new.names()[*column] == name) {
+        return Err(Stop::refused(
+            &format!("{}, line 1", new.file()),
+            &format!("there is a column {name} already; name the columns to write with --id"),
+        ));
+    }
+    Ok((columns, name))
+}
+
+impl Task<'_> {
+    /// The show, its forest, and what is told of both.
+    fn fitted(
+        &self,
+        csv: Csv,
+        features: Vec<String>,
+    ) -> Result<(Show, RandomForestRegressor, String), Stop> {
+        let show = Show::new(csv, &self.roles, features)?;
+        let listing = Listing::lent(self.args, &show)?;
+        if let (Some(weight), true) = (&show.weight, show.weights.iter().all(|it| *it == 0.0)) {
+            let place = format!("{}, column {weight}", show.csv.file());
+            let why = "all weights are 0, so that nothing is left to fit on";
+            return Err(Stop::refused(&place, why));
+        }
+        let progress = Progress::new();
+        let watch = |stand: usize, all: usize| progress.tell(stand, all);
+        let mut fitting = Fitting::new(&show.x, &show.y)
+            .with_weights(&show.weights)
+            .with_watch(&watch);
+        if let Some(listing) = &listing {
+            fitting = fitting.with_listings(&listing.listings);
+        }
+        let forest = fitting.forest(&self.parameters);
+        drop(progress);
+        let forest = forest.map_err(|refusal| refused(&refusal, &show, listing.as_ref()))?;
+        let told = report::columns(&show) + &report::forest(&show, &forest, &self.parameters)?;
+        Ok((show, forest, told))
+    }
+}
+
+/// A refusal, told by the names that the files have.
+pub fn refused(refusal: &Refusal, show: &Show, listing: Option<&Listing>) -> Stop {
+    let (number, name) = (refusal.number(), refusal.cause().name());
+    let named = |row: usize, column: Option<&String>, what: String| {
+        let column = column.map_or("", String::as_str);
+        let place = format!(
+            "{}, line {}, column {column}",
+            show.csv.file(),
+            show.csv.line(row)
+        );
+        Stop::refused(&place, &format!("{what} (refusal {number}, {name})"))
+    };
+    match (refusal.fault(), listing) {
+        (Some(Fault::Listing(_)), Some(listing)) => listing.refused(refusal, show),
+        (
+            Some(Fault::Value {
+                row,
+                feature,
+                value,
+            }),
+            _,
+        ) => named(
+            *row,
+            show.features.get(*feature),
+            format!("the value is {value}"),
+        ),
+        (Some(Fault::Target { row, value }), _) => {
+            named(*row, show.target.as_ref(), format!("the target is {value}"))
+        }
+        (Some(Fault::Weight { row, value }), _) => {
+            named(*row, show.weight.as_ref(), format!("the weight is {value}"))
+        }
+        _ => Stop::refused(show.csv.file(), &refusal.to_string()),
+    }
+}

@@ -1,0 +1,95 @@
+//! The command: checks shows, fits forests on them, and writes corrections for the next house.
+
+#![forbid(unsafe_code)]
+
+mod args;
+mod check;
+mod csv;
+mod fit;
+mod listing;
+mod number;
+mod output;
+mod progress;
+mod record;
+mod report;
+mod show;
+
+use args::COMMANDS;
+use output::Output;
+use std::fmt;
+use std::process::ExitCode;
+
+/// Why nothing was done.
+#[derive(Debug)]
+pub enum Stop {
+    /// The words make no sense: status 2.
+    Usage(String),
+    /// What they name cannot be used: status 1. One line for each thing that is wrong.
+    Refused(Vec<String>),
+}
+
+impl Stop {
+    /// In one line: where, and what is wrong there.
+    fn refused(place: &str, why: &str) -> Self {
+        Stop::Refused(vec![format!("{place}: {why}")])
+    }
+}
+
+impl fmt::Display for Stop {
+    fn fmt(&self, f: &mut fmt::Formatter<'_>) -> fmt::Result {
+        match self {
+            Stop::Usage(why) => f.write_str(why),
+            Stop::Refused(lines) => f.write_str(&lines.join("\n")),
+        }
+    }
+}
+
+fn main() -> ExitCode {
+    match run().and_then(Output::write) {
+        Ok(()) => ExitCode::SUCCESS,
+        Err(Stop::Usage(why)) => {
+            output::say(&format!("tailboardy: {}\n", why.trim_end()));
+            ExitCode::from(2)
+        }
+        Err(Stop::Refused(lines)) => {
+            for line in lines {
+                output::say(&format!("tailboardy: {line}\n"));
+            }
+            ExitCode::from(1)
+        }
+    }
+}
+
+fn run() -> Result<Output, Stop> {
+    let words = std::env::args_os().skip(1).map(|word| word.into_string());
+    let words: Result<Vec<String>, _> = words.collect();
+    let words = words
+        .map_err(|word| Stop::Usage(format!("{} is not text in UTF-8", word.to_string_lossy())))?;
+    let Some((first, rest)) = words.split_first() else {
+        return Err(Stop::Usage(format!("a command is asked\n{}", overview())));
+    };
+    match first.as_str() {
+        "--help" | "-h" | "help" => return Ok(Output::told(overview())),
+        "--version" => {
+            return Ok(Output::told(
+                concat!("tailboardy ", env!("CARGO_PKG_VERSION"), "\n").into(),
+            ));
+        }
+        _ => (),
+    }
+    let command = COMMANDS.iter().find(|command| command.name == first);
+    let command = command
+        .ok_or_else(|| Stop::Usage(format!("there is no command {first}\n{}", overview())))?;
+    match command.parse(rest)? {
+        None => Ok(Output::told(command.help())),
+        Some(args) => (command.run)(&args),
+    }
+}
+
+fn overview() -> String {
+    let mut text = String::from("a regression forest that can be trusted with a show:\n");
+    for command in &COMMANDS {
+        text += &format!("  tailboardy {:<9}{}\n", command.name, command.about);
+    }
+    text + "`tailboardy COMMAND --help` tells the rest\n"
+}

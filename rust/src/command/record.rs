@@ -1,0 +1,202 @@
+//! Records of comma-separated text, as RFC 4180 has them: cells in quotes, either line end, a byte order mark.
+
+use crate::number::quoted;
+use std::io::BufRead;
+use tailboardy::MAX_ROWS;
+
+/// Cells one after another in one string.
+#[derive(Debug, Default)]
+pub struct Cells {
+    text: String,
+    ends: Vec<usize>,
+}
+
+impl Cells {
+    pub fn len(&self) -> usize {
+        self.ends.len()
+    }
+
+    fn end(&mut self) {
+        self.ends.push(self.text.len());
+    }
+
+    pub fn get(&self, at: usize) -> &str {
+        let start = at.checked_sub(1).map_or(0, |before| self.ends[before]);
+        &self.text[start..self.ends[at]]
+    }
+}
+
+pub struct Reader<R> {
+    from: R,
+    /// How many lines have been read.
+    line: usize,
+    bytes: Vec<u8>,
+}
+
+/// Where in a record the reading stands.
+#[derive(Clone, Copy)]
+enum At {
+    /// At a cell's first character.
+    Start,
+    /// In a cell without quotes.
+    Bare,
+    /// Between quotes.
+    Quoted,
+    /// Behind a quote that ends a cell, or is the first of two.
+    Behind,
+}
+
+/// What is wrong, and in which line.
+pub type Wrong = (usize, String);
+
+impl<R: BufRead> Reader<R> {
+    pub fn new(from: R) -> Self {
+        Reader {
+            from,
+            line: 0,
+            bytes: Vec::new(),
+        }
+    }
+
+    /// The next line with its end.
+    fn text(&mut self) -> Result<Option<&str>, Wrong> {
+        self.bytes.clear();
+        let read = self.from.read_until(b'\n', &mut self.bytes);
+        self.line += 1;
+        match read {
+            Ok(0) => return Ok(None),
+            Ok(_) => (),
+            Err(error) => return Err((self.line, error.to_string())),
+        }
+        let text = std::str::from_utf8(&self.bytes);
+        let text = text.map_err(|_| (self.line, "it is not text in UTF-8".to_owned()))?;
+        let first = self.line == 1;
+        Ok(Some(if first {
+            text.strip_prefix('\u{feff}').unwrap_or(text)
+        } else {
+            text
+        }))
+    }
+
+    /// Adds the cells of the next record, which may go over several lines. Tells the line in which it begins, or none at the end;
+    /// an empty line is a record of one empty cell.
+    pub fn record(&mut self, cells: &mut Cells) -> Result<Option<usize>, Wrong> {
+        let begin = self.line + 1;
+        let mut at = At::Start;
+        loop {
+            let Some(text) = self.text()? else {
+                return match at {
+                    At::Start => Ok(None),
+                    _ => Err((begin, "a quote is opened and never closed".into())),
+                };
+            };
+            let line = text.trim_end_matches('\n');
+            let line = line.strip_suffix('\r').unwrap_or(line);
+            for letter in line.chars() {
+                at = at.step(letter, cells).map_err(|why| (begin, why))?;
+            }
+            if matches!(at, At::Quoted) {
+                cells.text.push_str(&text[line.len()..]);
+            } else {
+                cells.end();
+                return Ok(Some(begin));
+            }
+        }
+    }
+
+    /// All further records, which have as many cells as there are names. Empty lines may stand at the end.
+    pub fn rows(&mut self, names: usize) -> Result<(Cells, Vec<usize>), Wrong> {
+        let (mut cells, mut lines) = (Cells::default(), Vec::new());
+        let mut gap = None;
+        loop {
+            let (ends, text) = (cells.ends.len(), cells.text.len());
+            let Some(line) = self.record(&mut cells)? else {
+                return Ok((cells, lines));
+            };
+            let is = cells.ends.len() - ends;
+            if is == 1 && cells.text.len() == text {
+                cells.ends.truncate(ends);
+                gap = gap.or(Some(line));
+            } else if let Some(line) = gap {
+                return Err((line, "it is an empty line, and rows follow".into()));
+            } else if is != names {
+                let why = format!("its cells are {is}, and the columns {names}");
+                return Err((line, why));
+            } else if lines.len() == MAX_ROWS {
+                let why = format!("there are too many rows: {MAX_ROWS} are the most");
+                return Err((line, why));
+            } else {
+                lines.push(line);
+            }
+        }
+    }
+}
+
+impl At {
+    fn step(self, letter: char, cells: &mut Cells) -> Result<At, String> {
+        match (self, letter) {
+            (At::Start, '"') => Ok(At::Quoted),
+            (At::Quoted, '"') => Ok(At::Behind),
+            (At::Quoted, _) | (At::Behind, '"') => {
+                cells.text.push(letter);
+                Ok(At::Quoted)
+            }
+            (At::Start | At::Bare | At::Behind, ',') => {
+                cells.end();
+                Ok(At::Start)
+            }
+            (At::Start | At::Bare, _) => {
+                cells.text.push(letter);
+                Ok(At::Bare)
+            }
+            (At::Behind, ' ' | '\t') => Ok(At::Behind),
+            (At::Behind, _) => {
+                let letter = quoted(&letter.to_string());
+                Err(format!("{letter} stands behind a closing quote"))
+            }
+        }
+    }
+}
+
+/// The cells of one record that stands alone.
+pub fn record(text: &str) -> Result<Vec<String>, String> {
+    let mut reader = Reader::new(text.as_bytes());
+    let mut cells = Cells::default();
+    reader.record(&mut cells).map_err(|(_, why)| why)?;
+    let cell = |at: usize| cells.get(at).to_owned();
+    Ok((0..cells.len()).map(cell).collect())
+}
+
+/// Writes a record, with quotes where they are needed.
+pub fn write<'a>(cells: impl Iterator<Item = &'a str>, to: &mut String) {
+    for (at, cell) in cells.enumerate() {
+        if at > 0 {
+            to.push(',');
+        }
+        if cell.contains([',', '"', '\r', '\n']) {
+            to.push('"');
+            to.push_str(&cell.replace('"', "\"\""));
+            to.push('"');
+        } else {
+            to.push_str(cell);
+        }
+    }
+    to.push('\n');
+}
+
+#[cfg(test)]
+mod tests {
+    use super::*;
+
+    #[test]
+    fn what_is_written_reads_back() {
+        let cells = ["plain", "a,b", "say \"x\"", "two\nlines", "", " z "];
+        let mut text = String::new();
+        write(cells.into_iter(), &mut text);
+        assert_eq!(
+            text,
+            "plain,\"a,b\",\"say \"\"x\"\"\",\"two\nlines\",, z \n"
+        );
+        assert_eq!(record(&text).unwrap(), cells);
+    }
+}

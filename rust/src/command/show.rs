@@ -1,0 +1,152 @@
+//! A show: which columns of a table are what, and their numbers.
+
+use crate::Stop;
+use crate::args::Args;
+use crate::csv::Csv;
+use crate::number::{self, quoted};
+use tailboardy::DenseMatrix;
+
+/// Which columns are what, as far as was said.
+#[derive(Debug)]
+pub struct Roles {
+    pub target: Option<String>,
+    pub weight: Option<String>,
+    pub features: Option<Vec<String>>,
+    pub ids: Option<Vec<String>>,
+}
+
+/// A show with its numbers read. Targets are 0 where no target was said, weights none where no weight was.
+#[derive(Debug)]
+pub struct Show {
+    pub csv: Csv,
+    pub features: Vec<String>,
+    pub target: Option<String>,
+    pub weight: Option<String>,
+    pub x: DenseMatrix,
+    pub y: Vec<f64>,
+    pub weights: Vec<f64>,
+}
+
+impl Roles {
+    pub fn said(args: &Args) -> Result<Self, Stop> {
+        let roles = Roles {
+            target: args.get("--target").map(|it| it.trim().to_owned()),
+            weight: args.get("--weight").map(|it| it.trim().to_owned()),
+            features: args.names("--features")?,
+            ids: args.names("--id")?,
+        };
+        let mut taken: Vec<&String> = Vec::new();
+        let lists = [&roles.features, &roles.ids]
+            .into_iter()
+            .flatten()
+            .flatten();
+        for name in lists.chain(&roles.target).chain(&roles.weight) {
+            if taken.contains(&name) {
+                return Err(Stop::Usage(format!(
+                    "the column {} is said twice",
+                    quoted(name)
+                )));
+            }
+            taken.push(name);
+        }
+        Ok(roles)
+    }
+
+    /// Whether a show has the columns that were said to be no features.
+    pub fn ids_in(&self, show: &Csv) -> Result<(), Stop> {
+        let mut ids = self.ids.iter().flatten();
+        ids.try_for_each(|id| show.column(id).map(|_| ()))
+    }
+
+    fn is_other(&self, name: &String) -> bool {
+        let id = self.ids.as_ref().is_some_and(|ids| ids.contains(name));
+        id || self.target.as_ref() == Some(name) || self.weight.as_ref() == Some(name)
+    }
+
+    /// The features: those that were said; else all columns of numbers that are nothing else, and that the next show has too.
+    pub fn features(&self, show: &Csv, next: Option<&Csv>) -> Result<Vec<String>, Stop> {
+        if let Some(said) = &self.features {
+            return Ok(said.clone());
+        }
+        let both = |name: &&String| next.is_none_or(|next| next.find(name).is_some());
+        let features: Vec<String> = self.measured(show).filter(both).cloned().collect();
+        if features.is_empty() {
+            let why = "there is no column of numbers to go by, beside target and weight";
+            return Err(Stop::refused(show.file(), why));
+        }
+        Ok(features)
+    }
+
+    /// What could have been a feature, had the next show measured it.
+    pub fn lacking(&self, show: &Csv, next: &Csv) -> Vec<String> {
+        let lacks = |name: &&String| self.features.is_none() && next.find(name).is_none();
+        self.measured(show).filter(lacks).cloned().collect()
+    }
+
+    fn measured<'a>(&'a self, show: &'a Csv) -> impl Iterator<Item = &'a String> {
+        let numeric = |column: usize| show.cells(column).any(|cell| number::read(cell).is_ok());
+        let columns = show.names().iter().enumerate();
+        let measured =
+            columns.filter(move |(column, name)| !self.is_other(name) && numeric(*column));
+        measured.map(|(_, name)| name)
+    }
+}
+
+impl Show {
+    pub fn new(csv: Csv, roles: &Roles, features: Vec<String>) -> Result<Self, Stop> {
+        let list = |name: &Option<String>| match name {
+            Some(name) => numbers(&csv, name).map(Some),
+            None => Ok(None),
+        };
+        let y = list(&roles.target)?;
+        let weights = list(&roles.weight)?.unwrap_or_default();
+        let x = matrix(&csv, &features)?;
+        Ok(Show {
+            y: y.unwrap_or_else(|| vec![0.0; csv.rows()]),
+            target: roles.target.clone(),
+            weight: roles.weight.clone(),
+            csv,
+            features,
+            x,
+            weights,
+        })
+    }
+
+    /// Columns that are nothing here.
+    pub fn passed(&self) -> Vec<&str> {
+        let names = self.csv.names().iter();
+        let taken = |name: &&String| {
+            self.features.contains(name)
+                || self.target.as_ref() == Some(name)
+                || self.weight.as_ref() == Some(name)
+        };
+        names
+            .filter(|name| !taken(name))
+            .map(String::as_str)
+            .collect()
+    }
+}
+
+fn read(csv: &Csv, row: usize, column: usize) -> Result<f64, Stop> {
+    let read = number::read(csv.cell(row, column));
+    read.map_err(|why| Stop::refused(&csv.place(row, column), &why))
+}
+
+fn numbers(csv: &Csv, name: &str) -> Result<Vec<f64>, Stop> {
+    let column = csv.column(name)?;
+    (0..csv.rows()).map(|row| read(csv, row, column)).collect()
+}
+
+/// The features' numbers, row after row.
+pub fn matrix(csv: &Csv, features: &[String]) -> Result<DenseMatrix, Stop> {
+    let columns: Result<Vec<usize>, Stop> = features.iter().map(|it| csv.column(it)).collect();
+    let columns = columns?;
+    let mut values = Vec::with_capacity(csv.rows() * columns.len());
+    for row in 0..csv.rows() {
+        for column in &columns {
+            values.push(read(csv, row, *column)?);
+        }
+    }
+    let matrix = DenseMatrix::new(csv.rows(), columns.len(), values);
+    matrix.map_err(|refusal| Stop::refused(csv.file(), &refusal.to_string()))
+}

@@ -1,0 +1,178 @@
+//! Counts: how often each row is in each tree's bag.
+
+use crate::refusal::{Cause, Fault, Refusal};
+use crate::seed::SplitMix64;
+use crate::sizes;
+
+/// How often each row is in each tree's bag, tree after tree. A row with 0 is left out of that tree.
+///
+/// [`drawn`](Counts::drawn) makes them from a seed, in plain Rust, outside the proved core. A fit takes any counts up to 65,535.
+///
+/// ```
+/// use tailboardy::Counts;
+///
+/// let bags = Counts::drawn(100, 80, 7)?;
+/// assert_eq!(bags.shape(), (100, 80));
+/// assert_eq!(bags.of_tree(3).iter().sum::<u32>(), 80);
+/// # Ok::<(), tailboardy::Refusal>(())
+/// ```
+#[derive(Debug, Clone, PartialEq, Eq)]
+pub struct Counts {
+    trees: usize,
+    rows: usize,
+    numbers: Vec<u32>,
+}
+
+impl Counts {
+    /// Of numbers that lie tree after tree.
+    pub fn new(trees: usize, rows: usize, numbers: Vec<u32>) -> Result<Self, Refusal> {
+        sizes::check(rows, 1, trees)?;
+        let (is, asked) = (numbers.len(), trees * rows);
+        if is != asked {
+            return Err(Refusal::new(
+                Cause::Lengths,
+                Fault::Length {
+                    list: "counts",
+                    is,
+                    asked,
+                },
+            ));
+        }
+        Ok(Counts {
+            trees,
+            rows,
+            numbers,
+        })
+    }
+
+    /// Every row once in every tree.
+    pub fn ones(trees: usize, rows: usize) -> Result<Self, Refusal> {
+        sizes::check(rows, 1, trees)?;
+        Counts::new(trees, rows, vec![1; trees * rows])
+    }
+
+    /// Bags from a seed: for each tree as many rows as there are, with replacement, all from one [stream](SplitMix64).
+    pub fn drawn(trees: usize, rows: usize, seed: u64) -> Result<Self, Refusal> {
+        sizes::check(rows, 1, trees)?;
+        let mut draws = SplitMix64::new(seed);
+        let last = rows as u64 - 1;
+        Counts::bags(trees, rows, || draws.up_to(last) as usize)
+    }
+
+    /// Bags from a seed in which a row comes up by its weight, as smartcore draws them. Where all weights are 0 none comes up.
+    ///
+    /// The weights are held to the rule of a fit (refusal 3) here, in plain Rust: the trees of such bags are given none.
+    pub fn drawn_by_weight(trees: usize, weights: &[f64], seed: u64) -> Result<Self, Refusal> {
+        sizes::check(weights.len(), 1, trees)?;
+        if let Some(fault) = bad_weight(weights) {
+            return Err(Refusal::new(Cause::Numbers, fault));
+        }
+        let sums = running(weights);
+        let whole = sums.last().copied().unwrap_or(0.0);
+        if whole <= 0.0 {
+            return Counts::new(trees, weights.len(), vec![0; trees * weights.len()]);
+        }
+        let last = sums.partition_point(|sum| *sum < whole);
+        let mut draws = SplitMix64::new(seed);
+        Counts::bags(trees, weights.len(), || {
+            let at = draws.unit() * whole;
+            sums.partition_point(|sum| *sum <= at).min(last)
+        })
+    }
+
+    fn bags(trees: usize, rows: usize, mut draw: impl FnMut() -> usize) -> Result<Self, Refusal> {
+        let mut numbers = vec![0; trees * rows];
+        for bag in numbers.chunks_exact_mut(rows) {
+            for _ in 0..rows {
+                bag[draw()] += 1;
+            }
+        }
+        Counts::new(trees, rows, numbers)
+    }
+
+    /// Trees and rows.
+    #[must_use]
+    pub fn shape(&self) -> (usize, usize) {
+        (self.trees, self.rows)
+    }
+
+    /// All counts, tree after tree.
+    #[must_use]
+    pub fn numbers(&self) -> &[u32] {
+        &self.numbers
+    }
+
+    /// One tree's counts; none of a tree that is not there.
+    #[must_use]
+    pub fn of_tree(&self, tree: usize) -> &[u32] {
+        match tree < self.trees {
+            true => &self.numbers[tree * self.rows..(tree + 1) * self.rows],
+            false => &[],
+        }
+    }
+}
+
+/// The first weight that no fit takes.
+pub(crate) fn bad_weight(weights: &[f64]) -> Option<Fault> {
+    let bad = |weight: &f64| !weight.is_finite() || *weight < 0.0;
+    let row = weights.iter().position(bad)?;
+    let value = weights[row];
+    Some(Fault::Weight { row, value })
+}
+
+/// Sums of the weights up to each row, as parts of the greatest so that no sum is infinite.
+fn running(weights: &[f64]) -> Vec<f64> {
+    let greatest = weights.iter().fold(0.0, |held: f64, it| held.max(*it));
+    let part = |weight: &f64| {
+        if greatest > 0.0 {
+            weight / greatest
+        } else {
+            0.0
+        }
+    };
+    let mut sum = 0.0;
+    weights
+        .iter()
+        .map(|weight| {
+            sum += part(weight);
+            sum
+        })
+        .collect()
+}
+
+#[cfg(test)]
+mod tests {
+    use super::*;
+
+    /// Worked out apart from this code.
+    #[test]
+    fn bags_come_of_one_stream() {
+        let bags = Counts::drawn(2, 6, 42).unwrap();
+        assert_eq!(bags.numbers(), [0, 0, 2, 1, 1, 2, 0, 0, 1, 0, 2, 3]);
+    }
+
+    #[test]
+    fn bags_by_weight_leave_out_what_weighs_nothing() {
+        let weights = [0.0, 3.0, -0.0, 1.0, 0.0];
+        let bags = Counts::drawn_by_weight(400, &weights, 5).unwrap();
+        let times = |row: usize| (0..400).map(|t| bags.of_tree(t)[row]).sum::<u32>();
+        assert_eq!([times(0), times(2), times(4)], [0; 3]);
+        assert!((1400..1600).contains(&times(1)), "{}", times(1));
+        assert_eq!(times(1) + times(3), 2000);
+    }
+
+    #[test]
+    fn any_weights_are_drawn_by_or_refused() {
+        let huge = Counts::drawn_by_weight(2, &[f64::MAX; 3], 0).unwrap();
+        assert_eq!(huge.numbers().iter().sum::<u32>(), 6);
+        let tiny = Counts::drawn_by_weight(2, &[5e-324, 0.0], 0).unwrap();
+        assert_eq!(tiny.numbers(), [2, 0, 2, 0]);
+        let nothing = Counts::drawn_by_weight(2, &[0.0; 3], 0).unwrap();
+        assert_eq!(nothing.numbers(), [0; 6]);
+        for bad in [-1.0, f64::NAN, f64::INFINITY] {
+            let refusal = Counts::drawn_by_weight(1, &[1.0, bad], 0).unwrap_err();
+            assert_eq!(refusal.number(), 3);
+        }
+        assert_eq!(Counts::drawn_by_weight(1, &[], 0).unwrap_err().number(), 1);
+    }
+}

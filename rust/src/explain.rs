@@ -1,0 +1,165 @@
+//! Where a refused input is wrong, for a person to find. Plain Rust, run after the proved library has refused; it decides nothing.
+
+use crate::counts::bad_weight;
+use crate::draws::Draws;
+use crate::given::Given;
+use crate::listings::Listings;
+use crate::matrix::DenseMatrix;
+use crate::nodes::Columns;
+use crate::refusal::{Fault, Refusal};
+use crate::rooms::Stopped;
+use crate::sizes;
+
+/// A fit of so many trees refused.
+pub(crate) fn fit(
+    stopped: &Stopped,
+    given: &Given,
+    trees: usize,
+    draws: Option<&Draws>,
+) -> Refusal {
+    let (rows, features) = given.x.shape();
+    let [tree, search] = stopped.place;
+    let fault = match stopped.number {
+        1 => sizes::fault(rows, features, trees),
+        2 => lengths(given, trees).or_else(|| cuts(trees, draws?)),
+        3 => numbers(given),
+        4 => count(given),
+        5 => listings(5, given.x, given.listings),
+        7 => Some(Fault::Draw { tree, search }),
+        _ => None,
+    };
+    Refusal::of(stopped.number, fault)
+}
+
+fn length(list: &'static str, is: usize, asked: usize) -> Option<Fault> {
+    (is != asked).then_some(Fault::Length { list, is, asked })
+}
+
+fn lengths(given: &Given, trees: usize) -> Option<Fault> {
+    let rows = given.x.shape().0;
+    let weights = || match given.weights {
+        [] => None,
+        weights => length("weights", weights.len(), rows),
+    };
+    let counts = given.counts.numbers().len();
+    length("targets", given.y.len(), rows)
+        .or_else(weights)
+        .or_else(|| length("counts", counts, trees * rows))
+        .or_else(|| listings(2, given.x, given.listings))
+}
+
+fn cuts(trees: usize, draws: &Draws) -> Option<Fault> {
+    let part = |cuts: &[usize], tape: usize| {
+        cuts.len() == trees + 1
+            && cuts.first() == Some(&0)
+            && cuts.last() == Some(&tape)
+            && cuts.is_sorted()
+    };
+    if !part(&draws.word_cuts, draws.words.len()) {
+        Some(Fault::Cuts("word"))
+    } else if !part(&draws.threshold_cuts, draws.thresholds.len()) {
+        Some(Fault::Cuts("threshold"))
+    } else {
+        None
+    }
+}
+
+fn numbers(given: &Given) -> Option<Fault> {
+    let first = |list: &[f64]| list.iter().position(|number| !number.is_finite());
+    let features = given.x.shape().1;
+    let value = first(given.x.values()).map(|at| Fault::Value {
+        row: at / features,
+        feature: at % features,
+        value: given.x.values()[at],
+    });
+    let target = || {
+        let row = first(given.y)?;
+        let value = given.y[row];
+        Some(Fault::Target { row, value })
+    };
+    value.or_else(target).or_else(|| bad_weight(given.weights))
+}
+
+/// A count that is too large, or else one beside weights that is not 1.
+fn count(given: &Given) -> Option<Fault> {
+    let rows = given.counts.shape().1;
+    let counts = given.counts.numbers();
+    let large = counts.iter().position(|count| *count > 65_535);
+    let at = large.or_else(|| counts.iter().position(|count| *count != 1))?;
+    Some(Fault::Count {
+        tree: at / rows,
+        row: at % rows,
+        count: counts[at],
+    })
+}
+
+/// The first listing that breaks, or how many there are if that is not as many as there are features.
+pub(crate) fn listings(number: u32, x: &DenseMatrix, listings: &Listings) -> Option<Fault> {
+    let (rows, features) = x.shape();
+    if number == 1 {
+        return sizes::fault(rows, features, 1);
+    }
+    length("listings", listings.features(), features).or_else(|| {
+        let faults = (0..features).filter_map(|feature| listings.fault(x, feature));
+        faults.map(Fault::Listing).next()
+    })
+}
+
+/// A reader refused, of a good table: its rows are too many, or have other features.
+pub(crate) fn reader(x: &DenseMatrix, features: usize) -> Option<Fault> {
+    sizes::fault(x.shape().0, features, 1).or_else(|| length("values a row", x.shape().1, features))
+}
+
+pub(crate) fn tree(features: usize, columns: Columns) -> Option<Fault> {
+    let node = bad_node(features, columns);
+    let node = node.map(|node| Fault::Node { tree: 0, node });
+    sizes::fault(1, features, 1).or(node)
+}
+
+pub(crate) fn forest(features: usize, starts: &[u32], columns: Columns) -> Option<Fault> {
+    let sizes = sizes::fault(1, features, starts.len().saturating_sub(1));
+    sizes.or_else(|| bad_start(starts, columns)).or_else(|| {
+        let trees = starts.windows(2).enumerate();
+        let mut bad = trees.filter_map(|(tree, ends)| {
+            let nodes = columns.part(ends[0] as usize..ends[1] as usize);
+            let node = bad_node(features, nodes)?;
+            Some(Fault::Node { tree, node })
+        });
+        bad.next()
+    })
+}
+
+/// The place where starts do not begin at 0, do not rise, or pass the last node.
+fn bad_start(starts: &[u32], columns: Columns) -> Option<Fault> {
+    let nodes = [columns.feature, columns.true_child, columns.false_child].map(<[u32]>::len);
+    let reals = [columns.value, columns.threshold, columns.score].map(<[f64]>::len);
+    let nodes = nodes.into_iter().chain(reals).min().unwrap_or(0);
+    let bad = |place: &usize| {
+        let at = starts[*place];
+        let rises = match place.checked_sub(1) {
+            None => at == 0,
+            Some(before) => starts[before] < at,
+        };
+        !rises || at as usize > nodes
+    };
+    let place = (0..starts.len()).find(bad)?;
+    Some(Fault::Starts { place })
+}
+
+/// The first node that is neither a leaf nor a good split; node 0 where there is none at all.
+fn bad_node(features: usize, columns: Columns) -> Option<usize> {
+    let nodes = columns.true_child.len();
+    let good = |node: usize| {
+        let column = |of: &[u32]| of.get(node).map(|entry| *entry as usize);
+        let entries = (column(columns.true_child), column(columns.false_child));
+        match entries {
+            (Some(0), Some(0)) => true,
+            (Some(yes), Some(no)) => {
+                let feature = column(columns.feature);
+                yes > node && no == yes + 1 && no < nodes && feature.is_some_and(|it| it < features)
+            }
+            _ => false,
+        }
+    };
+    (0..nodes.max(1)).find(|node| !good(*node))
+}

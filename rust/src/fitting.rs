@@ -1,0 +1,156 @@
+//! A fit in the making.
+
+use crate::counts::Counts;
+use crate::draws::{Draws, Source};
+use crate::forest::RandomForestRegressor;
+use crate::given::Given;
+use crate::grow::{self, Watch};
+use crate::listings::Listings;
+use crate::matrix::DenseMatrix;
+use crate::parameters::{DecisionTreeRegressorParameters, RandomForestRegressorParameters};
+use crate::refusal::{Cause, Fault, Refusal};
+use crate::sizes;
+use crate::tree::DecisionTreeRegressor;
+use std::borrow::Cow;
+
+/// A fit from a seed, with more to say than [`RandomForestRegressor::fit`]: listings of one's own, weights, and who watches.
+///
+/// ```
+/// use std::sync::atomic::{AtomicUsize, Ordering};
+/// use tailboardy::{DenseMatrix, Fitting, Listings};
+///
+/// let x = DenseMatrix::from_2d_array(&[[7.5], [6.8], [7.1], [7.3]])?;
+/// let y = [3.0, 1.0, 2.0, 2.5];
+/// let listings = Listings::from_columns(&[[1, 2, 3, 0]])?;
+/// let stand = AtomicUsize::new(0);
+/// let watch = |trees: usize, _all: usize| { stand.fetch_max(trees, Ordering::Relaxed); };
+///
+/// let fitting = Fitting::new(&x, &y).with_listings(&listings).with_watch(&watch);
+/// fitting.check()?;
+/// let forest = fitting.forest(&Default::default())?;
+/// assert_eq!(forest.n_trees(), 100);
+/// assert_eq!(stand.into_inner(), 100);
+/// # Ok::<(), tailboardy::Refusal>(())
+/// ```
+#[derive(Clone)]
+#[must_use]
+pub struct Fitting<'a> {
+    x: &'a DenseMatrix,
+    y: &'a [f64],
+    weights: &'a [f64],
+    listings: Option<&'a Listings>,
+    watch: Watch<'a>,
+}
+
+impl<'a> Fitting<'a> {
+    /// Of feature values and targets.
+    pub fn new(x: &'a DenseMatrix, y: &'a [f64]) -> Self {
+        Fitting {
+            x,
+            y,
+            weights: &[],
+            listings: None,
+            watch: &|_, _| (),
+        }
+    }
+
+    /// With weights, one a row; an empty slice for none.
+    pub fn with_weights(mut self, weights: &'a [f64]) -> Self {
+        self.weights = weights;
+        self
+    }
+
+    /// With listings of one's own in place of sorted ones.
+    pub fn with_listings(mut self, listings: &'a Listings) -> Self {
+        self.listings = Some(listings);
+        self
+    }
+
+    /// With someone to be told, now and then, how many trees of a forest stand, and of how many. Calls come from several threads.
+    pub fn with_watch(mut self, watch: &'a (dyn Fn(usize, usize) + Sync)) -> Self {
+        self.watch = watch;
+        self
+    }
+
+    /// Whether data and listings are fit to use: the checks of a fit, all of them by the proved library, which then grows a root and no
+    /// more.
+    pub fn check(&self) -> Result<(), Refusal> {
+        let root = DecisionTreeRegressorParameters::default().with_max_depth(1);
+        self.tree(&root).map(|_| ())
+    }
+
+    /// Fits a forest from a seed: see [`RandomForestRegressor::fit`].
+    pub fn forest(
+        &self,
+        parameters: &RandomForestRegressorParameters,
+    ) -> Result<RandomForestRegressor, Refusal> {
+        let (rows, features) = self.x.shape();
+        sizes::check(rows, features, parameters.n_trees)?;
+        let counts = self.counts(parameters)?;
+        let listings = self.listings();
+        let given = Given {
+            x: self.x,
+            y: self.y,
+            weights: if parameters.bootstrap {
+                &[]
+            } else {
+                self.weights
+            },
+            counts: &counts,
+            listings: &listings,
+        };
+        let grown = grow::grow(&given, parameters, self.watch)?;
+        let kept = parameters.keep_samples.then_some(counts);
+        Ok(RandomForestRegressor::grown(features, grown, kept))
+    }
+
+    /// Fits one tree on all rows: see [`DecisionTreeRegressor::fit`].
+    pub fn tree(
+        &self,
+        parameters: &DecisionTreeRegressorParameters,
+    ) -> Result<DecisionTreeRegressor, Refusal> {
+        let (rows, features) = self.x.shape();
+        sizes::check(rows, features, 1)?;
+        let counts = Counts::ones(1, rows)?;
+        let listings = self.listings();
+        let given = Given {
+            x: self.x,
+            y: self.y,
+            weights: self.weights,
+            counts: &counts,
+            listings: &listings,
+        };
+        let mut draws = Draws::none();
+        let settings = parameters.settings(features);
+        Source::new(&given, settings, parameters.seed).draw(0, &mut draws);
+        DecisionTreeRegressor::fit_given(&given, &draws, parameters)
+    }
+
+    fn listings(&self) -> Cow<'a, Listings> {
+        match self.listings {
+            Some(own) => Cow::Borrowed(own),
+            None => Cow::Owned(Listings::sorted(self.x)),
+        }
+    }
+
+    /// How often each row is in each bag. Weights are held to as many as rows here, where the bags are drawn by them.
+    fn counts(&self, parameters: &RandomForestRegressorParameters) -> Result<Counts, Refusal> {
+        let (trees, rows) = (parameters.n_trees, self.x.shape().0);
+        let (is, asked) = (self.weights.len(), rows);
+        match (parameters.bootstrap, self.weights) {
+            (false, _) => Counts::ones(trees, rows),
+            (true, []) => Counts::drawn(trees, rows, parameters.seed),
+            (true, weights) if is == asked => {
+                Counts::drawn_by_weight(trees, weights, parameters.seed)
+            }
+            (true, _) => Err(Refusal::new(
+                Cause::Lengths,
+                Fault::Length {
+                    list: "weights",
+                    is,
+                    asked,
+                },
+            )),
+        }
+    }
+}

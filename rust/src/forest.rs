@@ -1,0 +1,248 @@
+//! Forests.
+
+use crate::counts::Counts;
+use crate::draws::Draws;
+use crate::fitting::Fitting;
+use crate::given::Given;
+use crate::matrix::DenseMatrix;
+use crate::nodes::{Nodes, Tree, check_forest, over};
+use crate::parameters::RandomForestRegressorParameters;
+use crate::refusal::Refusal;
+use crate::results::{Importances, Means, OutOfBagMeans, Report};
+use crate::rooms::{self, Grown, Work};
+use crate::{explain, sizes};
+
+/// A fitted forest.
+///
+/// ```
+/// use tailboardy::{DenseMatrix, RandomForestRegressor, RandomForestRegressorParameters};
+///
+/// // trim height and truss offset of eight fixtures, and the pan correction that each was given
+/// let x = DenseMatrix::from_2d_array(&[
+///     [7.5, -3.0], [7.5, -1.0], [7.4, 1.0], [7.4, 3.0],
+///     [6.2, -3.0], [6.2, -1.0], [6.1, 1.0], [6.1, 3.0],
+/// ])?;
+/// let y = [-21.5, -7.5, 7.5, 22.0, -26.0, -9.0, 9.5, 26.0];
+///
+/// let parameters = RandomForestRegressorParameters::default().with_keep_samples(true);
+/// let forest = RandomForestRegressor::fit(&x, &y, parameters)?;
+///
+/// // the next house
+/// let new = DenseMatrix::from_2d_array(&[[7.0, -2.0], [7.0, 2.0]])?;
+/// let pan = forest.predict(&new)?;
+/// assert!(pan[0] < -5.0 && pan[1] > 5.0);
+///
+/// // how far off the trees are on fixtures that they did not see, and what they went by
+/// let error = forest.predict_oob(&x)?.error(&y)?;
+/// assert!(error.sqrt() < 15.0);
+/// assert_eq!(forest.compute_feature_importances()?.ranked()[0].0, 1);
+/// # Ok::<(), tailboardy::Refusal>(())
+/// ```
+#[derive(Debug, Clone)]
+pub struct RandomForestRegressor {
+    features: usize,
+    starts: Vec<u32>,
+    nodes: Nodes,
+    reports: Vec<Report>,
+    counts: Option<Counts>,
+}
+
+impl RandomForestRegressor {
+    /// Fits a forest: sorts listings and draws bags, orders and thresholds from the seed, in plain Rust, and grows the trees by the
+    /// proved library. [`Fitting`] has more to say, [`fit_given`](Self::fit_given) leaves nothing to a seed.
+    pub fn fit(
+        x: &DenseMatrix,
+        y: &[f64],
+        parameters: RandomForestRegressorParameters,
+    ) -> Result<Self, Refusal> {
+        Fitting::new(x, y).forest(&parameters)
+    }
+
+    /// Fits a forest with weights. As in smartcore, they decide how often a row comes up in the bags, or, without bags
+    /// (`bootstrap` false), are given to the trees.
+    pub fn fit_with_weights(
+        x: &DenseMatrix,
+        y: &[f64],
+        weights: &[f64],
+        parameters: RandomForestRegressorParameters,
+    ) -> Result<Self, Refusal> {
+        Fitting::new(x, y).with_weights(weights).forest(&parameters)
+    }
+
+    /// The proved call as it is: a forest of lent counts, listings and draws, as many trees as counts are given for. The parameters'
+    /// number of trees, seed, threads and bags are not looked at.
+    ///
+    /// ```
+    /// use tailboardy::{Counts, DenseMatrix, Draws, Given, Listings, RandomForestRegressor};
+    ///
+    /// let x = DenseMatrix::from_2d_array(&[[1.0], [2.0], [3.0], [4.0]])?;
+    /// let y = [0.0, 0.0, 10.0, 10.0];
+    /// let (counts, listings) = (Counts::ones(1, 4)?, Listings::sorted(&x));
+    /// let mut draws = Draws::none();
+    /// draws.push_tree(&[0, 0, 0], &[]);
+    /// let given = Given { x: &x, y: &y, weights: &[], counts: &counts, listings: &listings };
+    /// let forest = RandomForestRegressor::fit_given(&given, &draws, &Default::default())?;
+    /// assert_eq!(forest.nodes().threshold, [2.5, 1.5, 3.5, 0.0, 0.0, 0.0, 0.0]);
+    /// assert_eq!(forest.reports()[0].searches, 3);
+    ///
+    /// // one order too few
+    /// draws = Draws::none();
+    /// draws.push_tree(&[0, 0], &[]);
+    /// let refusal = RandomForestRegressor::fit_given(&given, &draws, &Default::default()).unwrap_err();
+    /// assert_eq!(refusal.number(), 7);
+    /// # Ok::<(), tailboardy::Refusal>(())
+    /// ```
+    pub fn fit_given(
+        given: &Given,
+        draws: &Draws,
+        parameters: &RandomForestRegressorParameters,
+    ) -> Result<Self, Refusal> {
+        let (rows, features) = given.x.shape();
+        let trees = given.counts.shape().0;
+        sizes::check(rows, features, trees)?;
+        let mut work = Work::new((rows, features));
+        let settings = parameters.settings();
+        let grown = rooms::fit_forest(given, 0..trees, &settings, draws, &mut work)
+            .map_err(|it| explain::fit(&it, given, trees, Some(draws)))?;
+        let kept = parameters.keep_samples.then(|| given.counts.clone());
+        Ok(RandomForestRegressor::grown(features, grown, kept))
+    }
+
+    pub(crate) fn grown(features: usize, grown: Grown, counts: Option<Counts>) -> Self {
+        RandomForestRegressor {
+            features,
+            starts: grown.starts,
+            nodes: grown.nodes,
+            reports: grown.reports,
+            counts,
+        }
+    }
+
+    /// A forest from a table that was kept or sent: where each tree starts and the last ends, and the nodes. The proved library
+    /// checks it; a bad one is refused (8). It has no reports and no counts.
+    ///
+    /// ```
+    /// # use tailboardy::{DenseMatrix, RandomForestRegressor};
+    /// # let x = DenseMatrix::from_2d_array(&[[1.0], [2.0], [3.0], [4.0]])?;
+    /// # let forest = RandomForestRegressor::fit(&x, &[0.0, 0.0, 10.0, 10.0], Default::default())?;
+    /// let (starts, nodes) = (forest.starts().to_vec(), forest.nodes().clone());
+    /// let again = RandomForestRegressor::from_table(1, starts, nodes)?;
+    /// assert_eq!(again.predict(&x)?, forest.predict(&x)?);
+    ///
+    /// let mut damaged = forest.nodes().clone();
+    /// damaged.true_child[0] = 0;
+    /// let refusal = RandomForestRegressor::from_table(1, forest.starts().to_vec(), damaged).unwrap_err();
+    /// assert_eq!(refusal.number(), 8);
+    /// # Ok::<(), tailboardy::Refusal>(())
+    /// ```
+    pub fn from_table(
+        features: usize,
+        starts: Vec<u32>,
+        mut nodes: Nodes,
+    ) -> Result<Self, Refusal> {
+        check_forest(features, &starts, nodes.columns())?;
+        nodes.keep(starts.last().map_or(0, |end| *end as usize));
+        Ok(RandomForestRegressor {
+            features,
+            starts,
+            nodes,
+            reports: Vec::new(),
+            counts: None,
+        })
+    }
+
+    /// The mean of the trees' predictions for each row: smartcore's `predict_mean`.
+    pub fn predict(&self, x: &DenseMatrix) -> Result<Means, Refusal> {
+        let (rows, trees) = (x.shape().0, self.n_trees());
+        let mut out = sizes::room(rows, self.features, trees)?;
+        let columns = self.nodes.columns();
+        let number = over!(forest_means(
+            rows, self.features, trees, x.values(), &self.starts; columns; &mut out
+        ));
+        match number {
+            0 => Ok(Means(out)),
+            number => Err(Refusal::of(number, explain::reader(x, self.features))),
+        }
+    }
+
+    /// For each row that the forest was fitted on, the mean over the trees that left it out: smartcore's `predict_mean_oob`. It needs
+    /// `keep_samples` (else refusal 9) and the same rows again; other rows are refused (10) only where there are more or fewer.
+    pub fn predict_oob(&self, x: &DenseMatrix) -> Result<OutOfBagMeans, Refusal> {
+        let (rows, trees) = (x.shape().0, self.n_trees());
+        let mut out = sizes::room(rows, self.features, trees)?;
+        let counts = self.counts.as_ref().map_or(&[][..], Counts::numbers);
+        let columns = self.nodes.columns();
+        let number = over!(out_of_bag_means(
+            rows, self.features, trees, x.values(), counts, &self.starts; columns; &mut out
+        ));
+        match number {
+            0 => Ok(OutOfBagMeans(out)),
+            number @ (9 | 10) => Err(Refusal::of(number, None)),
+            number => Err(Refusal::of(number, explain::reader(x, self.features))),
+        }
+    }
+
+    /// How much each feature tells: the mean of the trees' importances, which together make 1, or 0 where no tree is split.
+    pub fn compute_feature_importances(&self) -> Result<Importances, Refusal> {
+        let mut out = vec![0.0; self.features];
+        let columns = self.nodes.columns();
+        let number = over!(forest_importances(
+            self.features, self.n_trees(), &self.starts; columns; &mut out
+        ));
+        match number {
+            0 => Ok(Importances(out)),
+            number => Err(Refusal::of(number, None)),
+        }
+    }
+
+    /// How many trees there are.
+    #[must_use]
+    pub fn n_trees(&self) -> usize {
+        self.starts.len().saturating_sub(1)
+    }
+
+    /// How many features rows must have.
+    #[must_use]
+    pub fn n_features(&self) -> usize {
+        self.features
+    }
+
+    /// One tree.
+    #[must_use]
+    pub fn tree(&self, tree: usize) -> Option<Tree<'_>> {
+        let (start, end) = (self.starts.get(tree)?, self.starts.get(tree + 1)?);
+        Some(Tree {
+            features: self.features,
+            columns: self.nodes.columns().part(*start as usize..*end as usize),
+        })
+    }
+
+    /// All trees.
+    pub fn trees(&self) -> impl Iterator<Item = Tree<'_>> {
+        (0..self.n_trees()).filter_map(|tree| self.tree(tree))
+    }
+
+    /// What the fit told of each tree; nothing of a forest that came as a table.
+    #[must_use]
+    pub fn reports(&self) -> &[Report] {
+        &self.reports
+    }
+
+    /// All trees' nodes.
+    #[must_use]
+    pub fn nodes(&self) -> &Nodes {
+        &self.nodes
+    }
+
+    /// Where each tree starts among the nodes, and where the last ends.
+    #[must_use]
+    pub fn starts(&self) -> &[u32] {
+        &self.starts
+    }
+
+    /// How often each row was in each tree's bag, if that was kept.
+    #[must_use]
+    pub fn samples(&self) -> Option<&Counts> {
+        self.counts.as_ref()
+    }
+}

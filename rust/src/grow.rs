@@ -1,0 +1,149 @@
+//! A seeded forest, some trees at a time: so many as their tapes stay small, on as many threads as there are.
+//!
+//! Each group of trees is grown by one call of the proved library, and the groups are then laid one after another, here, in plain
+//! Rust. A tree has its own counts and its own draws and knows nothing of its neighbours, so this is the forest of one call; the
+//! tests hold both against each other by bits.
+
+use crate::draws::{Draws, Source};
+use crate::explain;
+use crate::given::Given;
+use crate::parameters::{RandomForestRegressorParameters, Settings};
+use crate::refusal::Refusal;
+use crate::rooms::{self, Grown, Stopped, Work};
+use std::ops::Range;
+use std::sync::OnceLock;
+use std::sync::atomic::{AtomicUsize, Ordering};
+use std::thread;
+
+/// Told how many trees stand, and of how many.
+pub(crate) type Watch<'a> = &'a (dyn Fn(usize, usize) + Sync);
+
+/// A forest is parted in at least so many groups, if it has so many trees, for threads to share and for a watcher to see it grow.
+const PARTS: usize = 32;
+/// Trees of one group share at most so many words of tape, or else are alone.
+const TAPE: usize = 4 << 20;
+/// All threads together work in so many bytes, or else there is one.
+const MEMORY: usize = 1 << 30;
+
+/// Grows the trees that counts are given for. The sizes are those that the library takes.
+pub(crate) fn grow(
+    given: &Given,
+    parameters: &RandomForestRegressorParameters,
+    watch: Watch,
+) -> Result<Grown, Refusal> {
+    let settings = parameters.settings();
+    let source = Source::new(given, settings, parameters.seed);
+    let trees = given.counts.shape().0;
+    let (groups, words) = plan(&source, trees);
+    let threads = threads(parameters.n_threads, given.x.shape(), words).min(groups.len());
+    let field = Field {
+        given,
+        settings,
+        source,
+        watch,
+        next: AtomicUsize::new(0),
+        done: AtomicUsize::new(0),
+        grown: groups.iter().map(|_| OnceLock::new()).collect(),
+        groups,
+    };
+    thread::scope(|scope| {
+        for _ in 1..threads {
+            // where no more threads are to be had, those that are do the work
+            let _ = thread::Builder::new().spawn_scoped(scope, || field.work());
+        }
+        field.work();
+    });
+    let grown: Result<Vec<Grown>, Stopped> = field
+        .grown
+        .into_iter()
+        .filter_map(OnceLock::into_inner)
+        .collect();
+    let grown = grown.map_err(|it| explain::fit(&it, given, trees, None))?;
+    Ok(join(grown))
+}
+
+/// Groups of trees that follow each other, and how many words of tape the largest has.
+fn plan(source: &Source, trees: usize) -> (Vec<Range<usize>>, usize) {
+    let most = trees / PARTS + 1;
+    let mut groups: Vec<Range<usize>> = Vec::new();
+    let (mut words, mut largest) = (0, 0);
+    for tree in 0..trees {
+        let own = source.words(tree);
+        match groups.last_mut() {
+            Some(group) if group.len() < most && words + own <= TAPE => {
+                group.end += 1;
+                words += own;
+            }
+            _ => {
+                groups.push(tree..tree + 1);
+                words = own;
+            }
+        }
+        largest = words.max(largest);
+    }
+    (groups, largest)
+}
+
+fn threads(said: Option<usize>, shape: (usize, usize), words: usize) -> usize {
+    let machine = || thread::available_parallelism().map_or(1, usize::from);
+    let each = Work::bytes(shape) + 4 * words;
+    said.unwrap_or_else(machine)
+        .clamp(1, (MEMORY / each).max(1))
+}
+
+/// What all threads look at.
+struct Field<'a> {
+    given: &'a Given<'a>,
+    settings: Settings,
+    source: Source<'a>,
+    watch: Watch<'a>,
+    groups: Vec<Range<usize>>,
+    next: AtomicUsize,
+    done: AtomicUsize,
+    grown: Vec<OnceLock<Result<Grown, Stopped>>>,
+}
+
+impl Field<'_> {
+    /// Grows the next group that nobody has taken, until all are.
+    fn work(&self) {
+        let mut work = Work::new(self.given.x.shape());
+        loop {
+            let group = self.next.fetch_add(1, Ordering::Relaxed);
+            let (Some(trees), Some(slot)) = (self.groups.get(group), self.grown.get(group)) else {
+                return;
+            };
+            let answer = self.group(trees.clone(), &mut work);
+            // each group is taken once, so nothing stands there yet
+            let _ = slot.set(answer);
+            let done = self.done.fetch_add(trees.len(), Ordering::Relaxed) + trees.len();
+            (self.watch)(done, self.given.counts.shape().0);
+        }
+    }
+
+    fn group(&self, trees: Range<usize>, work: &mut Work) -> Result<Grown, Stopped> {
+        let mut draws = Draws::none();
+        for tree in trees.clone() {
+            self.source.draw(tree, &mut draws);
+        }
+        rooms::fit_forest(self.given, trees, &self.settings, &draws, work)
+    }
+}
+
+/// Lays groups one after another, each let go once it is laid.
+fn join(groups: Vec<Grown>) -> Grown {
+    let mut whole = Grown {
+        starts: vec![0],
+        ..Grown::default()
+    };
+    whole
+        .nodes
+        .reserve(groups.iter().map(|it| it.nodes.len()).sum());
+    for group in groups {
+        let base = whole.nodes.len() as u32;
+        let starts = group.starts.iter().skip(1);
+        whole.starts.extend(starts.map(|start| base + start));
+        whole.nodes.extend(&group.nodes);
+        whole.reports.extend_from_slice(&group.reports);
+    }
+    whole
+}

@@ -1,0 +1,232 @@
+//! Listings: for each feature all row numbers, by value never falling.
+
+use crate::matrix::DenseMatrix;
+use crate::refusal::{Cause, Fault, Refusal};
+use crate::{MAX_ROWS, explain, sizes};
+use std::fmt;
+use tailboardy_sys::linked;
+
+/// For each feature all row numbers, counted from 0, by value never falling.
+///
+/// [`sorted`](Listings::sorted) makes them, in plain Rust, outside the proved core. A show database that keeps its own hands them in
+/// ([`from_columns`](Listings::from_columns)). Either way nothing rests on it: every fit checks its listings, and so does
+/// [`check`](Listings::check), by the proved library.
+///
+/// ```
+/// use tailboardy::{DenseMatrix, Listings};
+///
+/// let x = DenseMatrix::from_2d_array(&[[7.5], [6.8], [7.1], [7.1]])?;
+/// let listings = Listings::sorted(&x);
+/// assert_eq!(listings.column(0), Some(&[1, 2, 3, 0][..]));
+/// listings.check(&x)?;
+///
+/// let damaged = Listings::from_columns(&[[1, 3, 3, 0]])?;
+/// let refusal = damaged.check(&x).unwrap_err();
+/// assert_eq!(refusal.number(), 5);
+/// assert_eq!(
+///     refusal.to_string(),
+///     "refusal 5 (listing): feature 0: row 3 stands twice, at places 1 and 2, and row 2 is missing; \
+///      sort the rows of this feature anew, with each row once"
+/// );
+/// # Ok::<(), tailboardy::Refusal>(())
+/// ```
+#[derive(Debug, Clone, PartialEq, Eq)]
+pub struct Listings {
+    features: usize,
+    /// How long each feature's listing is.
+    length: usize,
+    numbers: Vec<u32>,
+}
+
+/// The first place where a feature's listing breaks.
+#[derive(Debug, Clone, PartialEq, Eq)]
+pub struct ListingFault {
+    /// The feature.
+    pub feature: usize,
+    /// The place in its listing.
+    pub place: usize,
+    /// What is wrong there.
+    pub breach: Breach,
+    /// The lowest row that the whole listing lacks.
+    pub missing: Option<usize>,
+}
+
+/// How a listing breaks. At each place these are looked for in this order.
+#[derive(Debug, Clone, Copy, PartialEq, Eq)]
+#[non_exhaustive]
+pub enum Breach {
+    /// There is no such row.
+    NoSuchRow(u32),
+    /// The row stood at an earlier place.
+    Twice {
+        /// The row.
+        row: u32,
+        /// The earlier place.
+        before: usize,
+    },
+    /// The row's value is below that of the row before it.
+    Falls {
+        /// The row.
+        row: u32,
+        /// The row before it.
+        after: u32,
+    },
+    /// The listing ends before every row has stood.
+    Ends,
+}
+
+impl fmt::Display for ListingFault {
+    fn fmt(&self, f: &mut fmt::Formatter<'_>) -> fmt::Result {
+        let place = self.place;
+        write!(f, "feature {}: ", self.feature)?;
+        match self.breach {
+            Breach::NoSuchRow(row) => write!(f, "place {place} has row {row}, which is not there")?,
+            Breach::Twice { row, before } => {
+                write!(f, "row {row} stands twice, at places {before} and {place}")?;
+            }
+            Breach::Falls { row, after } => {
+                write!(
+                    f,
+                    "at place {place} the value of row {row} is below that of row {after}"
+                )?;
+            }
+            Breach::Ends => write!(f, "it ends after {place} rows")?,
+        }
+        match self.missing {
+            Some(row) => write!(f, ", and row {row} is missing"),
+            None => Ok(()),
+        }
+    }
+}
+
+impl Listings {
+    /// Sorted by value, and rows of one value by number; -0 and +0 are one value. Plain Rust, outside the proved core. Of a matrix
+    /// with more rows or features than any fit takes there are none.
+    #[must_use]
+    pub fn sorted(x: &DenseMatrix) -> Self {
+        let (rows, features) = x.shape();
+        if sizes::check(rows, features, 1).is_err() {
+            return Listings {
+                features,
+                length: 0,
+                numbers: Vec::new(),
+            };
+        }
+        let mut numbers = Vec::with_capacity(rows * features);
+        let mut column: Vec<(u64, u32)> = Vec::with_capacity(rows);
+        for feature in 0..features {
+            let values = x.values().iter().skip(feature).step_by(features);
+            column.clear();
+            column.extend(values.map(|value| rank(*value)).zip(0..));
+            column.sort_unstable();
+            numbers.extend(column.iter().map(|(_, row)| *row));
+        }
+        Listings {
+            features,
+            length: rows,
+            numbers,
+        }
+    }
+
+    /// One listing a feature, all equally long.
+    pub fn from_columns<C: AsRef<[u32]>>(columns: &[C]) -> Result<Self, Refusal> {
+        let length = columns.first().map_or(0, |column| column.as_ref().len());
+        let other = columns.iter().find(|it| it.as_ref().len() != length);
+        if let Some(column) = other {
+            return Err(Refusal::new(
+                Cause::Lengths,
+                Fault::Length {
+                    list: "row numbers in a listing",
+                    is: column.as_ref().len(),
+                    asked: length,
+                },
+            ));
+        }
+        Ok(Listings {
+            features: columns.len(),
+            length,
+            numbers: columns.iter().flat_map(AsRef::as_ref).copied().collect(),
+        })
+    }
+
+    /// Whether each feature's listing has each row once and no value falls along it: decided by the proved library.
+    pub fn check(&self, x: &DenseMatrix) -> Result<(), Refusal> {
+        let (rows, features) = x.shape();
+        match linked::check_listings(rows, features, x.values(), &self.numbers) {
+            0 => Ok(()),
+            number => Err(Refusal::of(number, explain::listings(number, x, self))),
+        }
+    }
+
+    /// The first place where a feature's listing breaks: found by plain Rust, for a person to look at. [`check`](Listings::check)
+    /// decides.
+    #[must_use]
+    pub fn fault(&self, x: &DenseMatrix, feature: usize) -> Option<ListingFault> {
+        let rows = x.shape().0;
+        let column = self.column(feature).filter(|_| rows <= MAX_ROWS)?;
+        let mut stood: Vec<Option<usize>> = vec![None; rows];
+        let mut first = None;
+        for (place, row) in column.iter().enumerate() {
+            let before = place.checked_sub(1).map(|at| column[at]);
+            first = first.or_else(|| Some((place, breach(x, feature, &stood, *row, before)?)));
+            if let Some(at) = stood.get_mut(*row as usize) {
+                *at = at.or(Some(place));
+            }
+        }
+        let missing = stood.iter().position(Option::is_none);
+        let ends = || Some((column.len(), missing.map(|_| Breach::Ends)?));
+        let (place, breach) = first.or_else(ends)?;
+        Some(ListingFault {
+            feature,
+            place,
+            breach,
+            missing,
+        })
+    }
+
+    /// How many features have a listing.
+    #[must_use]
+    pub fn features(&self) -> usize {
+        self.features
+    }
+
+    /// One feature's listing.
+    #[must_use]
+    pub fn column(&self, feature: usize) -> Option<&[u32]> {
+        let start = feature.checked_mul(self.length)?;
+        (feature < self.features).then(|| &self.numbers[start..start + self.length])
+    }
+
+    pub(crate) fn numbers(&self) -> &[u32] {
+        &self.numbers
+    }
+}
+
+/// A number that rises as the value does, and is one for both zeros.
+fn rank(value: f64) -> u64 {
+    let bits = (value + 0.0).to_bits();
+    if bits >> 63 == 1 {
+        !bits
+    } else {
+        bits | 1 << 63
+    }
+}
+
+/// What is wrong with a row at its place, if anything is.
+fn breach(
+    x: &DenseMatrix,
+    feature: usize,
+    stood: &[Option<usize>],
+    row: u32,
+    before: Option<u32>,
+) -> Option<Breach> {
+    let value = |row: u32| x.get((row as usize, feature));
+    match stood.get(row as usize) {
+        None => Some(Breach::NoSuchRow(row)),
+        Some(&Some(before)) => Some(Breach::Twice { row, before }),
+        Some(None) => {
+            let after = before?;
+            (value(row)? < value(after)?).then_some(Breach::Falls { row, after })
+        }
+    }
+}

@@ -1,0 +1,209 @@
+//! The rooms that fits are lent, and the fits themselves, one call each.
+
+use crate::draws::Draws;
+use crate::given::Given;
+use crate::nodes::Nodes;
+use crate::parameters::Settings;
+use crate::results::Report;
+use std::ops::Range;
+use tailboardy_sys::{TreeTold, linked};
+
+/// What growth works in. A fit that answers leaves it zero, to be lent again.
+#[derive(Debug)]
+pub(crate) struct Work {
+    order: Vec<u32>,
+    scratch: Vec<u32>,
+    flags: Vec<bool>,
+    wholes: Vec<[u32; 6]>,
+    reals: Vec<[f64; 3]>,
+}
+
+impl Work {
+    /// For data of a shape that the library takes.
+    pub(crate) fn new((rows, features): (usize, usize)) -> Self {
+        Work {
+            order: vec![0; rows * features],
+            scratch: vec![0; rows],
+            flags: vec![false; rows.max(features)],
+            wholes: vec![[0; 6]; rows],
+            reals: vec![[0.0; 3]; rows],
+        }
+    }
+
+    /// How many bytes that takes.
+    pub(crate) fn bytes((rows, features): (usize, usize)) -> usize {
+        4 * rows * features + 52 * rows + rows.max(features)
+    }
+}
+
+/// Trees as a fit leaves them.
+#[derive(Debug, Default)]
+pub(crate) struct Grown {
+    pub nodes: Nodes,
+    pub starts: Vec<u32>,
+    pub reports: Vec<Report>,
+}
+
+/// The number of a refusal, and the tree and search of a bad draw.
+pub(crate) struct Stopped {
+    pub number: u32,
+    pub place: [usize; 2],
+}
+
+/// As many nodes as a tree of these counts can have.
+fn most_nodes(given: &Given, counts: &[u32]) -> usize {
+    let kept = (0..counts.len()).filter(|row| given.keeps(counts, *row));
+    (2 * kept.count()).saturating_sub(1).max(1)
+}
+
+/// Report columns as the library writes them, one entry a tree.
+struct Reports {
+    nodes: Vec<u32>,
+    depth: Vec<u32>,
+    mass: Vec<f64>,
+    searches: Vec<u32>,
+    words: Vec<u32>,
+    thresholds: Vec<u32>,
+}
+
+impl Reports {
+    fn zeros(trees: usize) -> Self {
+        let column = || vec![0; trees];
+        Reports {
+            nodes: column(),
+            depth: column(),
+            mass: vec![0.0; trees],
+            searches: column(),
+            words: column(),
+            thresholds: column(),
+        }
+    }
+
+    fn told(&self) -> Vec<Report> {
+        let of_tree = |tree: usize| Report {
+            nodes: self.nodes[tree],
+            depth: self.depth[tree],
+            root_mass: self.mass[tree],
+            searches: self.searches[tree],
+            words_used: self.words[tree],
+            thresholds_used: self.thresholds[tree],
+        };
+        (0..self.nodes.len()).map(of_tree).collect()
+    }
+}
+
+/// Grows some of the trees that counts are given for, by one call of the library. The draws are those of these trees alone.
+pub(crate) fn fit_forest(
+    given: &Given,
+    trees: Range<usize>,
+    settings: &Settings,
+    draws: &Draws,
+    work: &mut Work,
+) -> Result<Grown, Stopped> {
+    let (rows, features) = given.x.shape();
+    let counted = given.counts.shape().1;
+    let own = &given.counts.numbers()[trees.start * counted..trees.end * counted];
+    let each = own.chunks(counted).map(|counts| most_nodes(given, counts));
+    let mut nodes = Nodes::zeros(each.sum());
+    let mut starts = vec![0; trees.len() + 1];
+    let mut reports = Reports::zeros(trees.len());
+    let told = linked::fit_forest(
+        rows,
+        features,
+        trees.len(),
+        settings.of_forest(),
+        given.x.values(),
+        given.y,
+        given.weights,
+        own,
+        given.listings.numbers(),
+        &draws.words,
+        &draws.thresholds,
+        &draws.word_cuts,
+        &draws.threshold_cuts,
+        &mut nodes.value,
+        &mut nodes.feature,
+        &mut nodes.threshold,
+        &mut nodes.score,
+        &mut nodes.true_child,
+        &mut nodes.false_child,
+        &mut starts,
+        &mut reports.nodes,
+        &mut reports.depth,
+        &mut reports.mass,
+        &mut reports.searches,
+        &mut reports.words,
+        &mut reports.thresholds,
+        &mut work.order,
+        &mut work.scratch,
+        &mut work.flags,
+        &mut work.wholes,
+        &mut work.reals,
+    );
+    if told.number != 0 {
+        let place = [trees.start + told.tree as usize, told.search as usize];
+        return Err(Stopped {
+            number: told.number,
+            place,
+        });
+    }
+    nodes.keep(starts.last().map_or(0, |end| *end as usize));
+    Ok(Grown {
+        nodes,
+        starts,
+        reports: reports.told(),
+    })
+}
+
+/// Grows one tree, from all counts and the whole of both tapes.
+pub(crate) fn fit_tree(
+    given: &Given,
+    settings: &Settings,
+    draws: &Draws,
+) -> Result<(Nodes, Report), Stopped> {
+    let shape = given.x.shape();
+    let mut nodes = Nodes::zeros(most_nodes(given, given.counts.numbers()));
+    let mut work = Work::new(shape);
+    let told = linked::fit_tree(
+        shape.0,
+        shape.1,
+        settings.of_tree(shape.1),
+        given.x.values(),
+        given.y,
+        given.weights,
+        given.counts.numbers(),
+        given.listings.numbers(),
+        &draws.words,
+        &draws.thresholds,
+        &mut nodes.value,
+        &mut nodes.feature,
+        &mut nodes.threshold,
+        &mut nodes.score,
+        &mut nodes.true_child,
+        &mut nodes.false_child,
+        &mut work.order,
+        &mut work.scratch,
+        &mut work.flags,
+        &mut work.wholes,
+        &mut work.reals,
+    );
+    if told.number != 0 {
+        return Err(Stopped {
+            number: told.number,
+            place: [told.tree as usize, told.search as usize],
+        });
+    }
+    nodes.keep(told.nodes as usize);
+    Ok((nodes, report(&told)))
+}
+
+fn report(told: &TreeTold) -> Report {
+    Report {
+        nodes: told.nodes,
+        depth: told.depth,
+        root_mass: told.mass,
+        searches: told.searches,
+        words_used: told.words,
+        thresholds_used: told.thresholds,
+    }
+}

@@ -1,0 +1,34 @@
+//! Sizes that the proved library takes.
+
+use crate::refusal::{Fault, Refusal};
+use crate::{MAX_FEATURES, MAX_ROWS, MAX_TREES};
+use tailboardy_sys::linked;
+
+/// Asked before anything is made for a call: the library looks at sizes first, so calls with nothing else in them tell.
+pub(crate) fn check(rows: usize, features: usize, trees: usize) -> Result<(), Refusal> {
+    let of_data = linked::check_listings(rows, features, &[], &[]);
+    let of_trees = linked::check_forest(1, trees, &[], &[], &[], &[], &[], &[], &[]);
+    match (of_data, of_trees) {
+        (1, _) | (_, 1) => Err(Refusal::of(1, fault(rows, features, trees))),
+        _ => Ok(()),
+    }
+}
+
+/// A result for each row, once it is sure that the library takes so many: no room is made for more.
+pub(crate) fn room(rows: usize, features: usize, trees: usize) -> Result<Vec<f64>, Refusal> {
+    check(rows, features, trees)?;
+    Ok(vec![0.0; rows])
+}
+
+/// The size that is out of range.
+pub(crate) fn fault(rows: usize, features: usize, trees: usize) -> Option<Fault> {
+    if !(1..=MAX_ROWS).contains(&rows) {
+        Some(Fault::Rows(rows))
+    } else if !(1..=MAX_FEATURES).contains(&features) {
+        Some(Fault::Features(features))
+    } else if !(1..=MAX_TREES).contains(&trees) {
+        Some(Fault::Trees(trees))
+    } else {
+        None
+    }
+}

@@ -1,0 +1,126 @@
+//! Trees fitted alone.
+
+use crate::draws::Draws;
+use crate::explain;
+use crate::fitting::Fitting;
+use crate::given::Given;
+use crate::matrix::DenseMatrix;
+use crate::nodes::{Node, Nodes, Tree, check_tree};
+use crate::parameters::DecisionTreeRegressorParameters;
+use crate::refusal::Refusal;
+use crate::results::{Importances, Means, Report};
+use crate::{rooms, sizes};
+
+/// A tree fitted on all rows.
+///
+/// ```
+/// use tailboardy::{DecisionTreeRegressor, DecisionTreeRegressorParameters, DenseMatrix, Kind};
+///
+/// // the second feature never changes, so that only the first can be split
+/// let x = DenseMatrix::from_2d_array(&[[0.0, 7.0], [1.0, 7.0], [2.0, 7.0], [3.0, 7.0]])?;
+/// let y = [1.0, 2.0, 5.0, 6.0];
+/// let parameters = DecisionTreeRegressorParameters::default().with_max_depth(2);
+/// let tree = DecisionTreeRegressor::fit(&x, &y, parameters)?;
+///
+/// assert_eq!(&*tree.predict(&x)?, [1.5, 1.5, 5.5, 5.5]);
+/// assert_eq!(&*tree.compute_feature_importances(false)?, [4.0, 0.0]);
+/// assert_eq!(&*tree.compute_feature_importances(true)?, [1.0, 0.0]);
+/// let Kind::Split(root) = tree.node(0).unwrap().kind else { panic!("a leaf") };
+/// assert_eq!((root.feature, root.threshold), (0, 1.5));
+/// # Ok::<(), tailboardy::Refusal>(())
+/// ```
+#[derive(Debug, Clone)]
+pub struct DecisionTreeRegressor {
+    features: usize,
+    nodes: Nodes,
+    report: Option<Report>,
+}
+
+impl DecisionTreeRegressor {
+    /// Fits a tree on all rows: sorts listings and draws from the seed in plain Rust, and grows the tree by the proved library.
+    pub fn fit(
+        x: &DenseMatrix,
+        y: &[f64],
+        parameters: DecisionTreeRegressorParameters,
+    ) -> Result<Self, Refusal> {
+        Fitting::new(x, y).tree(&parameters)
+    }
+
+    /// The same with weights, one a row.
+    pub fn fit_with_weights(
+        x: &DenseMatrix,
+        y: &[f64],
+        weights: &[f64],
+        parameters: DecisionTreeRegressorParameters,
+    ) -> Result<Self, Refusal> {
+        Fitting::new(x, y).with_weights(weights).tree(&parameters)
+    }
+
+    /// The proved call as it is: a tree of lent counts, which are one tree's, listings and draws, of which it takes the whole of both
+    /// tapes. The parameters' seed is not looked at.
+    pub fn fit_given(
+        given: &Given,
+        draws: &Draws,
+        parameters: &DecisionTreeRegressorParameters,
+    ) -> Result<Self, Refusal> {
+        let (rows, features) = given.x.shape();
+        sizes::check(rows, features, 1)?;
+        let (nodes, report) = rooms::fit_tree(given, &parameters.settings(features), draws)
+            .map_err(|it| explain::fit(&it, given, 1, None))?;
+        Ok(DecisionTreeRegressor {
+            features,
+            nodes,
+            report: Some(report),
+        })
+    }
+
+    /// A tree from nodes that were kept or sent. The proved library checks them; bad ones are refused (8).
+    pub fn from_table(features: usize, mut nodes: Nodes) -> Result<Self, Refusal> {
+        nodes.keep(nodes.len());
+        check_tree(features, nodes.columns())?;
+        Ok(DecisionTreeRegressor {
+            features,
+            nodes,
+            report: None,
+        })
+    }
+
+    /// The tree, to be read.
+    #[must_use]
+    pub fn tree(&self) -> Tree<'_> {
+        Tree {
+            features: self.features,
+            columns: self.nodes.columns(),
+        }
+    }
+
+    /// The value of the leaf that each row comes to.
+    pub fn predict(&self, x: &DenseMatrix) -> Result<Means, Refusal> {
+        self.tree().predict(x)
+    }
+
+    /// How much each feature tells: the scores of the splits by feature, divided by their sum if they are to be normalised, else by
+    /// the mass of all rows. Of a tree that came as a table that mass is not known, and taken to be 0: nothing is divided.
+    pub fn compute_feature_importances(&self, normalize: bool) -> Result<Importances, Refusal> {
+        let mass = self.report.map_or(0.0, |report| report.root_mass);
+        self.tree().importances(!normalize, mass)
+    }
+
+    /// A node, if the tree has one of this number: see [`Tree::node`].
+    #[must_use]
+    pub fn node(&self, number: usize) -> Option<Node> {
+        self.tree().node(number)
+    }
+
+    /// What the fit told; nothing of a tree that came as a table.
+    #[must_use]
+    pub fn report(&self) -> Option<&Report> {
+        self.report.as_ref()
+    }
+
+    /// The nodes.
+    #[must_use]
+    pub fn nodes(&self) -> &Nodes {
+        &self.nodes
+    }
+}

@@ -1,0 +1,139 @@
+//! What crosses the boundary to the proved library, as `include/tailboardy.h` has it for C: the structs, all calls in one list
+//! ([`calls!`]), and, where the library is linked, each call over slices ([`linked`]).
+//!
+//! This is the one place of the crate `tailboardy` with `unsafe` in it. The calls themselves are safe on every input: they ask
+//! nothing of the numbers that they are handed, and what they ask of the memory (docs/BOUNDARY.md) Rust's slices carry.
+
+#[cfg(feature = "linked")]
+pub mod linked;
+
+/// How one tree is grown. The limit is heeded where the depth is limited; the splitter is random, or else best.
+#[repr(C)]
+#[derive(Debug, Clone, Copy)]
+#[allow(missing_docs)]
+pub struct TreeSettings {
+    pub limited: bool,
+    pub limit: u16,
+    pub leaf: u32,
+    pub split: u32,
+    pub tried: u32,
+    pub random: bool,
+}
+
+/// The same of a forest's trees. The number tried is heeded where it is said; else it is the floor of the root of the features.
+#[repr(C)]
+#[derive(Debug, Clone, Copy)]
+#[allow(missing_docs)]
+pub struct ForestSettings {
+    pub limited: bool,
+    pub limit: u16,
+    pub leaf: u32,
+    pub split: u32,
+    pub said: bool,
+    pub tried: u32,
+    pub random: bool,
+}
+
+/// 0 or a refusal's number, the place of a bad draw, the report of a grown tree.
+#[repr(C)]
+#[derive(Debug, Clone, Copy)]
+#[allow(missing_docs)]
+pub struct TreeTold {
+    pub number: u32,
+    pub tree: u32,
+    pub search: u32,
+    pub nodes: u32,
+    pub depth: u32,
+    pub mass: f64,
+    pub searches: u32,
+    pub words: u32,
+    pub thresholds: u32,
+}
+
+/// 0 or a refusal's number, and the place of a bad draw.
+#[repr(C)]
+#[derive(Debug, Clone, Copy)]
+#[allow(missing_docs)]
+pub struct ForestTold {
+    pub number: u32,
+    pub tree: u32,
+    pub search: u32,
+}
+
+/// 0 or a refusal's number, and the error.
+#[repr(C)]
+#[derive(Debug, Clone, Copy)]
+#[allow(missing_docs)]
+pub struct ErrorTold {
+    pub number: u32,
+    pub error: f64,
+}
+
+/// 0 or a refusal's number, whether the node is there, and its entries: of a leaf the value alone.
+#[repr(C)]
+#[derive(Debug, Clone, Copy)]
+#[allow(missing_docs)]
+pub struct NodeTold {
+    pub number: u32,
+    pub there: bool,
+    pub value: f64,
+    pub feature: u32,
+    pub threshold: f64,
+    pub score: f64,
+    pub yes: u32,
+    pub no: u32,
+}
+
+/// Hands the list of calls to a macro. Of each call: its kind in the list of answers (oracle/README.md), its name and its symbol;
+/// what is passed by value; the slices that are lent to be read, and those to be written, by their entries; what is passed after
+/// them; what it tells. The structs above are to be in scope where it is used.
+#[macro_export]
+macro_rules! calls {
+    ($to:ident) => {
+        $to! {
+            1 fit_tree = tailboardy_fit_tree(rows: usize, features: usize, plain: TreeSettings)
+                reads(values: f64, targets: f64, weights: f64, counts: u32, listings: u32, words: u32, thresholds: f64)
+                writes(value: f64, feature: u32, threshold: f64, score: f64, yes: u32, no: u32,
+                    order: u32, scratch: u32, flags: bool, wholes: [u32; 6], reals: [f64; 3])
+                () -> TreeTold;
+            2 fit_forest = tailboardy_fit_forest(rows: usize, features: usize, trees: usize, plain: ForestSettings)
+                reads(values: f64, targets: f64, weights: f64, counts: u32, listings: u32, words: u32, thresholds: f64,
+                    wordcuts: usize, thresholdcuts: usize)
+                writes(value: f64, feature: u32, threshold: f64, score: f64, yes: u32, no: u32, starts: u32,
+                    nodes: u32, depth: u32, mass: f64, searches: u32, wordsused: u32, thresholdsused: u32,
+                    order: u32, scratch: u32, flags: bool, wholes: [u32; 6], reals: [f64; 3])
+                () -> ForestTold;
+            3 predict_tree = tailboardy_predict_tree(rows: usize, features: usize)
+                reads(values: f64, value: f64, feature: u32, threshold: f64, score: f64, yes: u32, no: u32)
+                writes(out: f64) () -> u32;
+            4 forest_means = tailboardy_forest_means(rows: usize, features: usize, trees: usize)
+                reads(values: f64, starts: u32, value: f64, feature: u32, threshold: f64, score: f64, yes: u32, no: u32)
+                writes(out: f64) () -> u32;
+            5 out_of_bag_means = tailboardy_out_of_bag_means(rows: usize, features: usize, trees: usize)
+                reads(values: f64, counts: u32, starts: u32,
+                    value: f64, feature: u32, threshold: f64, score: f64, yes: u32, no: u32)
+                writes(out: f64) () -> u32;
+            6 tree_importances = tailboardy_tree_importances(features: usize, by_mass: bool, mass: f64)
+                reads(value: f64, feature: u32, threshold: f64, score: f64, yes: u32, no: u32)
+                writes(out: f64) () -> u32;
+            8 forest_importances = tailboardy_forest_importances(features: usize, trees: usize)
+                reads(starts: u32, value: f64, feature: u32, threshold: f64, score: f64, yes: u32, no: u32)
+                writes(out: f64) () -> u32;
+            9 out_of_bag_error = tailboardy_out_of_bag_error(rows: usize)
+                reads(targets: f64, means: f64)
+                writes() () -> ErrorTold;
+            10 check_listings = tailboardy_check_listings(rows: usize, features: usize)
+                reads(values: f64, listings: u32)
+                writes() () -> u32;
+            11 check_tree = tailboardy_check_tree(features: usize)
+                reads(value: f64, feature: u32, threshold: f64, score: f64, yes: u32, no: u32)
+                writes() () -> u32;
+            12 check_forest = tailboardy_check_forest(features: usize, trees: usize)
+                reads(starts: u32, value: f64, feature: u32, threshold: f64, score: f64, yes: u32, no: u32)
+                writes() () -> u32;
+            13 read_node = tailboardy_read_node(features: usize)
+                reads(value: f64, feature: u32, threshold: f64, score: f64, yes: u32, no: u32)
+                writes() (k: usize) -> NodeTold;
+        }
+    };
+}

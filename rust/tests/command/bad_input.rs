@@ -1,0 +1,284 @@
+//! Files that cannot be used: one line that names file, line and column, status 1, and nothing written.
+//! In what is to be told OLD, NEW and LIST stand for the names of the files.
+
+use crate::{Folder, run};
+
+const GOOD: &str = "fixture,x,z,pan\na,1,5,0\nb,2,6,1\nc,3,7,4\n";
+
+/// Corrects by files of these texts and looks at what is told.
+fn corrected(old: impl AsRef<[u8]>, new: impl AsRef<[u8]>, more: &[&str], why: &str) {
+    let folder = Folder::new("corrected");
+    let (old, new) = (folder.write("old.csv", old), folder.write("new.csv", new));
+    let out = folder.path("out.csv");
+    let words = ["correct", &old, &new, "--target", "pan", "--out", &out];
+    let told = run(&[&words[..], more].concat());
+    let why = why.replace("OLD", &old).replace("NEW", &new);
+    assert_eq!(told.err, format!("tailboardy: {why}\n"));
+    assert_eq!((told.status, told.out.as_str()), (Some(1), ""));
+    assert_eq!(folder.files(), 2);
+}
+
+const OLD_SHOWS: &[[&str; 2]] = &[
+    ["", "OLD: it is empty"],
+    [
+        "fixture,x,pan\n",
+        "OLD: it has names of columns and no rows",
+    ],
+    [
+        "f,x\na,1\n",
+        "OLD, line 1: there is no column \"pan\"; there are \"f\", \"x\"",
+    ],
+    [
+        "x,x,pan\n1,1,1\n",
+        "OLD, line 1: two columns have the name \"x\"",
+    ],
+    ["x,,pan\n1,1,1\n", "OLD, line 1: column 2 has no name"],
+    [
+        "x,pan\n1,2\n3\n",
+        "OLD, line 3: its cells are 1, and the columns 2",
+    ],
+    [
+        "x,pan\n1,2\n3,4,5\n",
+        "OLD, line 3: its cells are 3, and the columns 2",
+    ],
+    [
+        "x,pan\n1,2\n\n3,4\n",
+        "OLD, line 3: it is an empty line, and rows follow",
+    ],
+    [
+        "x,pan\n1,\"2\n",
+        "OLD, line 2: a quote is opened and never closed",
+    ],
+    [
+        "x,pan\n1,abc\n",
+        "OLD, line 2, column pan: \"abc\" is not a number",
+    ],
+    [
+        "x,pan\n1,2\n2,NaN\n",
+        "OLD, line 3, column pan: \"NaN\" is not a number",
+    ],
+    [
+        "x,pan\n1,inf\n",
+        "OLD, line 2, column pan: \"inf\" is not a number",
+    ],
+    [
+        "x,pan\n1,1e400\n",
+        "OLD, line 2, column pan: \"1e400\" is too large a number",
+    ],
+    [
+        "x,pan\n1,\n",
+        "OLD, line 2, column pan: the cell is empty; a number is asked",
+    ],
+    [
+        "x,pan\n1,1\n\"a\nb\",2\n",
+        "OLD, line 3, column x: \"a\\nb\" is not a number",
+    ],
+    [
+        "x,pan\n1,1\n0x10,2\n",
+        "OLD, line 3, column x: \"0x10\" is not a number",
+    ],
+    [
+        "x,pan\nup,1\n",
+        "OLD: there is no column of numbers to go by, beside target and weight",
+    ],
+];
+
+#[test]
+fn old_shows() {
+    for [old, why] in OLD_SHOWS {
+        corrected(old, "x\n1\n", &[], why);
+    }
+    let bytes = b"x,pan\n\xe9,1\n";
+    corrected(bytes, "x\n1\n", &[], "OLD, line 2: it is not text in UTF-8");
+    let huge = "x,pan\n1,1e308\n2,1e308\n3,1e308\n";
+    let why = "NEW, line 2: its correction is no number: there are targets so large that their sums overflow, in OLD";
+    corrected(huge, "x\n1\n", &[], why);
+}
+
+#[test]
+fn shows_that_are_too_large() {
+    let long = "1,2\n".repeat(65_536);
+    let why =
+        |which: &str| format!("{which}, line 65537: there are too many rows: 65535 are the most");
+    corrected(format!("x,pan\n{long}"), "x\n1\n", &[], &why("OLD"));
+    corrected(GOOD, format!("x,z\n{long}"), &[], &why("NEW"));
+    let names: Vec<String> = (0..1025).map(|it| format!("f{it}")).collect();
+    let (names, cells) = (names.join(","), vec!["1"; 1025].join(","));
+    let new = format!("{names}\n{cells}\n");
+    let why = "OLD: refusal 1 (sizes): 1025 features, where 1 to 1024 are taken; \
+               rows go from 1 to 65,535, features and trees from 1 to 1,024";
+    corrected(format!("{names},pan\n{cells},1\n"), new, &[], why);
+}
+
+const NEW_SHOWS: &[[&str; 2]] = &[
+    ["", "NEW: it is empty"],
+    [
+        "x,z\n1,2\nlow,3\n",
+        "NEW, line 3, column x: \"low\" is not a number",
+    ],
+    [
+        "x,z\n1,2\n,3\n",
+        "NEW, line 3, column x: the cell is empty; a number is asked",
+    ],
+    [
+        "x,z\n1\n",
+        "NEW, line 2: its cells are 1, and the columns 2",
+    ],
+    [
+        "q\n1\n",
+        "OLD: there is no column of numbers to go by, beside target and weight",
+    ],
+    [
+        "x,pan_correction\n1,2\n",
+        "NEW, line 1: there is a column pan_correction already; name the columns to write with --id",
+    ],
+];
+
+#[test]
+fn new_shows() {
+    for [new, why] in NEW_SHOWS {
+        corrected(GOOD, new, &[], why);
+    }
+}
+
+const NAMED: &[[&str; 3]] = &[
+    [
+        "--features",
+        "x,q",
+        "NEW, line 1: there is no column \"q\"; there are \"fixture\", \"x\"",
+    ],
+    [
+        "--features",
+        "fixture,x",
+        "NEW, line 2, column fixture: \"a\" is not a number",
+    ],
+    [
+        "--features",
+        "x,z",
+        "NEW, line 1: there is no column \"z\"; there are \"fixture\", \"x\"",
+    ],
+    [
+        "--weight",
+        "q",
+        "OLD, line 1: there is no column \"q\"; there are \"fixture\", \"x\", \"z\", \"pan\"",
+    ],
+    [
+        "--id",
+        "z",
+        "NEW, line 1: there is no column \"z\"; there are \"fixture\", \"x\"",
+    ],
+    [
+        "--listing",
+        "/nowhere",
+        "/nowhere: No such file or directory (os error 2)",
+    ],
+    [
+        "--n-trees",
+        "1025",
+        "OLD: refusal 1 (sizes): 1025 trees, where 1 to 1024 are taken; \
+         rows go from 1 to 65,535, features and trees from 1 to 1,024",
+    ],
+];
+
+#[test]
+fn columns_that_are_named() {
+    for [option, value, why] in NAMED {
+        corrected(GOOD, "fixture,x\na,1\n", &[option, value], why);
+    }
+}
+
+#[test]
+fn weights() {
+    for [old, why] in [
+        [
+            "x,w,pan\n1,1,1\n2,-1,2\n",
+            "line 3, column w: the weight is -1 (refusal 3, numbers)",
+        ],
+        [
+            "x,w,pan\n1,0,1\n2,-0,2\n",
+            "column w: all weights are 0, so that nothing is left to fit on",
+        ],
+        [
+            "x,w,pan\n1,much,1\n",
+            "line 2, column w: \"much\" is not a number",
+        ],
+    ] {
+        let why = format!("OLD, {why}");
+        corrected(old, "x\n1\n", &["--weight", "w"], &why);
+        corrected(old, "x\n1\n", &["--weight", "w", "--no-bootstrap"], &why);
+    }
+}
+
+const LISTINGS: &[[&str; 2]] = &[
+    ["x,z\n0,0\n1,1\n2,2\n", ""],
+    [
+        "x,z\n0,0\n1,1\n",
+        "LIST, column x: it ends after 2 of 3 rows, and row 2 is missing, which is line 4 of OLD (refusal 2, lengths)\n\
+         LIST, column z: it ends after 2 of 3 rows, and row 2 is missing, which is line 4 of OLD (refusal 2, lengths)",
+    ],
+    [
+        "x,z\n0,0\n2,1\n2,2\n",
+        "LIST, line 4, column x: row 2 stands twice, first in line 3, and row 1 is missing, which is line 3 of OLD (refusal 5, listing)",
+    ],
+    [
+        "x,z\n0,0\n1,1\n2,3\n",
+        "LIST, line 4, column z: there is no row 3; the last is 2, and row 2 is missing, which is line 4 of OLD (refusal 5, listing)",
+    ],
+    [
+        "x,z\n1,0\n0,1\n2,2\n",
+        "LIST, line 3, column x: the value of row 0 is below that of row 1, which stands before it (refusal 5, listing)",
+    ],
+    [
+        "x\n0\n1\n2\n0\n",
+        "LIST, line 5, column x: row 0 stands twice, first in line 2 (refusal 2, lengths)",
+    ],
+    [
+        "x,z\n0,0\n1,one\n2,2\n",
+        "LIST, line 3, column z: \"one\" is not a row number",
+    ],
+    [
+        "x,z\n0,0\n1,-1\n2,2\n",
+        "LIST, line 3, column z: \"-1\" is not a row number",
+    ],
+    [
+        "x,z\n0,0\n1,\n2,2\n",
+        "LIST, line 3, column z: the cell is empty; a row number is asked",
+    ],
+    [
+        "x,q\n0,0\n1,1\n2,2\n",
+        "OLD, line 1: there is no column \"q\"; there are \"fixture\", \"x\", \"z\", \"pan\"",
+    ],
+];
+
+#[test]
+fn listings() {
+    for [listing, why] in LISTINGS {
+        let folder = Folder::new("listings");
+        let (old, list) = (
+            folder.write("old.csv", GOOD),
+            folder.write("list.csv", listing),
+        );
+        let told = run(&["check", &old, "--listing", &list]);
+        let lines: String = why
+            .lines()
+            .map(|it| format!("tailboardy: {it}\n"))
+            .collect();
+        assert_eq!(told.err, lines.replace("OLD", &old).replace("LIST", &list));
+        assert_eq!(told.status, Some(i32::from(!why.is_empty())));
+    }
+}
+
+#[test]
+fn files_that_are_not_there() {
+    for (file, why) in [
+        (
+            "/nowhere.csv",
+            "/nowhere.csv: No such file or directory (os error 2)",
+        ),
+        ("/", "/, line 1: Is a directory (os error 21)"),
+    ] {
+        let told = run(&["check", file]);
+        assert_eq!(told.err, format!("tailboardy: {why}\n"));
+        assert_eq!((told.status, told.out.as_str()), (Some(1), ""));
+    }
+}

@@ -1,0 +1,79 @@
+//! The command, run as a person runs it: on shows/, and on files that are wrong.
+
+mod bad_input;
+mod shows;
+mod usage;
+
+use std::fs;
+use std::path::PathBuf;
+use std::process::{Command, Output};
+use std::sync::atomic::{AtomicUsize, Ordering};
+
+/// What a run told.
+#[derive(Debug, PartialEq)]
+pub(crate) struct Run {
+    pub(crate) status: Option<i32>,
+    pub(crate) out: String,
+    pub(crate) err: String,
+}
+
+/// The command with these words. Where it is for another processor TAILBOARDY_RUNNER names what runs it.
+pub(crate) fn command(words: &[&str]) -> Command {
+    let program = env!("CARGO_BIN_EXE_tailboardy");
+    let runner = std::env::var("TAILBOARDY_RUNNER").unwrap_or_default();
+    let mut line = runner.split_whitespace().chain([program]);
+    let mut command = Command::new(line.next().unwrap());
+    command.args(line).args(words);
+    command
+}
+
+pub(crate) fn told(output: Output) -> Run {
+    let text = |bytes| String::from_utf8(bytes).expect("text");
+    Run {
+        status: output.status.code(),
+        out: text(output.stdout),
+        err: text(output.stderr),
+    }
+}
+
+pub(crate) fn run(words: &[&str]) -> Run {
+    told(command(words).output().expect("the command starts"))
+}
+
+/// A file of shows/.
+pub(crate) fn show(name: &str) -> String {
+    format!("{}/../shows/{name}", env!("CARGO_MANIFEST_DIR"))
+}
+
+/// A folder that goes with the test.
+pub(crate) struct Folder(PathBuf);
+
+impl Folder {
+    pub(crate) fn new(name: &str) -> Self {
+        static NEXT: AtomicUsize = AtomicUsize::new(0);
+        let own = NEXT.fetch_add(1, Ordering::Relaxed);
+        let name = format!("tailboardy-{}-{own}-{name}", std::process::id());
+        let folder = std::env::temp_dir().join(name);
+        fs::create_dir_all(&folder).expect("a folder");
+        Folder(folder)
+    }
+
+    pub(crate) fn path(&self, name: &str) -> String {
+        self.0.join(name).to_string_lossy().into_owned()
+    }
+
+    pub(crate) fn write(&self, name: &str, text: impl AsRef<[u8]>) -> String {
+        fs::write(self.0.join(name), text).expect("a file");
+        self.path(name)
+    }
+
+    pub(crate) fn files(&self) -> usize {
+        fs::read_dir(&self.0).expect("a folder").count()
+    }
+}
+
+impl Drop for Folder {
+    fn drop(&mut self) {
+        let _ = fs::remove_dir_all(&self.0);
+    }
+}

@@ -1,0 +1,139 @@
+//! Help, and words that make no sense.
+
+use crate::{command, run, show};
+use std::fs::File;
+
+const COMMANDS: &[[&str; 3]] = &[
+    [
+        "check",
+        "SHOW.csv",
+        "--target --weight --features --id --listing",
+    ],
+    [
+        "fit",
+        "SHOW.csv",
+        "--target --n-trees --m --max-depth --min-samples-leaf --seed",
+    ],
+    [
+        "correct",
+        "OLD.csv NEW.csv",
+        "--min-samples-split --splitter --no-bootstrap --n-threads --out",
+    ],
+];
+
+#[test]
+fn help_is_given_for_each() {
+    let all = run(&["--help"]);
+    assert_eq!((all.status, all.err.as_str()), (Some(0), ""));
+    for [name, files, options] in COMMANDS {
+        assert!(all.out.contains(&format!("tailboardy {name}")));
+        let told = run(&[name, "--help"]);
+        assert_eq!((told.status, told.err.as_str()), (Some(0), ""));
+        let head = format!("tailboardy {name} {files} [OPTION..]\n");
+        assert!(told.out.starts_with(&head));
+        let mut options = options.split(' ').map(|it| format!("  {it} "));
+        assert!(options.all(|it| told.out.contains(&it)), "{}", told.out);
+        assert!(told.out.contains("Exit status: 0 done, 1 refused"));
+    }
+    let version = run(&["--version"]).out;
+    assert_eq!(
+        version,
+        concat!("tailboardy ", env!("CARGO_PKG_VERSION"), "\n")
+    );
+}
+
+/// Words, parted by spaces, and what is told of them.
+const SENSELESS: &[[&str; 2]] = &[
+    ["", "a command is asked"],
+    ["frobnicate", "there is no command frobnicate"],
+    ["check", "the files asked are SHOW.csv"],
+    ["check a b", "the files asked are SHOW.csv"],
+    [
+        "correct a --target pan",
+        "the files asked are OLD.csv NEW.csv",
+    ],
+    ["check a --frobnicate", "there is no option --frobnicate"],
+    ["check a --n-trees 3", "there is no option --n-trees"],
+    ["fit a --target", "--target takes NAME"],
+    ["fit a --no-bootstrap=1", "--no-bootstrap takes nothing"],
+    ["fit a --seed 1 --seed 2", "--seed is said twice"],
+    [
+        "fit a",
+        "--target NAME is asked: the column that is predicted",
+    ],
+    [
+        "fit a --target p --n-trees many",
+        "--n-trees many: a whole number up to 4294967295 is asked",
+    ],
+    [
+        "fit a --target p --n-trees -1",
+        "--n-trees -1: a whole number up to 4294967295 is asked",
+    ],
+    [
+        "fit a --target p --max-depth 65536",
+        "--max-depth 65536: a whole number up to 65535 is asked",
+    ],
+    [
+        "fit a --target p --splitter worst",
+        "--splitter worst: best or random is asked",
+    ],
+    [
+        "fit a --target p --weight p",
+        "the column \"p\" is said twice",
+    ],
+    [
+        "fit a --target p --features x,p",
+        "the column \"p\" is said twice",
+    ],
+    [
+        "fit a --target p --features \"x",
+        "--features: a quote is opened and never closed",
+    ],
+];
+
+#[test]
+fn words_that_make_no_sense_are_told() {
+    for [words, why] in SENSELESS {
+        let words: Vec<&str> = words.split_whitespace().collect();
+        let told = run(&words);
+        assert_eq!((told.status, told.out.as_str()), (Some(2), ""), "{words:?}");
+        let line = format!("tailboardy: {why}");
+        assert_eq!(told.err.lines().next(), Some(line.as_str()));
+    }
+}
+
+#[test]
+fn a_show_is_not_written_over() {
+    let (old, new) = (show("old-house.csv"), show("new-house.csv"));
+    let told = run(&["correct", &old, &new, "--target", "pan", "--out", &new]);
+    assert_eq!(told.status, Some(2));
+    assert_eq!(told.err, "tailboardy: --out names a file that is read\n");
+}
+
+#[test]
+fn what_cannot_be_written_is_told() {
+    let (old, new) = (show("old-house.csv"), show("new-house.csv"));
+    let words = ["correct", &old, &new, "--target", "pan"];
+    let full = File::options().write(true).open("/dev/full").unwrap();
+    let status = command(&words).stdout(full).output().unwrap();
+    let told = crate::told(status);
+    assert_eq!(told.status, Some(1));
+    assert!(
+        told.err
+            .contains("tailboardy: standard output: No space left"),
+        "{}",
+        told.err
+    );
+    let told = run(&[&words[..], &["--out", "/nowhere/out.csv"]].concat());
+    assert_eq!(told.status, Some(1));
+    assert!(
+        told.err
+            .contains("tailboardy: /nowhere/out.csv: No such file"),
+        "{}",
+        told.err
+    );
+    assert_eq!(
+        run(&[&words[..], &["--out", "/dev/null"]].concat()).status,
+        Some(0)
+    );
+}

@@ -1,0 +1,339 @@
+//! Every refusal has its number, finds its place, and leaves a sentence; and nothing panics.
+
+mod common;
+
+use common::Maker;
+use tailboardy::{
+    Breach, Cause, Counts, DecisionTreeRegressor, DenseMatrix, Draws, Fault, Fitting, Given,
+    Listings, MAX_FEATURES, MAX_ROWS, MAX_TREES, Nodes, RandomForestRegressor,
+    RandomForestRegressorParameters, Refusal,
+};
+
+fn parameters() -> RandomForestRegressorParameters {
+    RandomForestRegressorParameters::default().with_n_trees(3)
+}
+
+fn refused<T>(answer: Result<T, Refusal>, number: u32, sentence: &str) {
+    let refusal = answer.map(|_| ()).unwrap_err();
+    assert_eq!(refusal.number(), number, "{refusal}");
+    let told = refusal.to_string();
+    assert!(told.starts_with(&format!("refusal {number} (")), "{told}");
+    assert!(told.contains(sentence), "{told}");
+    assert!(told.ends_with(refusal.cause().advice()));
+}
+
+#[test]
+fn sizes() {
+    let fit = |rows: usize, features: usize, trees: usize| {
+        let x = DenseMatrix::new(rows, features, vec![0.0; rows * features]).unwrap();
+        RandomForestRegressor::fit(&x, &vec![0.0; rows], parameters().with_n_trees(trees))
+    };
+    refused(fit(0, 0, 1), 1, "0 rows");
+    refused(
+        fit(MAX_ROWS + 1, 1, 1),
+        1,
+        "65536 rows, where 1 to 65535 are taken",
+    );
+    refused(fit(1, 0, 1), 1, "0 features");
+    refused(fit(1, MAX_FEATURES + 1, 1), 1, "1025 features");
+    refused(fit(1, 1, 0), 1, "0 trees");
+    refused(fit(1, 1, MAX_TREES + 1), 1, "1025 trees");
+    refused(fit(1, 1, usize::MAX), 1, "trees");
+    assert!(fit(MAX_ROWS, 1, 1).is_ok());
+    assert!(fit(1, MAX_FEATURES, MAX_TREES).is_ok());
+    let forest = fit(3, 2, 2).unwrap();
+    let many = DenseMatrix::new(MAX_ROWS + 1, 2, vec![0.0; 2 * MAX_ROWS + 2]).unwrap();
+    refused(forest.predict(&many), 1, "65536 rows");
+    let endless = DenseMatrix::new(usize::MAX, 0, vec![]).unwrap();
+    refused(forest.predict(&endless), 1, "rows");
+    refused(Listings::sorted(&endless).check(&endless), 1, "rows");
+    assert_eq!(
+        Listings::from_columns(&[[0]]).unwrap().fault(&endless, 0),
+        None
+    );
+}
+
+#[test]
+fn lengths() {
+    let x = DenseMatrix::from_2d_array(&[[1.0, 2.0], [3.0, 4.0]]).unwrap();
+    let fit = |y: &[f64], weights: &[f64], bootstrap: bool| {
+        let parameters = parameters().with_bootstrap(bootstrap);
+        RandomForestRegressor::fit_with_weights(&x, y, weights, parameters)
+    };
+    refused(fit(&[1.0], &[], true), 2, "targets: 1, where 2 are asked");
+    refused(
+        fit(&[1.0; 2], &[1.0], true),
+        2,
+        "weights: 1, where 2 are asked",
+    );
+    refused(
+        fit(&[1.0; 2], &[1.0; 3], false),
+        2,
+        "weights: 3, where 2 are asked",
+    );
+
+    let forest = fit(&[1.0; 2], &[], true).unwrap();
+    let narrow = DenseMatrix::from_2d_array(&[[1.0]]).unwrap();
+    refused(
+        forest.predict(&narrow),
+        2,
+        "values a row: 1, where 2 are asked",
+    );
+    let kept = RandomForestRegressor::fit(&x, &[1.0; 2], parameters().with_keep_samples(true));
+    let means = kept.unwrap().predict_oob(&x).unwrap();
+    refused(means.error(&[1.0]), 2, "targets: 1, where 2 are asked");
+}
+
+#[test]
+fn shapes() {
+    let x = DenseMatrix::from_2d_array(&[[1.0, 2.0], [3.0, 4.0]]).unwrap();
+    refused(
+        DenseMatrix::from_2d_array(&[vec![1.0], vec![]]),
+        2,
+        "row 1 has 0 values",
+    );
+    refused(DenseMatrix::new(usize::MAX, 2, vec![]), 2, "values: 0");
+    refused(
+        Counts::new(2, 2, vec![1; 3]),
+        2,
+        "counts: 3, where 4 are asked",
+    );
+    refused(Counts::new(usize::MAX, 2, vec![]), 1, "trees");
+    let ragged = Listings::from_columns(&[vec![0, 1], vec![0]]);
+    refused(ragged, 2, "row numbers in a listing: 1, where 2 are asked");
+    let one = Listings::from_columns(&[[0, 1]]).unwrap();
+    refused(one.check(&x), 2, "listings: 1, where 2 are asked");
+    let short = Listings::from_columns(&[[1], [0]]).unwrap();
+    refused(
+        short.check(&x),
+        2,
+        "feature 0: it ends after 1 rows, and row 0 is missing",
+    );
+}
+
+#[test]
+fn lent_lengths() {
+    let x = DenseMatrix::from_2d_array(&[[1.0], [2.0]]).unwrap();
+    let listings = Listings::sorted(&x);
+    fn given<'a>(x: &'a DenseMatrix, listings: &'a Listings, counts: &'a Counts) -> Given<'a> {
+        Given {
+            x,
+            y: &[1.0; 2],
+            weights: &[],
+            counts,
+            listings,
+        }
+    }
+    let fit = |counts: &Counts, draws: &Draws| {
+        RandomForestRegressor::fit_given(&given(&x, &listings, counts), draws, &parameters())
+    };
+    let counts = Counts::ones(2, 2).unwrap();
+    let mut draws = Draws::none();
+    refused(
+        fit(&counts, &draws),
+        2,
+        "the word cuts do not part their tape",
+    );
+    draws.push_tree(&[0; 3], &[]);
+    draws.push_tree(&[0; 3], &[]);
+    assert!(fit(&counts, &draws).is_ok());
+    draws.threshold_cuts = vec![0, 1, 0];
+    refused(fit(&counts, &draws), 2, "the threshold cuts");
+    refused(
+        fit(&Counts::ones(2, 3).unwrap(), &draws),
+        2,
+        "counts: 6, where 4 are asked",
+    );
+    let tree = DecisionTreeRegressor::fit_given(
+        &given(&x, &listings, &counts),
+        &draws,
+        &Default::default(),
+    );
+    refused(tree, 2, "counts: 4, where 2 are asked");
+}
+
+#[test]
+fn numbers() {
+    let fit = |value: f64, target: f64, weight: f64, bootstrap: bool| {
+        let x = DenseMatrix::from_2d_array(&[[1.0, 2.0], [3.0, value]]).unwrap();
+        let parameters = parameters().with_bootstrap(bootstrap);
+        RandomForestRegressor::fit_with_weights(&x, &[0.0, target], &[1.0, weight], parameters)
+    };
+    for bootstrap in [true, false] {
+        refused(
+            fit(f64::NAN, 0.0, 1.0, bootstrap),
+            3,
+            "feature 1 of row 1 is NaN",
+        );
+        refused(
+            fit(0.0, f64::INFINITY, 1.0, bootstrap),
+            3,
+            "the target of row 1 is inf",
+        );
+        refused(
+            fit(0.0, 0.0, -1.0, bootstrap),
+            3,
+            "the weight of row 1 is -1",
+        );
+        refused(
+            fit(0.0, 0.0, f64::NAN, bootstrap),
+            3,
+            "the weight of row 1 is NaN",
+        );
+        assert!(fit(0.0, 0.0, -0.0, bootstrap).is_ok());
+    }
+}
+
+#[test]
+fn counts_and_draws() {
+    let x = DenseMatrix::from_2d_array(&[[1.0], [2.0]]).unwrap();
+    let listings = Listings::sorted(&x);
+    let fit = |weights: &[f64], counts: Vec<u32>, words: &[u32]| {
+        let counts = Counts::new(2, 2, counts).unwrap();
+        let given = Given {
+            x: &x,
+            y: &[0.0, 1.0],
+            weights,
+            counts: &counts,
+            listings: &listings,
+        };
+        let mut draws = Draws::none();
+        draws.push_tree(&[0; 3], &[]);
+        draws.push_tree(words, &[]);
+        RandomForestRegressor::fit_given(&given, &draws, &parameters())
+    };
+    let large = fit(&[], vec![1, 1, 1, 65_536], &[0; 3]);
+    refused(large, 4, "row 1 is 65536 times in the bag of tree 1");
+    let both = fit(&[1.0; 2], vec![1, 1, 2, 1], &[0; 3]);
+    refused(both, 4, "row 0 is 2 times in the bag of tree 1");
+    refused(fit(&[], vec![1; 4], &[]), 7, "search 0 of tree 1");
+    refused(fit(&[], vec![2; 4], &[0, 1]), 7, "search 1 of tree 1");
+    assert!(fit(&[], vec![65_535, 1, 0, 0], &[]).is_ok());
+}
+
+#[test]
+fn bags() {
+    let x = DenseMatrix::from_2d_array(&[[1.0], [2.0], [3.0]]).unwrap();
+    let forest = RandomForestRegressor::fit(&x, &[0.0; 3], parameters()).unwrap();
+    refused(forest.predict_oob(&x), 9, "keep_samples");
+    let kept = RandomForestRegressor::fit(&x, &[0.0; 3], parameters().with_keep_samples(true));
+    let other = DenseMatrix::from_2d_array(&[[1.0]]).unwrap();
+    refused(
+        kept.unwrap().predict_oob(&other),
+        10,
+        "the rows that the forest was fitted on",
+    );
+}
+
+#[test]
+fn tables() {
+    let x = DenseMatrix::from_2d_array(&[[1.0], [2.0], [3.0]]).unwrap();
+    let forest = RandomForestRegressor::fit(&x, &[0.0, 1.0, 5.0], parameters()).unwrap();
+    let starts = forest.starts().to_vec();
+    let table = |starts: &[u32], nodes: &Nodes| {
+        RandomForestRegressor::from_table(1, starts.to_vec(), nodes.clone())
+    };
+    assert!(table(&starts, forest.nodes()).is_ok());
+    refused(table(&[], forest.nodes()), 1, "0 trees");
+    refused(
+        table(&[1, 2], forest.nodes()),
+        8,
+        "the starts break at place 0",
+    );
+    refused(
+        table(&[0, 0], forest.nodes()),
+        8,
+        "the starts break at place 1",
+    );
+    refused(
+        table(&[0, u32::MAX], forest.nodes()),
+        8,
+        "the starts break at place 1",
+    );
+    refused(
+        DecisionTreeRegressor::from_table(1, Nodes::default()),
+        8,
+        "node 0 of tree 0",
+    );
+    refused(
+        DecisionTreeRegressor::from_table(0, Nodes::default()),
+        1,
+        "0 features",
+    );
+}
+
+#[test]
+fn a_table_that_loops() {
+    let x = DenseMatrix::from_2d_array(&[[1.0], [2.0], [3.0]]).unwrap();
+    let forest = RandomForestRegressor::fit(&x, &[0.0, 1.0, 5.0], parameters()).unwrap();
+    let starts = forest.starts().to_vec();
+    let mut loops = forest.nodes().clone();
+    let at = loops
+        .true_child
+        .iter()
+        .position(|child| *child > 0)
+        .unwrap();
+    let tree = starts.iter().filter(|start| **start as usize <= at).count() - 1;
+    let node = at - starts[tree] as usize;
+    loops.true_child[at] = node as u32;
+    let sentence = format!("node {node} of tree {tree} is no good split");
+    refused(
+        RandomForestRegressor::from_table(1, starts, loops),
+        8,
+        &sentence,
+    );
+}
+
+#[test]
+fn a_listing_with_a_gap() {
+    let values: Vec<f64> = (0..40).map(|row| f64::from(row) / 4.0).collect();
+    let x = DenseMatrix::new(40, 1, values).unwrap();
+    let mut rows: Vec<u32> = (0..40).collect();
+    rows[12] = 13;
+    let damaged = Listings::from_columns(&[rows]).unwrap();
+    let y = vec![0.0; 40];
+    let fitting = Fitting::new(&x, &y).with_listings(&damaged);
+    let sentence = "feature 0: row 13 stands twice, at places 12 and 13, and row 12 is missing";
+    refused(damaged.check(&x), 5, sentence);
+    refused(fitting.check(), 5, sentence);
+    refused(fitting.forest(&parameters()), 5, sentence);
+    let Some(Fault::Listing(fault)) = fitting.check().unwrap_err().fault().cloned() else {
+        panic!("no place");
+    };
+    assert_eq!((fault.place, fault.missing), (13, Some(12)));
+    assert_eq!(
+        fault.breach,
+        Breach::Twice {
+            row: 13,
+            before: 12
+        }
+    );
+}
+
+#[test]
+fn what_is_found_is_what_is_refused() {
+    let mut made = Maker::new(21);
+    let mut refusals = 0;
+    for _ in 0..5000 {
+        let (rows, features) = (1 + made.up_to(5), 1 + made.up_to(2));
+        let x = made.matrix(rows, features);
+        let mut columns: Vec<Vec<u32>> = (0..features)
+            .map(|it| Listings::sorted(&x).column(it).unwrap().to_vec())
+            .collect();
+        for _ in 0..made.up_to(2) {
+            let (feature, place) = (made.up_to(features - 1), made.up_to(rows - 1));
+            columns[feature][place] = made.up_to(rows) as u32;
+        }
+        let listings = Listings::from_columns(&columns).unwrap();
+        let fault = (0..features).find_map(|feature| listings.fault(&x, feature));
+        match listings.check(&x) {
+            Ok(()) => assert_eq!(fault, None),
+            Err(refusal) => {
+                refusals += 1;
+                assert_eq!(refusal.cause(), Cause::Listing);
+                assert_eq!(refusal.fault(), fault.map(Fault::Listing).as_ref());
+            }
+        }
+    }
+    assert!(refusals > 1000, "{refusals}");
+}
