@@ -72,12 +72,8 @@ impl Counts {
         if whole <= 0.0 {
             return Counts::new(trees, weights.len(), vec![0; trees * weights.len()]);
         }
-        let last = sums.partition_point(|sum| *sum < whole);
         let mut draws = SplitMix64::new(seed);
-        Counts::bags(trees, weights.len(), || {
-            let at = draws.unit() * whole;
-            sums.partition_point(|sum| *sum <= at).min(last)
-        })
+        Counts::bags(trees, weights.len(), || row_at(&sums, draws.unit() * whole))
     }
 
     fn bags(trees: usize, rows: usize, mut draw: impl FnMut() -> usize) -> Result<Self, Refusal> {
@@ -140,6 +136,13 @@ fn running(weights: &[f64]) -> Vec<f64> {
         .collect()
 }
 
+/// The row whose stretch of the sums a number lies in. One that rounding took to the end is in the last stretch that there is.
+fn row_at(sums: &[f64], at: f64) -> usize {
+    let last = sums.last().copied().unwrap_or(0.0);
+    let end = sums.partition_point(|sum| *sum < last);
+    sums.partition_point(|sum| *sum <= at).min(end)
+}
+
 #[cfg(test)]
 mod tests {
     use super::*;
@@ -159,6 +162,14 @@ mod tests {
         assert_eq!([times(0), times(2), times(4)], [0; 3]);
         assert!((1400..1600).contains(&times(1)), "{}", times(1));
         assert_eq!(times(1) + times(3), 2000);
+    }
+
+    #[test]
+    fn a_row_has_its_stretch_of_the_sums() {
+        let sums = running(&[0.0, 2.0, 0.0, 1.0, 0.0]);
+        assert_eq!(sums, [0.0, 1.0, 1.0, 1.5, 1.5]);
+        let rows = [0.0, 0.9, 1.0, 1.4, 1.5].map(|at| row_at(&sums, at));
+        assert_eq!(rows, [1, 1, 3, 3, 3]);
     }
 
     #[test]
