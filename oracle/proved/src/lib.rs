@@ -3,15 +3,10 @@
 
 #![allow(clippy::too_many_arguments)]
 
-#[macro_use]
-mod boundary;
 mod either;
-#[cfg(target_arch = "x86_64")]
-mod linked;
 mod served;
 mod waiting;
 
-use boundary::{ForestSettings, TreeSettings};
 use driver::library::Library;
 use driver::outcome::bits;
 use paper::{
@@ -19,6 +14,7 @@ use paper::{
     TreeCall, TreeRooms,
 };
 pub use served::named as served;
+use tailboardy_sys::{ForestSettings, TreeSettings};
 use waiting::Stack;
 
 pub struct Proved;

@@ -1,10 +1,10 @@
 //! The library in another program: `served.c` has it linked, and answers through pipes. A processor that is not the library's has
 //! it run by an emulator.
 
-use crate::boundary::*;
 use std::io::{self, BufReader, Read, Write};
 use std::process::{Child, ChildStdout, Command, Stdio, exit};
 use std::sync::{Mutex, OnceLock};
+use tailboardy_sys::*;
 
 struct Pipe {
     program: Child,
