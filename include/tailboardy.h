@@ -41,6 +41,17 @@ typedef struct {
     bool random;
 } TailboardyTreeSettings;
 
+/* The same of a forest's trees. How many features a search tries is `tried` if `said`, else the floor of the root of the features. */
+typedef struct {
+    bool limited;
+    uint16_t limit;
+    uint32_t leaf;
+    uint32_t split;
+    bool said;
+    uint32_t tried;
+    bool random;
+} TailboardyForestSettings;
+
 /* 0 or a refusal; with 7 the tree, which is 0, and the search of the bad draw; with 0 nodes, depth, root mass, searches, and how
  * many words and thresholds were used. All else is 0. */
 typedef struct {
@@ -54,6 +65,13 @@ typedef struct {
     uint32_t words;
     uint32_t thresholds;
 } TailboardyTreeTold;
+
+/* 0 or a refusal; with 7 the tree and the search of the bad draw. All else is 0. */
+typedef struct {
+    uint32_t number;
+    uint32_t tree;
+    uint32_t search;
+} TailboardyForestTold;
 
 /* 0 or a refusal; with 0 the error, else 0. */
 typedef struct {
@@ -94,6 +112,46 @@ TailboardyTreeTold tailboardy_fit_tree(
     double *score, size_t score_length,
     uint32_t *yes, size_t yes_length,
     uint32_t *no, size_t no_length,
+    uint32_t *order, size_t order_length,
+    uint32_t *scratch, size_t scratch_length,
+    bool *flags, size_t flags_length,
+    uint32_t (*wholes)[6], size_t wholes_length,
+    double (*reals)[3], size_t reals_length);
+
+/* Grows a forest. 1, 2, 3, 4, 5, 6, 7.
+ * Each tree has its own counts and its own part of both tapes: `wordcuts` and `thresholdcuts` have trees + 1 positions in them, from
+ * 0 to the tape's length, never falling.
+ * Rooms: the columns as long as one tree's, added up over the trees; `starts` at least trees + 1; the six columns from `nodes` to
+ * `thresholdsused` exactly trees; the last five as for one tree.
+ * Leaves the trees at the front of the columns, where they start in `starts`, what is behind them as it was, a report of each tree
+ * in the columns from `nodes` on, and the last five zero. */
+TailboardyForestTold tailboardy_fit_forest(
+    size_t rows,
+    size_t features,
+    size_t trees,
+    TailboardyForestSettings plain,
+    const double *values, size_t values_length,
+    const double *targets, size_t targets_length,
+    const double *weights, size_t weights_length,
+    const uint32_t *counts, size_t counts_length,
+    const uint32_t *listings, size_t listings_length,
+    const uint32_t *words, size_t words_length,
+    const double *thresholds, size_t thresholds_length,
+    const size_t *wordcuts, size_t wordcuts_length,
+    const size_t *thresholdcuts, size_t thresholdcuts_length,
+    double *value, size_t value_length,
+    uint32_t *feature, size_t feature_length,
+    double *threshold, size_t threshold_length,
+    double *score, size_t score_length,
+    uint32_t *yes, size_t yes_length,
+    uint32_t *no, size_t no_length,
+    uint32_t *starts, size_t starts_length,
+    uint32_t *nodes, size_t nodes_length,
+    uint32_t *depth, size_t depth_length,
+    double *mass, size_t mass_length,
+    uint32_t *searches, size_t searches_length,
+    uint32_t *wordsused, size_t wordsused_length,
+    uint32_t *thresholdsused, size_t thresholdsused_length,
     uint32_t *order, size_t order_length,
     uint32_t *scratch, size_t scratch_length,
     bool *flags, size_t flags_length,

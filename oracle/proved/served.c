@@ -35,7 +35,7 @@ static void tell_real(double f) {
 }
 
 // The slices of the call at hand. Before and behind each lies one more entry of a fixed pattern, which must stay.
-enum { MOST = 18, PATTERN = 0xA5 };
+enum { MOST = 27, PATTERN = 0xA5 };
 
 typedef uint32_t Wholes[6];
 typedef double Reals[3];
@@ -91,6 +91,8 @@ static void give_slices(int from) {
 #define COLUMNS_AT(i) D(i), U(i + 1), D(i + 2), D(i + 3), U(i + 4), U(i + 5)
 #define GIVEN "ddduuud"
 #define GIVEN_AT(i) D(i), D(i + 1), D(i + 2), U(i + 3), U(i + 4), U(i + 5), D(i + 6)
+#define REPORTS "uuduuu"
+#define REPORTS_AT(i) U(i), U(i + 1), D(i + 2), U(i + 3), U(i + 4), U(i + 5)
 #define WORK "uubwr"
 #define WORK_AT(i) U(i), U(i + 1), S(bool, i + 2), S(Wholes, i + 3), S(Reals, i + 4)
 
@@ -115,6 +117,25 @@ static void fit_tree(void) {
     tell(told.words);
     tell(told.thresholds);
     give_slices(7);
+}
+
+static void fit_forest(void) {
+    size_t rows = number(), features = number(), trees = number();
+    TailboardyForestSettings plain;
+    plain.limited = number();
+    plain.limit = number();
+    plain.leaf = number();
+    plain.split = number();
+    plain.said = number();
+    plain.tried = number();
+    plain.random = number();
+    take_slices(GIVEN "zz" COLUMNS "u" REPORTS WORK);
+    TailboardyForestTold told = tailboardy_fit_forest(rows, features, trees, plain,
+        GIVEN_AT(0), S(size_t, 7), S(size_t, 8), COLUMNS_AT(9), U(15), REPORTS_AT(16), WORK_AT(22));
+    tell(told.number);
+    tell(told.tree);
+    tell(told.search);
+    give_slices(9);
 }
 
 static void predict_tree(void) {
@@ -202,7 +223,7 @@ static void read_node(void) {
 
 // By kind; both ways to divide a tree's importances are one call.
 static void (*const calls[])(void) = {
-    NULL, fit_tree, NULL, predict_tree, forest_means, out_of_bag_means, tree_importances, NULL, forest_importances,
+    NULL, fit_tree, fit_forest, predict_tree, forest_means, out_of_bag_means, tree_importances, NULL, forest_importances,
     out_of_bag_error, check_listings, check_tree, check_forest, read_node,
 };
 

@@ -1,11 +1,11 @@
 -- Chains of tests, as code makes them: the first that fails decides. And what a shape in range says. Assumes nothing.
-use Prim.Native.Nat.{ℕ, zero, suc, _*_, _<_, _≤_}
-use native.Mathlib.Nat.{mul-le-mul, not-suc-le-zero, le-of-suc-le-suc}
+use Prim.Native.Nat.{ℕ, zero, suc, _*_, _≤_}
+use native.Mathlib.Nat.{mul-le-mul}
 use native.Mathlib.Omega.{arith}
 use mathlib.Core.Path.{_≡_, refl, sym, ap, _∙_, subst}
 use mathlib.Core.Bool.{Bool, true, false, _&&_, _||_, cond}
 use mathlib.Core.List.{List, [], _∷_}
-use lib.ListN.{length, getD}
+use lib.ListN.{length}
 use lib.Dec.{T, leb, leb→le}
 use lib.Ieee.{Float}
 use lib.Ieee.Fits.{and-l, and-r}
@@ -71,13 +71,6 @@ pub some-weights : (ws : List Float) → (length ws ≡ 0 → ⊥) → unweighte
 unfolding unweighted
 some-weights [] h = absurd (h refl)
 some-weights (w ∷ ws) h = refl
-
--- ---- what a list has at a place does not hang on the default
-
-pub same-default {ℓ} : {A : Type ℓ} (l : List A) (i : ℕ) (d e : A) → i < length l → getD l i d ≡ getD l i e
-same-default [] i d e h = absurd (not-suc-le-zero h)
-same-default (x ∷ l) zero d e h = refl
-same-default (x ∷ l) (suc i) d e h = same-default l i d e (le-of-suc-le-suc h)
 
 -- ---- ranges
 

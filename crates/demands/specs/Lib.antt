@@ -6,3 +6,4 @@ pub mod OneOutcome
 pub mod Filled
 pub mod Refusals
 pub mod Tried
+pub mod Calls

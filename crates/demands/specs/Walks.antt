@@ -17,12 +17,13 @@ use Rattle.rules.specs.declared.ForestAnswer.{ForestAnswer}
 use Rattle.rules.specs.Words.{every, along, alongFrom, front}
 use Rattle.rules.specs.Lent.{Columns, Entry, Waits, TreeRooms, ForestRooms, shortest, entriesAt, writeEntries}
 use Rattle.rules.specs.Draws.{ok}
-use Rattle.rules.specs.Fit.{Tree, treeOf, rooted, fit, entries, paramsOf, TreeCall, frameOf, fitTree}
+use Rattle.rules.specs.Fit.{Tree, fit, entries, paramsOf, TreeCall, frameOf, fitTree}
 use Rattle.rules.specs.Table.{isLeaf, goodFrom, goodTree, ForestTable, startsGood, treesOf, goodForest}
 use Rattle.rules.specs.Reading.{noEntry, walked}
 use Rattle.rules.specs.Forest.{ForestCall, frameAt, startsFrom, forestEntries, fitForest}
 use Rattle.laws.specs.Lists.{Every, every-imp}
-use Rattle.laws.specs.Outs.{then-of, then-any}
+use Rattle.laws.specs.Outs.{then-of}
+use Rattle.laws.specs.Root.{fit-reported}
 use Rattle.laws.specs.Passed.{Binary64}
 use Rattle.laws.specs.Tables.{length-entries, fit-good}
 use Rattle.laws.specs.Tables as Tables
@@ -60,8 +61,7 @@ walk-ends features rs good xs = let e = Tables.walk-ends features rs good xs in 
 
 -- the node count reported is the number of nodes
 pub reported-nodes : (C : TreeCall) (t : Tree) → fit (frameOf C) (C .given .inputs) ≡ ok t → t .report .nodes ≡ length (t .nodes)
-unfolding fit rooted treeOf
-reported-nodes C t e = then-of (λ (u : Tree). u .report .nodes ≡ length (u .nodes)) (fit (frameOf C) (C .given .inputs)) t e (then-any _ _ _ (λ s. refl))
+reported-nodes C t e = then-of (λ (u : Tree). u .report .nodes ≡ length (u .nodes)) (fit (frameOf C) (C .given .inputs)) t e (fit-reported (frameOf C) (C .given .inputs))
 
 pub tree-good : TreeGood
 unfolding frameOf paramsOf

@@ -1,4 +1,2 @@
--- plain numbers as the rules' inputs and answers
-pub mod Plain
--- a node read out, as plain numbers
-pub mod Nodes
+-- what the exported calls promise
+pub mod Calls

@@ -4,9 +4,8 @@ ghost use Rattle.rules.specs.Answers.{replyTold, nodeTold};
 ghost use Rattle.rules.specs.Listing.{checkListings};
 ghost use Rattle.rules.specs.Table.{checkTree, checkForest, readNode};
 ghost use Rattle.tables.specs.Table.{columnsOf, tableOf};
-ghost use Rattle.exports.specs.Plain.{nodeNumbers};
-use crate::NodeTold;
-use crate::numbers;
+ghost use Rattle.numbers.specs.Plain.{nodeNumbers};
+use numbers::NodeTold;
 use rules::Shape;
 
 #[no_mangle]

@@ -1,13 +1,16 @@
 // The fits.
 ghost use mathlib.Core.Path.{_≡_};
-ghost use Rattle.rules.specs.Lent.{TreeRooms, Outcome, Stack, stack};
-ghost use Rattle.rules.specs.Answers.{Told, treeTold};
+ghost use Rattle.rules.specs.Lent.{TreeRooms, ForestRooms, Outcome, Stack, stack};
+ghost use Rattle.rules.specs.Answers.{Told, treeTold, forestTold};
 ghost use Rattle.rules.specs.Fit.{fitTree};
+ghost use Rattle.rules.specs.Forest.{fitForest};
 ghost use Rattle.checks.specs.Lent.{givenOf};
-ghost use Rattle.exports.specs.Plain.{treeSettingsOf, treeCall, treeNumbers, told};
-use crate::TreeSettings;
-use crate::TreeTold;
-use crate::numbers;
+ghost use Rattle.numbers.specs.Plain.{treeSettingsOf, forestSettingsOf, triedFrom, treeNumbers, forestNumbers};
+ghost use Rattle.exports.specs.Calls.{treeCall, forestCall, told};
+use numbers::ForestSettings;
+use numbers::ForestTold;
+use numbers::TreeSettings;
+use numbers::TreeTold;
 use rules::Shape;
 
 #[no_mangle]
@@ -65,4 +68,82 @@ pub extern "C" fn tailboardy_fit_tree(
         reals,
     );
     numbers::tree_told_of(answer)
+}
+
+#[no_mangle]
+pub extern "C" fn tailboardy_fit_forest(
+    rows: usize,
+    features: usize,
+    trees: usize,
+    plain: ForestSettings,
+    values: &[f64],
+    targets: &[f64],
+    weights: &[f64],
+    counts: &[u32],
+    listings: &[u32],
+    words: &[u32],
+    thresholds: &[f64],
+    wordcuts: &[usize],
+    thresholdcuts: &[usize],
+    value: &mut [f64],
+    feature: &mut [u32],
+    threshold: &mut [f64],
+    score: &mut [f64],
+    yes: &mut [u32],
+    no: &mut [u32],
+    starts: &mut [u32],
+    nodes: &mut [u32],
+    depth: &mut [u32],
+    mass: &mut [f64],
+    searches: &mut [u32],
+    wordsused: &mut [u32],
+    thresholdsused: &mut [u32],
+    order: &mut [u32],
+    scratch: &mut [u32],
+    flags: &mut [bool],
+    wholes: &mut [[u32; 6]],
+    reals: &mut [[f64; 3]],
+) -> ForestTold
+    ensures { λ r. ⌜ _≡_ {A = Outcome Told (ForestRooms Stack)}
+        (record { answer = forestNumbers r; rooms = record { nodes = record { value = now (value .exit); feature = now (feature .exit); threshold = now (threshold .exit); score = now (score .exit); trueChild = now (yes .exit); falseChild = now (no .exit) }; starts = now (starts .exit); reports = record { nodes = now (nodes .exit); depth = now (depth .exit); mass = now (mass .exit); searches = now (searches .exit); words = now (wordsused .exit); thresholds = now (thresholdsused .exit) }; work = record { order = now (order .exit); scratch = now (scratch .exit); flags = now (flags .exit); waiting = record { wholes = now (wholes .exit); reals = now (reals .exit) } } } })
+        (told forestTold (fitForest stack
+        (forestCall (record { rows = rows; features = features }) trees (forestSettingsOf plain) (triedFrom (plain .said) (plain .tried)) (givenOf (now (values .entry)) (now (targets .entry)) (now (weights .entry)) (now (counts .entry)) (now (listings .entry))) (now (words .entry)) (now (thresholds .entry)) (now (wordcuts .entry)) (now (thresholdcuts .entry)))
+        (record { nodes = record { value = now (value .entry); feature = now (feature .entry); threshold = now (threshold .entry); score = now (score .entry); trueChild = now (yes .entry); falseChild = now (no .entry) }; starts = now (starts .entry); reports = record { nodes = now (nodes .entry); depth = now (depth .entry); mass = now (mass .entry); searches = now (searches .entry); words = now (wordsused .entry); thresholds = now (thresholdsused .entry) }; work = record { order = now (order .entry); scratch = now (scratch .entry); flags = now (flags .entry); waiting = record { wholes = now (wholes .entry); reals = now (reals .entry) } } }))) ⌝ }
+{
+    let settings = numbers::forest_settings_of(plain);
+    let tried = numbers::tried_from(plain.said, plain.tried);
+    let answer = forest::fit_forest(
+        Shape { rows, features },
+        trees,
+        settings,
+        tried,
+        values,
+        targets,
+        weights,
+        counts,
+        listings,
+        words,
+        thresholds,
+        wordcuts,
+        thresholdcuts,
+        value,
+        feature,
+        threshold,
+        score,
+        yes,
+        no,
+        starts,
+        nodes,
+        depth,
+        mass,
+        searches,
+        wordsused,
+        thresholdsused,
+        order,
+        scratch,
+        flags,
+        wholes,
+        reals,
+    );
+    numbers::forest_told_of(answer)
 }

@@ -8,9 +8,9 @@ ghost use Rattle.rules.specs.Answers.{replyTold, errorTold};
 ghost use Rattle.rules.specs.Reading.{predictTree, forestMeans, treeImportances, forestImportances};
 ghost use Rattle.rules.specs.OutOfBag.{outOfBagMeans, outOfBagError};
 ghost use Rattle.tables.specs.Table.{columnsOf, tableOf};
-ghost use Rattle.exports.specs.Plain.{scaleOf, told, errorNumbers};
-use crate::ErrorTold;
-use crate::numbers;
+ghost use Rattle.numbers.specs.Plain.{scaleOf, errorNumbers};
+ghost use Rattle.exports.specs.Calls.{told};
+use numbers::ErrorTold;
 use rules::Shape;
 
 #[no_mangle]

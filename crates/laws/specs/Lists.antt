@@ -1,6 +1,6 @@
 -- Laws of lists, in the words of the rules. Assumes nothing.
-use Prim.Native.Nat.{ℕ, zero, suc, _+_, _<_, _≤_}
-use native.Mathlib.Nat.{add-zero, zero-add, add-assoc, not-suc-le-zero, le-of-suc-le-suc}
+use Prim.Native.Nat.{ℕ, zero, suc, _+_, _*_, _<_, _≤_}
+use native.Mathlib.Nat.{add-zero, zero-add, add-assoc, zero-mul, suc-mul, not-suc-le-zero, le-of-suc-le-suc}
 use native.Mathlib.Omega.{arith}
 use mathlib.Core.Path.{_≡_, refl, sym, ap, _∙_, subst}
 use mathlib.Core.Bool.{Bool, true, false, not, _&&_, _||_, cond}
@@ -150,6 +150,13 @@ unfolding keep
 keep-map p f [] = refl
 keep-map p f (x ∷ l) = ap (putIf (p (f x)) (f x)) (keep-map p f l) ∙ put-map f (p (f x)) x (keep (λ y. p (f y)) l)
 
+-- ---- an entry that is there, whatever stands for one that is not
+
+pub same-default {ℓ} : {A : Type ℓ} (l : List A) (i : ℕ) (d e : A) → i < length l → getD l i d ≡ getD l i e
+same-default [] i d e h = absurd (not-suc-le-zero h)
+same-default (x ∷ l) zero d e h = refl
+same-default (x ∷ l) (suc i) d e h = same-default l i d e (le-of-suc-le-suc h)
+
 -- ---- what it weighs
 
 module _ {ℓ} {A : Type ℓ} where
@@ -193,6 +200,14 @@ module _ {ℓ} {A : Type ℓ} where
   unfolding total
   length-total [] = refl
   length-total (x ∷ l) = omega (arith, length-total l)
+
+  pub total-under : (f : A → ℕ) (m : ℕ) (l : List A) → Every (λ x. f x ≤ m) l → total f l ≤ length l * m
+  unfolding total
+  total-under f m [] h = omega (arith, zero-mul m)
+  total-under f m (x ∷ l) h = omega (arith, h .0, total-under f m l (h .1), suc-mul (length l) m)
+
+  pub keep-short : (p : A → Bool) (l : List A) → length (keep p l) ≤ length l
+  keep-short p l = omega (arith, total-sides (λ x. 1) p l, length-total (keep p l), length-total l)
 
 pub total-map {ℓ κ} : {A : Type ℓ} {B : Type κ} (g : B → ℕ) (f : A → B) (l : List A) → total g (map f l) ≡ total (λ x. g (f x)) l
 unfolding total
@@ -253,6 +268,12 @@ module _ {ℓ} {A : Type ℓ} (R : A → A → Type 0) where
       let r : R x y = step x y (e .0) (e .1 .0) (and-l (p x y) (alongFrom p y l) t) in
       let rest : Ordered R (y ∷ l) = ordered-along p Q step trans (y ∷ l) (e .1) (and-r (p x y) (alongFrom p y l) t) in
       ((r, every-imp (R y) (R x) (λ z h. trans x y z r h) l (rest .0)), rest)
+
+  pub ordered-at : (l : List A) → Ordered R l → (d : A) (i j : ℕ) → i < j → j < length l → R (getD l i d) (getD l j d)
+  ordered-at [] o d i j h g = absurd (not-suc-le-zero g)
+  ordered-at (x ∷ l) o d i zero h g = absurd (not-suc-le-zero h)
+  ordered-at (x ∷ l) o d zero (suc j) h g = every-at (R x) l d j (o .0) (le-of-suc-le-suc g)
+  ordered-at (x ∷ l) o d (suc i) (suc j) h g = ordered-at l (o .1) d i j (le-of-suc-le-suc h) (le-of-suc-le-suc g)
 
 pub ordered-map {ℓ κ} : {A : Type ℓ} {B : Type κ} (R : B → B → Type 0) (f : A → B) (l : List A) → Ordered (λ x y. R (f x) (f y)) l → Ordered R (map f l)
 ordered-map R f [] r = tt

@@ -1,6 +1,7 @@
 -- What a fit knows once its checks have passed: lengths, ranges, and that its listings are in order. Assumes nothing.
 use Prim.Native.Nat.{ℕ, suc, _+_, _*_, _<_, _≤_}
-use native.Mathlib.Nat.{suc-mul, mul-le-mul-right, zero-add}
+use native.Mathlib.Nat.{suc-mul, mul-le-mul-right, zero-add, le-trans}
+use native.Mathlib.Decide.{ℕ-discrete}
 use native.Mathlib.Omega.{arith}
 use mathlib.Core.Path.{_≡_, refl, sym, ap, _∙_, subst}
 use mathlib.Core.Bool.{Bool, true, false, not, _&&_, _||_}
@@ -13,14 +14,14 @@ use lib.Ieee.Scale.{finite}
 use lib.Ieee.Fits.{and-l, and-r}
 use Rattle.floats.specs.Order.{le-trans64}
 use Rattle.rules.specs.declared.Shape.{Shape}
-use Rattle.rules.specs.Words.{from, every, total, eachOnce}
+use Rattle.rules.specs.Words.{from, every, along, total, eachOnce}
 use Rattle.rules.specs.Lent.{Given, Frame, Waits, TreeRooms, ForestRooms, valuesAt, listingAt, unweighted, shortest, cell}
-use Rattle.rules.specs.Checks.{Test, test, firstFailed, within, rowsIn, featuresIn, treesIn, shapeIn, lengths, goodWeight, numbersGood, countsGood, countsOne, roomFor, workEnough, reportsExact}
+use Rattle.rules.specs.Checks.{Test, test, firstFailed, within, rowsIn, featuresIn, treesIn, shapeIn, lengths, goodCuts, goodWeight, numbersGood, countsGood, countsOne, roomFor, workEnough, reportsExact}
 use Rattle.rules.specs.Listing.{neverFalls, goodListing, listingsGood}
 use Rattle.rules.specs.Search.{at}
 use Rattle.rules.specs.Fit.{listing, elementIn, element, paramsOf, TreeCall, frameOf, treeTests}
 use Rattle.rules.specs.Forest.{ForestCall, frameAt, frames, cutsGood, roomsGood, forestTests}
-use Rattle.laws.specs.Lists.{or-other, Every, each, every-at, every-or, every-take, every-drop, every-from, Ordered, ordered-along}
+use Rattle.laws.specs.Lists.{or-other, Every, each, every-all, every-at, every-or, every-take, every-drop, every-from, same-default, Ordered, ordered-along, ordered-at}
 use Rattle.laws.specs.Once.{once-below}
 use Rattle.laws.specs.Values.{Value, not-falls}
 use Rattle.laws.specs.Root.{Before, Listed}
@@ -118,8 +119,12 @@ module _ {W : Type 0} (K : Waits W) where
     pub passed : Passed (C .shape) (C .trees) (C .given)
     pub ranges : T (shapeIn (C .shape) && treesIn (C .trees))
     pub someTrees : 1 ≤ C .trees
+    pub fewTrees : C .trees ≤ 1024
+    pub cuts : T (cutsGood C)
     pub room : total roomFor (frames C) ≤ shortest (R .nodes)
+    pub work : T (workEnough K (C .shape) (R .work))
     pub startsRoom : suc (C .trees) ≤ length (R .starts)
+    pub reports : T (reportsExact (C .trees) (R .reports))
 
   pub forest-passed : (C : ForestCall) (R : ForestRooms W) → firstFailed (forestTests K C R) ≡ 0 → ForestPassed C R
   unfolding forestTests roomsGood within
@@ -132,9 +137,36 @@ module _ {W : Type 0} (K : Waits W) where
         passed = from-tests (C .shape) (C .trees) (C .given) s (and-l (lengths (C .shape) (C .trees) (C .given)) (cutsGood C) t₂) t₃ (and-l (countsGood (C .given)) (countsOne (C .given)) t₄) t₅;
         ranges = t₁;
         someTrees = leb→le 1 (C .trees) (and-l (leb 1 (C .trees)) (leb (C .trees) 1024) n);
+        fewTrees = leb→le (C .trees) 1024 (and-r (leb 1 (C .trees)) (leb (C .trees) 1024) n);
+        cuts = and-r (lengths (C .shape) (C .trees) (C .given)) (cutsGood C) t₂;
         room = leb→le (total roomFor (frames C)) (shortest (R .nodes)) a;
+        work = k;
         startsRoom = leb→le (suc (C .trees)) (length (R .starts)) b;
+        reports = e;
       }
+
+-- ---- a tree's part of a tape lies within it
+
+pub record CutAt (cuts : List ℕ) (tape t : ℕ) : Type 0 where
+  pub known : t + 1 < length cuts
+  pub order : getD cuts t 0 ≤ getD cuts (t + 1) 0
+  pub high : getD cuts (t + 1) 0 ≤ tape
+
+pub cut-at : (trees tape : ℕ) (cuts : List ℕ) → T (goodCuts trees tape cuts) → (t : ℕ) → t < trees → CutAt cuts tape t
+unfolding goodCuts
+cut-at trees tape cuts g t h =
+    let (l, z, a, e) = and4 (eqb (length cuts) (suc trees)) (eqb (getD cuts 0 1) 0) (along leb cuts) (eqb (getD cuts trees (suc tape)) tape) g in
+    let long = eqb→eq (length cuts) (suc trees) l in
+    let o = ordered-along (λ x y. x ≤ y) leb (λ x. Unit {0}) (λ x y p q b. leb→le x y b) (λ x y z p q. le-trans p q) cuts (every-all _ (λ x. tt) cuts) a in
+    record {
+      known = omega arith;
+      order = ordered-at (λ x y. x ≤ y) cuts o 0 t (t + 1) (omega arith) (omega arith);
+      high = subst (λ n. getD cuts (t + 1) 0 ≤ n) (same-default cuts trees 0 (suc tape) (omega arith) ∙ eqb→eq (getD cuts trees (suc tape)) tape e) (last o long (ℕ-discrete (t + 1) trees));
+    }
+  where
+    last : Ordered (λ x y. x ≤ y) cuts → length cuts ≡ suc trees → Dec (t + 1 ≡ trees) → getD cuts (t + 1) 0 ≤ getD cuts trees 0
+    last o long (yes q) = subst (λ n. getD cuts (t + 1) 0 ≤ getD cuts n 0) q (omega arith)
+    last o long (no d) = ordered-at (λ x y. x ≤ y) cuts o 0 (t + 1) trees (omega (arith, h, d)) (omega arith)
 
 -- ---- a tree's frame: its rows, features and weights are the call's, its counts some of the call's
 

@@ -3,7 +3,7 @@
 use Prim.Native.Nat.{ℕ, _+_, _-_, _*_, _<_, _≤_, max}
 use native.Mathlib.Nat.{zero-add}
 use native.Mathlib.Omega.{arith}
-use mathlib.Core.Path.{_≡_, sym, ap, _∙_, subst}
+use mathlib.Core.Path.{_≡_, refl, sym, ap, _∙_, subst}
 use mathlib.Core.Bool.{Bool, true, _&&_, _||_}
 use mathlib.Core.List.{[]}
 use lib.ListN.{length, getD}
@@ -19,7 +19,7 @@ use Rattle.rules.specs.Growth.{fromRoot}
 use Rattle.rules.specs.Fit.{listing, elementIn, element, column, root, treeOf, rooted, fit}
 use Rattle.laws.specs.Lists.{Every, every-imp, every-keep, every-map, kept-pass, keep-map, keep-keep, total-map, length-total, getD-from, Ordered, ordered-keep, ordered-map}
 use Rattle.laws.specs.Once.{once-below, once-keep}
-use Rattle.laws.specs.Outs.{Then, then-then}
+use Rattle.laws.specs.Outs.{Then, then-then, then-any}
 use Rattle.laws.specs.Values.{Value}
 use Rattle.laws.specs.Cuts.{Good, search-fine, tape-fair}
 use Rattle.laws.specs.Room.{rowsOf, room-enough}
@@ -39,6 +39,11 @@ pub record Listed (F : Frame) (D : Data) : Type 0 where
 kept-some : (F : Frame) (i : ℕ) → kept F i ≡ true → 1 ≤ countIn (F .counts) i
 unfolding kept keptIn
 kept-some F i e = ltb→lt 0 (countIn (F .counts) i) (and-l (ltb 0 (countIn (F .counts) i)) (unweighted (F .weights) || lt nought (getD (F .weights) i nan)) (subst T (sym e) tt))
+
+-- the number of nodes reported is that of the nodes
+pub fit-reported : (F : Frame) (D : Data) → Then (fit F D) (λ t. t .report .nodes ≡ length (t .nodes))
+unfolding fit rooted treeOf
+fit-reported F D = then-any _ _ _ (λ s. refl)
 
 module _ (F : Frame) (D : Data) (ok : Listed F D) where
   pub column-at : (j : ℕ) → j < F .params .features → getD (root F D .columns) j [] ≡ column F D j

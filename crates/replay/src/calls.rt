@@ -1,60 +1,23 @@
-// The numbers and lists of a call. Lists are put down into buffers. That a list is malformed, longer than its buffer or not there
-// is told by the next place, which is then one that no line has; so it is after every further list.
+// The numbers and lists of a call. A list begins with its length, and its place is where that stands. No list is copied: the call stands
+// three times, as numbers, as floats and as words, and a list is a part of one of the three.
 ghost use mathlib.Core.Path.{_≡_};
-ghost use Prim.Native.Nat.{_≤_};
 ghost use lib.Ieee as Ieee;
 ghost use lib.Ieee.{binary64};
-ghost use lib.ListN.{length};
-ghost use Rattle.replay.specs.Places.{Listed};
-use rules::Depth;
+use numbers::TreeSettings;
 use rules::Settings;
-use rules::Splitter;
+use rules::Shape;
 
+// The end of a list that is malformed or cut off, and of every further list.
 pub const NOWHERE: usize = 18446744073709551615;
 
-// Where a list's entries begin and end, and where the line goes on.
-struct Span {
-    from: usize,
-    end: usize,
-    next: usize,
+// ---- the numbers, as they are, as floats and as words
+
+pub fn number(call: &[usize], at: usize) -> usize {
+    if at < call.len() { call[at] } else { 0 }
 }
 
-// How many entries were put down, and where the line goes on.
-pub struct Taken {
-    pub count: usize,
-    pub next: usize,
-}
-
-fn missing() -> Span
-    ensures { λ r. ⌜ (r .from ≡ 0) × (r .end ≡ 0) ⌝ }
-{
-    Span {
-        from: 0,
-        end: 0,
-        next: NOWHERE,
-    }
-}
-
-fn entries_at(call: &[u64], at: usize, most: usize) -> Span
-    ensures { λ r. ⌜ Listed (now (call .entry)) most (r .from) (r .end) ⌝ }
-{
-    if call.len() <= at {
-        return missing();
-    }
-    let count = call[at] as usize;
-    if most < count {
-        return missing();
-    }
-    let from = at + 1;
-    if call.len() - from < count {
-        return missing();
-    }
-    let end = from + count;
-    Span {
-        from,
-        end,
-        next: end,
-    }
+pub fn float(call: &[f64], at: usize) -> f64 {
+    if at < call.len() { call[at] } else { 0.0 }
 }
 
 // The float of 64 bits. Each NaN is the one.
@@ -68,123 +31,203 @@ fn real(n: u64) -> f64
     }
 }
 
-fn put_reals(entries: &[u64], into: &mut [f64])
-    requires { ⌜ length (now entries) ≤ length (now into) ⌝ }
-{
+pub fn as_reals(call: &[usize], into: &mut [f64]) {
     let mut i: usize = 0;
-    while i < entries.len() {
-        into[i] = real(entries[i]);
+    while i < into.len() {
+        into[i] = real(number(call, i) as u64);
         i += 1;
     }
 }
 
-pub fn reals(call: &[u64], at: usize, into: &mut [f64]) -> Taken
-    ensures { λ r. ⌜ r .count ≤ length (now (into .exit)) ⌝ }
-{
-    let s = entries_at(call, at, into.len());
-    let from = s.from;
-    let end = s.end;
-    put_reals(&call[from..end], into);
-    Taken {
-        count: end - from,
-        next: s.next,
+// A number that is no word stands in no list of words.
+pub fn word(n: usize) -> u32 {
+    if n <= 4294967295 { n as u32 } else { 0 }
+}
+
+pub fn as_words(call: &[usize], into: &mut [u32]) {
+    let mut i: usize = 0;
+    while i < into.len() {
+        into[i] = word(number(call, i));
+        i += 1;
     }
 }
 
-// Whether all entries fit 32 bits.
-fn put_words(entries: &[u64], into: &mut [u32]) -> bool
-    requires { ⌜ length (now entries) ≤ length (now into) ⌝ }
-{
+pub fn shape_of(call: &[usize]) -> Shape {
+    Shape {
+        rows: number(call, 0),
+        features: number(call, 1),
+    }
+}
+
+// ---- the entries of a list, from its place to its end
+
+pub fn entries(call: &[usize], at: usize, end: usize) -> &[usize] {
+    if at < end {
+        if end <= call.len() {
+            return &call[at + 1..end];
+        }
+    }
+    &call[0..0]
+}
+
+pub fn reals(call: &[f64], at: usize, end: usize) -> &[f64] {
+    if at < end {
+        if end <= call.len() {
+            return &call[at + 1..end];
+        }
+    }
+    &call[0..0]
+}
+
+pub fn words(call: &[u32], at: usize, end: usize) -> &[u32] {
+    if at < end {
+        if end <= call.len() {
+            return &call[at + 1..end];
+        }
+    }
+    &call[0..0]
+}
+
+// What stands from a place on.
+pub fn rest(call: &[usize], at: usize) -> &[usize] {
+    if at <= call.len() {
+        return &call[at..];
+    }
+    &call[0..0]
+}
+
+// ---- where a list ends: there the call goes on
+
+pub fn next(at: usize) -> usize {
+    if at < NOWHERE { at + 1 } else { at }
+}
+
+pub fn after(call: &[usize], at: usize) -> usize {
+    if call.len() <= at {
+        return NOWHERE;
+    }
+    let from = at + 1;
+    let count = call[at];
+    if call.len() - from < count {
+        return NOWHERE;
+    }
+    from + count
+}
+
+fn words_fit(entries: &[usize]) -> bool {
     let mut i: usize = 0;
     while i < entries.len() {
-        let n = entries[i];
-        if 4294967295 < n {
+        if 4294967295 < entries[i] {
             return false;
         }
-        into[i] = n as u32;
         i += 1;
     }
     true
 }
 
-pub fn words(call: &[u64], at: usize, into: &mut [u32]) -> Taken
-    ensures { λ r. ⌜ r .count ≤ length (now (into .exit)) ⌝ }
-{
-    let s = entries_at(call, at, into.len());
-    let from = s.from;
-    let end = s.end;
-    if !put_words(&call[from..end], into) {
-        return Taken {
-            count: 0,
-            next: NOWHERE,
-        };
-    }
-    Taken {
-        count: end - from,
-        next: s.next,
+// The end of a list whose entries have to be words.
+pub fn after_words(call: &[usize], at: usize) -> usize {
+    let end = after(call, at);
+    if words_fit(entries(call, at, end)) {
+        end
+    } else {
+        NOWHERE
     }
 }
 
-// ---- the lengths of the rooms: lent rooms have 64 entries at most
+// ---- the six columns of a tree, or of a forest
 
-pub fn rooms_fit(lengths: &[u64]) -> bool {
-    let mut i: usize = 0;
-    while i < lengths.len() {
-        if 64 < lengths[i] {
-            return false;
-        }
-        i += 1;
-    }
-    true
+// The places of the columns, and the last one's end.
+pub struct Columns {
+    pub value: usize,
+    pub feature: usize,
+    pub threshold: usize,
+    pub score: usize,
+    pub yes: usize,
+    pub no: usize,
+    pub end: usize,
 }
 
-// A length of which `rooms_fit` is known.
-pub fn room(length: u64) -> usize
-    ensures { λ r. ⌜ r ≤ 64 ⌝ }
-{
-    if length <= 64 { length as usize } else { 0 }
+pub fn columns_at(call: &[usize], at: usize) -> Columns {
+    let feature = after(call, at);
+    let threshold = after_words(call, feature);
+    let score = after(call, threshold);
+    let yes = after(call, score);
+    let no = after_words(call, yes);
+    let end = after_words(call, no);
+    Columns {
+        value: at,
+        feature,
+        threshold,
+        score,
+        yes,
+        no,
+        end,
+    }
+}
+
+// ---- the lists that a fit of one tree and that of a forest are both lent
+
+// The places of the lists, and the last one's end.
+pub struct Lists {
+    pub values: usize,
+    pub targets: usize,
+    pub weights: usize,
+    pub counts: usize,
+    pub listings: usize,
+    pub words: usize,
+    pub thresholds: usize,
+    pub end: usize,
+}
+
+pub fn lists_at(call: &[usize], at: usize) -> Lists {
+    let targets = after(call, at);
+    let weights = after(call, targets);
+    let counts = after(call, weights);
+    let listings = after_words(call, counts);
+    let words = after_words(call, listings);
+    let thresholds = after_words(call, words);
+    let end = after(call, thresholds);
+    Lists {
+        values: at,
+        targets,
+        weights,
+        counts,
+        listings,
+        words,
+        thresholds,
+        end,
+    }
 }
 
 // ---- what a fit is told of its trees
 
-pub enum Set {
-    Is(Settings),
-    Malformed,
+// Depth, least leaf, least split, the number tried, and the splitter. How many features may be tried is for the call to say.
+pub fn settings_good(told: &[usize]) -> bool {
+    if told.len() < 5 {
+        return false;
+    }
+    if 65536 < told[0] {
+        return false;
+    }
+    if 1 < told[4] {
+        return false;
+    }
+    words_fit(&told[1..3])
 }
 
-fn depth_of(n: u64) -> Depth {
-    if n < 65536 {
-        Depth::AtMost(n as u16)
-    } else {
-        Depth::Unlimited
-    }
+fn limit_of(n: usize) -> u16 {
+    if n < 65536 { n as u16 } else { 0 }
 }
 
-fn splitter_of(n: u64) -> Splitter {
-    if n == 0 {
-        Splitter::Best
-    } else {
-        Splitter::Random
-    }
-}
-
-pub fn settings_of(depth: u64, leaf: u64, split: u64, splitter: u64) -> Set {
-    if 65536 < depth {
-        return Set::Malformed;
-    }
-    if 4294967295 < leaf {
-        return Set::Malformed;
-    }
-    if 4294967295 < split {
-        return Set::Malformed;
-    }
-    if 1 < splitter {
-        return Set::Malformed;
-    }
-    Set::Is(Settings {
-        depth: depth_of(depth),
-        leaf: leaf as u32,
-        split: split as u32,
-        splitter: splitter_of(splitter),
+pub fn settings_of(told: &[usize]) -> Settings {
+    let depth = number(told, 0);
+    numbers::tree_settings_of(TreeSettings {
+        limited: depth < 65536,
+        limit: limit_of(depth),
+        leaf: word(number(told, 1)),
+        split: word(number(told, 2)),
+        tried: word(number(told, 3)),
+        random: number(told, 4) == 1,
     })
 }

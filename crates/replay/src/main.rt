@@ -1,30 +1,17 @@
-// Replays the list of answers (standard input) through the proved calls and compares by bits. Kinds that are not replayed yet
-// are passed over. What the numbers of a line mean is in oracle/README.md, "The list". A further kind is a module with a function
-// `replay` as `trees` has, its counts in the tally, an arm of `replay` here and a line of `tell_tally`.
+// Replays the list of answers (standard input) through the proved calls and compares by bits. What the numbers of a line mean is
+// in oracle/README.md, "The list".
 mod calls;
-mod reading;
+mod forest_fits;
+mod lines;
+mod nodes;
+mod readers;
 mod rooms;
-mod trees;
+mod tree_fits;
 
 use crate::rooms::Verdict;
 
-// How many cases of a kind agree, differ and are malformed.
-struct Counts {
-    agree: u64,
-    differ: u64,
-    malformed: u64,
-}
-
-// The counts of each kind that is replayed; how many cases are of other kinds, and how many lines are no case.
-struct Tally {
-    trees: Counts,
-    passed: u64,
-    unread: u64,
-}
-
-fn more(n: u64) -> u64 {
-    if n < 18446744073709551615 { n + 1 } else { n }
-}
+// No line has more numbers.
+const LONGEST: usize = 512;
 
 // ---- telling
 
@@ -32,157 +19,186 @@ fn write(text: &[u8]) {
     io::write_all(1, text);
 }
 
-fn decimal(n: u64) {
-    io::print_decimal(1, n);
+fn decimal(n: usize) {
+    io::print_decimal(1, n as u64);
 }
 
-fn tell_part(line: u64, part: &[u8], n: usize) {
+fn tell_part(line: usize, part: &[u8], n: usize) {
     write(b"line ");
     decimal(line);
     write(part);
-    decimal(n as u64);
+    decimal(n);
     write(b" differs\n");
 }
 
-fn tell_malformed(line: u64) {
+fn tell_malformed(line: usize) {
     write(b"line ");
     decimal(line);
     write(b" is malformed\n");
 }
 
-fn tell_counts(kind: &[u8], c: Counts) {
-    write(kind);
-    decimal(c.agree);
+// A verdict that is no agreement is told.
+fn tell(line: usize, v: Verdict) {
+    match v {
+        Verdict::Agrees => {}
+        Verdict::Number(n) => tell_part(line, b": number ", n),
+        Verdict::Room(n) => tell_part(line, b": room ", n),
+        Verdict::Malformed => tell_malformed(line),
+    }
+}
+
+// ---- the tally: of each kind up to 13, how many cases agree, differ and are malformed. Lines that are no case count as of kind 0
+
+fn column(v: Verdict) -> usize {
+    match v {
+        Verdict::Agrees => 0,
+        Verdict::Number(n) => 1,
+        Verdict::Room(n) => 1,
+        Verdict::Malformed => 2,
+    }
+}
+
+fn place(kind: usize, column: usize) -> usize {
+    if kind <= 13 {
+        if column <= 2 {
+            return kind * 3 + column;
+        }
+    }
+    calls::NOWHERE
+}
+
+fn tallied(tally: &[usize], kind: usize, column: usize) -> usize {
+    calls::number(tally, place(kind, column))
+}
+
+fn count(kind: usize, v: Verdict, tally: &mut [usize]) {
+    let at = place(kind, column(v));
+    if at < tally.len() {
+        tally[at] = calls::next(tally[at]);
+    }
+}
+
+fn tell_counts(name: &[u8], kind: usize, tally: &[usize]) {
+    write(name);
+    decimal(tallied(tally, kind, 0));
     write(b" agree, ");
-    decimal(c.differ);
+    decimal(tallied(tally, kind, 1));
     write(b" differ, ");
-    decimal(c.malformed);
+    decimal(tallied(tally, kind, 2));
     write(b" malformed\n");
 }
 
-fn tell_tally(t: Tally) {
-    tell_counts(b"fits of one tree: ", t.trees);
-    write(b"passed over: ");
-    decimal(t.passed);
-    write(b", no case: ");
-    decimal(t.unread);
+fn tell_readers(tally: &[usize]) {
+    tell_counts(b"predictions: ", 3, tally);
+    tell_counts(b"means of a forest: ", 4, tally);
+    tell_counts(b"means out of bag: ", 5, tally);
+    tell_counts(b"importances of a tree, normalised: ", 6, tally);
+    tell_counts(b"importances of a tree, by the root mass: ", 7, tally);
+    tell_counts(b"importances of a forest: ", 8, tally);
+    tell_counts(b"errors out of bag: ", 9, tally);
+}
+
+fn tell_checks(tally: &[usize]) {
+    tell_counts(b"checks of listings: ", 10, tally);
+    tell_counts(b"checks of a tree's table: ", 11, tally);
+    tell_counts(b"checks of a forest's table: ", 12, tally);
+    tell_counts(b"nodes read out: ", 13, tally);
+}
+
+fn tell_tally(tally: &[usize]) {
+    tell_counts(b"fits of one tree: ", 1, tally);
+    tell_counts(b"fits of a forest: ", 2, tally);
+    tell_readers(tally);
+    tell_checks(tally);
+    write(b"lines that are no case: ");
+    decimal(tallied(tally, 0, 2));
     write(b"\n");
-}
-
-// ---- counting
-
-fn zero() -> Counts {
-    Counts {
-        agree: 0,
-        differ: 0,
-        malformed: 0,
-    }
-}
-
-// Counts a verdict, and tells one that is no agreement.
-fn count(line: u64, mut c: Counts, v: Verdict) -> Counts {
-    match v {
-        Verdict::Agrees => {
-            c.agree = more(c.agree);
-            c
-        }
-        Verdict::Number(n) => {
-            tell_part(line, b": number ", n);
-            c.differ = more(c.differ);
-            c
-        }
-        Verdict::Room(n) => {
-            tell_part(line, b": room ", n);
-            c.differ = more(c.differ);
-            c
-        }
-        Verdict::Malformed => {
-            tell_malformed(line);
-            c.malformed = more(c.malformed);
-            c
-        }
-    }
-}
-
-fn no_case(line: u64, mut t: Tally) -> Tally {
-    tell_malformed(line);
-    t.unread = more(t.unread);
-    t
 }
 
 // ---- a case: kind, judge, the call's length, the call, the answer's length, the answer
 
-fn replay(line: u64, kind: u64, call: &[u64], answer: &[u64], mut t: Tally) -> Tally {
+fn replay(kind: usize, call: &[usize], reals: &[f64], words: &[u32], answer: &[usize]) -> Verdict {
     match kind {
-        1 => {
-            let v = trees::replay(call, answer);
-            let c = t.trees;
-            let d = count(line, c, v);
-            t.trees = d;
-            t
-        }
-        _ => {
-            t.passed = more(t.passed);
-            t
-        }
+        1 => tree_fits::replay(call, reals, words, answer),
+        2 => forest_fits::replay(call, reals, words, answer),
+        9 => readers::replay_error(call, reals, answer),
+        13 => nodes::replay(call, reals, words, answer),
+        _ => readers::replay(kind, call, reals, words, answer),
     }
 }
 
-fn case(line: u64, numbers: &[u64], t: Tally) -> Tally {
+fn view(kind: usize, call: &[usize], answer: &[usize]) -> Verdict {
+    let mut reals = [0.0; LONGEST];
+    let mut words = [0u32; LONGEST];
+    calls::as_reals(call, &mut reals);
+    calls::as_words(call, &mut words);
+    replay(kind, call, &reals, &words, answer)
+}
+
+fn kind_of(numbers: &[usize]) -> usize {
+    let kind = calls::number(numbers, 0);
+    if kind <= 13 { kind } else { 0 }
+}
+
+fn case(kind: usize, numbers: &[usize]) -> Verdict {
     let n = numbers.len();
-    if n < 4 {
-        return no_case(line, t);
+    if kind == 0 {
+        return Verdict::Malformed;
     }
-    let size = numbers[2] as usize;
+    if n < 4 {
+        return Verdict::Malformed;
+    }
+    let size = numbers[2];
     if n - 4 < size {
-        return no_case(line, t);
+        return Verdict::Malformed;
     }
     let end = 3 + size;
     let from = end + 1;
-    if numbers[end] as usize != n - from {
-        return no_case(line, t);
+    if numbers[end] != n - from {
+        return Verdict::Malformed;
     }
-    let kind = numbers[0];
-    replay(line, kind, &numbers[3..end], &numbers[from..n], t)
+    view(kind, &numbers[3..end], &numbers[from..])
 }
 
-fn read_case(line: u64, text: &[u8], t: Tally) -> Tally {
-    let mut numbers = [0u64; 512];
-    let n = reading::numbers(text, &mut numbers);
-    case(line, &numbers[0..n], t)
+fn read_case(line: usize, text: &[u8], tally: &mut [usize]) {
+    let mut numbers = [0usize; LONGEST];
+    let n = lines::numbers(text, &mut numbers);
+    let kind = kind_of(&numbers[0..n]);
+    let v = case(kind, &numbers[0..n]);
+    tell(line, v);
+    count(kind, v, tally);
 }
 
 // The cases from the list's second line on.
-fn read_cases(text: &[u8]) -> Tally {
-    let mut t = Tally {
-        trees: zero(),
-        passed: 0,
-        unread: 0,
-    };
-    let mut line: u64 = 2;
-    let mut at = reading::find(text, 0, b'\n') + 1;
+fn read_cases(text: &[u8], tally: &mut [usize]) {
+    let mut line: usize = 2;
+    let mut at = lines::find(text, 0, b'\n') + 1;
     while at < text.len() {
-        let end = reading::find(text, at, b'\n');
-        t = read_case(line, &text[at..end], t);
-        line = more(line);
+        let end = lines::find(text, at, b'\n');
+        read_case(line, &text[at..end], tally);
+        line = calls::next(line);
         at = end + 1;
     }
-    t
 }
 
 // How many cases the list's first line says there are.
 fn tell_said(text: &[u8]) {
-    let end = reading::find(text, 0, b' ');
+    let end = lines::find(text, 0, b' ');
     write(b"cases: ");
     write(&text[0..end]);
     write(b"\n");
 }
 
+fn replay_all(text: &[u8]) {
+    let mut tally = [0usize; 42];
+    tell_said(text);
+    read_cases(text, &mut tally);
+    tell_tally(&tally);
+}
+
 fn run(text: &mut [u8]) {
     let n = io::read_full(0, text);
-    tell_said(&text[..n]);
-    let t = read_cases(&text[..n]);
-    tell_tally(t);
+    replay_all(&text[..n]);
 }
 
 // So long an array is passed on by its type: the list of its elements is too long to be computed.

@@ -2,8 +2,7 @@
 ghost use mathlib.Core.Path.{_≡_};
 ghost use lib.Ieee as Ieee;
 ghost use lib.Ieee.{binary64};
-ghost use lib.ListN.{length};
-ghost use Rattle.replay.specs.Places.{Inside};
+use crate::calls;
 
 // Numbers and rooms are counted from 1, in the order of the answer.
 pub enum Verdict {
@@ -13,33 +12,21 @@ pub enum Verdict {
     Malformed,
 }
 
-// Where the next room is written, and the first that differs, or 0.
-pub struct Check {
-    pub at: usize,
-    pub wrong: usize,
-}
-
-// How a room is written: its first entries, and whether the others are as they were or zero.
-struct Written {
-    from: usize,
-    end: usize,
-    next: usize,
-    kept: bool,
-}
-
 // The 64 bits of a float; each NaN has the same.
-pub fn pattern(x: f64) -> u64
+pub fn pattern(x: f64) -> usize
     ensures { λ r. ⌜ r ≡ Ieee.toBits binary64 x ⌝ }
 {
     if x != x {
         0x7ff8000000000000
     } else {
-        f64::to_bits(x)
+        f64::to_bits(x) as usize
     }
 }
 
+// ---- what is told
+
 // The first number that is not as the answer begins, or 0.
-pub fn wrong_number(answer: &[u64], told: &[u64]) -> usize {
+fn wrong_number(answer: &[usize], told: &[usize]) -> usize {
     let mut i: usize = 0;
     while i < told.len() {
         if answer.len() <= i {
@@ -53,96 +40,136 @@ pub fn wrong_number(answer: &[u64], told: &[u64]) -> usize {
     0
 }
 
-fn unwritten() -> Written
-    ensures { λ r. ⌜ (r .from ≡ 0) × (r .end ≡ 0) ⌝ }
-{
-    Written {
-        from: 0,
-        end: 0,
-        next: crate::calls::NOWHERE,
-        kept: true,
+// ---- lent rooms: the first entries of longer ones, as many as the lengths say. A room that is to have more entries than there
+// are is lent none, and is never found the same
+
+pub fn lent_reals<'a>(lengths: &[usize], i: usize, room: &'a mut [f64]) -> &'a mut [f64] {
+    let n = calls::number(lengths, i);
+    if n <= room.len() {
+        return &mut room[0..n];
     }
+    &mut room[0..0]
 }
 
-fn whole(next: usize, kept: bool) -> Written
-    ensures { λ r. ⌜ (r .from ≡ next) × (r .end ≡ next) ⌝ }
-{
-    Written {
-        from: next,
-        end: next,
-        next,
-        kept,
+pub fn lent_words<'a>(lengths: &[usize], i: usize, room: &'a mut [u32]) -> &'a mut [u32] {
+    let n = calls::number(lengths, i);
+    if n <= room.len() {
+        return &mut room[0..n];
     }
+    &mut room[0..0]
 }
 
-// The entries at `at` that a length begins, no more of them than the room has.
-fn entries(answer: &[u64], at: usize, room: usize) -> Written
-    ensures { λ r. ⌜ Inside (now (answer .entry)) (r .from) (r .end) ⌝ }
-{
+pub fn lent_flags<'a>(lengths: &[usize], i: usize, room: &'a mut [bool]) -> &'a mut [bool] {
+    let n = calls::number(lengths, i);
+    if n <= room.len() {
+        return &mut room[0..n];
+    }
+    &mut room[0..0]
+}
+
+pub fn lent_wholes<'a>(
+    lengths: &[usize],
+    i: usize,
+    room: &'a mut [[u32; 6]],
+) -> &'a mut [[u32; 6]] {
+    let n = calls::number(lengths, i);
+    if n <= room.len() {
+        return &mut room[0..n];
+    }
+    &mut room[0..0]
+}
+
+pub fn lent_triples<'a>(
+    lengths: &[usize],
+    i: usize,
+    room: &'a mut [[f64; 3]],
+) -> &'a mut [[f64; 3]] {
+    let n = calls::number(lengths, i);
+    if n <= room.len() {
+        return &mut room[0..n];
+    }
+    &mut room[0..0]
+}
+
+// ---- rooms compared one after another
+
+// Where the next room is written, how many were compared, and the first that differs, or 0.
+pub struct Check {
+    at: usize,
+    compared: usize,
+    wrong: usize,
+}
+
+// How a room is written: 0 for zeros, 1 for as it was, or 2 and a list of its first entries, after which it is as it was.
+fn end_of(answer: &[usize], at: usize, length: usize) -> usize {
     if answer.len() <= at {
-        return unwritten();
-    }
-    let n = answer[at];
-    let from = at + 1;
-    let left = answer.len() - from;
-    if room < n as usize {
-        return unwritten();
-    }
-    if left < n as usize {
-        return unwritten();
-    }
-    let end = from + n as usize;
-    Written {
-        from,
-        end,
-        next: end,
-        kept: true,
-    }
-}
-
-fn written_at(answer: &[u64], at: usize, room: usize) -> Written
-    ensures { λ r. ⌜ Inside (now (answer .entry)) (r .from) (r .end) ⌝ }
-{
-    if answer.len() <= at {
-        return unwritten();
+        return calls::NOWHERE;
     }
     let next = at + 1;
     match answer[at] {
-        0 => whole(next, false),
-        1 => whole(next, true),
-        2 => entries(answer, next, room),
-        _ => unwritten(),
+        0 | 1 => next,
+        2 => {
+            if calls::number(answer, next) <= length {
+                return calls::after(answer, next);
+            }
+            calls::NOWHERE
+        }
+        _ => calls::NOWHERE,
+    }
+}
+
+fn entries(answer: &[usize], at: usize, end: usize) -> &[usize] {
+    if at < end {
+        return calls::entries(answer, at + 1, end);
+    }
+    &answer[0..0]
+}
+
+// What the entries after those are.
+fn rest_of(answer: &[usize], at: usize, before: usize) -> usize {
+    if calls::number(answer, at) == 0 {
+        0
+    } else {
+        before
     }
 }
 
 // What the entry at i should be.
-fn expected(entries: &[u64], i: usize, rest: u64) -> u64 {
+fn expected(entries: &[usize], i: usize, rest: usize) -> usize {
     if i < entries.len() { entries[i] } else { rest }
 }
 
-fn rest_of(kept: bool, before: u64) -> u64 {
-    if kept { before } else { 0 }
-}
-
-fn after(c: Check, next: usize, room: usize, same: bool) -> Check {
-    let wrong = c.wrong;
+fn after(c: Check, end: usize, same: bool) -> Check {
+    let compared = calls::next(c.compared);
     if same {
-        return Check { at: next, wrong };
+        return Check {
+            at: end,
+            compared,
+            wrong: c.wrong,
+        };
     }
-    if 0 < wrong {
-        return Check { at: next, wrong };
+    if 0 < c.wrong {
+        return Check {
+            at: end,
+            compared,
+            wrong: c.wrong,
+        };
     }
     Check {
-        at: next,
-        wrong: room,
+        at: end,
+        compared,
+        wrong: compared,
     }
 }
 
 // ---- rooms of floats
 
-fn same_reals(entries: &[u64], rest: u64, room: &[f64]) -> bool {
+fn same_reals(entries: &[usize], rest: usize, n: usize, room: &[f64]) -> bool {
     let mut i: usize = 0;
-    while i < room.len() {
+    while i < n {
+        if room.len() <= i {
+            return false;
+        }
         if pattern(room[i]) != expected(entries, i, rest) {
             return false;
         }
@@ -151,24 +178,26 @@ fn same_reals(entries: &[u64], rest: u64, room: &[f64]) -> bool {
     true
 }
 
-pub fn reals(answer: &[u64], c: Check, number: usize, room: &[f64]) -> Check {
-    let w = written_at(answer, c.at, room.len());
-    let from = w.from;
-    let end = w.end;
-    let rest = rest_of(w.kept, pattern(9.0));
-    let same = same_reals(&answer[from..end], rest, room);
-    after(c, w.next, number, same)
+pub fn reals(answer: &[usize], lengths: &[usize], c: Check, room: &[f64]) -> Check {
+    let n = calls::number(lengths, c.compared);
+    let end = end_of(answer, c.at, n);
+    let rest = rest_of(answer, c.at, pattern(9.0));
+    let same = same_reals(entries(answer, c.at, end), rest, n, room);
+    after(c, end, same)
 }
 
 // ---- rooms of numbers
 
-fn wide(n: u32) -> u64 {
-    n as u64
+fn wide(n: u32) -> usize {
+    n as usize
 }
 
-fn same_words(entries: &[u64], rest: u64, room: &[u32]) -> bool {
+fn same_words(entries: &[usize], rest: usize, n: usize, room: &[u32]) -> bool {
     let mut i: usize = 0;
-    while i < room.len() {
+    while i < n {
+        if room.len() <= i {
+            return false;
+        }
         if wide(room[i]) != expected(entries, i, rest) {
             return false;
         }
@@ -177,24 +206,26 @@ fn same_words(entries: &[u64], rest: u64, room: &[u32]) -> bool {
     true
 }
 
-pub fn words(answer: &[u64], c: Check, number: usize, room: &[u32]) -> Check {
-    let w = written_at(answer, c.at, room.len());
-    let from = w.from;
-    let end = w.end;
-    let rest = rest_of(w.kept, 9);
-    let same = same_words(&answer[from..end], rest, room);
-    after(c, w.next, number, same)
+pub fn words(answer: &[usize], lengths: &[usize], c: Check, room: &[u32]) -> Check {
+    let n = calls::number(lengths, c.compared);
+    let end = end_of(answer, c.at, n);
+    let rest = rest_of(answer, c.at, 9);
+    let same = same_words(entries(answer, c.at, end), rest, n, room);
+    after(c, end, same)
 }
 
 // ---- rooms of flags
 
-fn flag(b: bool) -> u64 {
+pub fn flag(b: bool) -> usize {
     if b { 1 } else { 0 }
 }
 
-fn same_flags(entries: &[u64], rest: u64, room: &[bool]) -> bool {
+fn same_flags(entries: &[usize], rest: usize, n: usize, room: &[bool]) -> bool {
     let mut i: usize = 0;
-    while i < room.len() {
+    while i < n {
+        if room.len() <= i {
+            return false;
+        }
         if flag(room[i]) != expected(entries, i, rest) {
             return false;
         }
@@ -203,36 +234,47 @@ fn same_flags(entries: &[u64], rest: u64, room: &[bool]) -> bool {
     true
 }
 
-pub fn flags(answer: &[u64], c: Check, number: usize, room: &[bool]) -> Check {
-    let w = written_at(answer, c.at, room.len());
-    let from = w.from;
-    let end = w.end;
-    let rest = rest_of(w.kept, 1);
-    let same = same_flags(&answer[from..end], rest, room);
-    after(c, w.next, number, same)
+fn flags(answer: &[usize], lengths: &[usize], c: Check, room: &[bool]) -> Check {
+    let n = calls::number(lengths, c.compared);
+    let end = end_of(answer, c.at, n);
+    let rest = rest_of(answer, c.at, 1);
+    let same = same_flags(entries(answer, c.at, end), rest, n, room);
+    after(c, end, same)
 }
 
 // ---- the waiting list
 
-// An entry counts as a whole: 9 as it was, 0 zero, else 1.
-fn mark(wholes: [u32; 6], triple: [f64; 3]) -> u64 {
-    let empty: [u64; 0] = [];
-    if same_words(&empty, 9, &wholes) {
-        if same_reals(&empty, pattern(9.0), &triple) {
-            return 9;
-        }
+fn same_entry(word: usize, real: usize, wholes: &[u32], triple: &[f64]) -> bool {
+    let none: [usize; 0] = [];
+    if same_words(&none, word, 6, wholes) {
+        return same_reals(&none, real, 3, triple);
     }
-    if same_words(&empty, 0, &wholes) {
-        if same_reals(&empty, 0, &triple) {
-            return 0;
-        }
+    false
+}
+
+// An entry counts as a whole: 9 as it was, 0 zero, else 1.
+fn mark(wholes: [u32; 6], triple: [f64; 3]) -> usize {
+    if same_entry(9, pattern(9.0), &wholes, &triple) {
+        return 9;
+    }
+    if same_entry(0, 0, &wholes, &triple) {
+        return 0;
     }
     1
 }
 
-fn same_waiting(entries: &[u64], rest: u64, wholes: &[[u32; 6]], triples: &[[f64; 3]]) -> bool {
+fn same_waiting(
+    entries: &[usize],
+    rest: usize,
+    n: usize,
+    wholes: &[[u32; 6]],
+    triples: &[[f64; 3]],
+) -> bool {
     let mut i: usize = 0;
-    while i < wholes.len() {
+    while i < n {
+        if wholes.len() <= i {
+            return false;
+        }
         if triples.len() <= i {
             return false;
         }
@@ -244,22 +286,73 @@ fn same_waiting(entries: &[u64], rest: u64, wholes: &[[u32; 6]], triples: &[[f64
     true
 }
 
-pub fn waiting(
-    answer: &[u64],
+fn waiting(
+    answer: &[usize],
+    lengths: &[usize],
     c: Check,
-    number: usize,
     wholes: &[[u32; 6]],
     triples: &[[f64; 3]],
 ) -> Check {
-    let w = written_at(answer, c.at, wholes.len());
-    let from = w.from;
-    let end = w.end;
-    let rest = rest_of(w.kept, 9);
-    let same = same_waiting(&answer[from..end], rest, wholes, triples);
-    after(c, w.next, number, same)
+    let n = calls::number(lengths, c.compared);
+    let end = end_of(answer, c.at, n);
+    let rest = rest_of(answer, c.at, 9);
+    let same = same_waiting(entries(answer, c.at, end), rest, n, wholes, triples);
+    after(c, end, same)
 }
 
-pub fn judged(answer: &[u64], c: Check) -> Verdict {
+// ---- the rooms that a fit of one tree and that of a forest are both lent
+
+pub fn nodes<'a>(
+    answer: &[usize],
+    lengths: &[usize],
+    c: Check,
+    value: &'a [f64],
+    feature: &'a [u32],
+    threshold: &'a [f64],
+    score: &'a [f64],
+    yes: &'a [u32],
+    no: &'a [u32],
+) -> Check {
+    let d = reals(answer, lengths, c, value);
+    let e = words(answer, lengths, d, feature);
+    let f = reals(answer, lengths, e, threshold);
+    let g = reals(answer, lengths, f, score);
+    let h = words(answer, lengths, g, yes);
+    words(answer, lengths, h, no)
+}
+
+pub fn work<'a>(
+    answer: &[usize],
+    lengths: &[usize],
+    c: Check,
+    order: &'a [u32],
+    scratch: &'a [u32],
+    marks: &'a [bool],
+    wholes: &'a [[u32; 6]],
+    triples: &'a [[f64; 3]],
+) -> Check {
+    let d = words(answer, lengths, c, order);
+    let e = words(answer, lengths, d, scratch);
+    let f = flags(answer, lengths, e, marks);
+    waiting(answer, lengths, f, wholes, triples)
+}
+
+// ---- the verdict
+
+// Rooms are written after what is told.
+pub fn first(told: usize) -> Check {
+    Check {
+        at: told,
+        compared: 0,
+        wrong: 0,
+    }
+}
+
+pub fn judged(answer: &[usize], told: &[usize], c: Check) -> Verdict {
+    let wrong = wrong_number(answer, told);
+    if 0 < wrong {
+        return Verdict::Number(wrong);
+    }
     if c.at != answer.len() {
         return Verdict::Malformed;
     }

@@ -18,8 +18,8 @@ use Rattle.rules.specs.declared.NodeReply.{NodeReply}
 use Rattle.rules.specs.Words.{from, every, along}
 use Rattle.rules.specs.Lent.{Columns, Entry, shortest, entryAt, entriesAt}
 use Rattle.rules.specs.Table.{isLeaf, goodEntry, goodFrom, goodTree, ForestTable, startsGood, nodeOf, nodeRead}
-use Rattle.laws.specs.Lists.{Ordered, every-all, every-at, ordered-along, length-from}
-use Rattle.checks.specs.Tests.{and-both, same-default}
+use Rattle.laws.specs.Lists.{every-all, same-default, ordered-along, ordered-at, length-from}
+use Rattle.checks.specs.Tests.{and-both}
 use Rattle.tables.specs.Table.{entryIs, bare, Lying}
 
 -- ---- one entry
@@ -100,16 +100,10 @@ bare-same features n k e = refl
 
 -- ---- starts that rise
 
-ordered-at : (l : List ℕ) → Ordered (λ x y. x < y) l → (i j : ℕ) → i < j → j < length l → getD l i 0 < getD l j 0
-ordered-at [] o i j h g = absurd (not-suc-le-zero g)
-ordered-at (x ∷ l) o i zero h g = absurd (not-suc-le-zero h)
-ordered-at (x ∷ l) o zero (suc j) h g = every-at (λ y. x < y) l 0 j (o .0) (le-of-suc-le-suc g)
-ordered-at (x ∷ l) o (suc i) (suc j) h g = ordered-at l (o .1) i j (le-of-suc-le-suc h) (le-of-suc-le-suc g)
-
 pub rising-at : (l : List ℕ) → along ltb l ≡ true → (i j : ℕ) → i < j → j < length l → getD l i 0 < getD l j 0
 rising-at l h i j a b =
-    ordered-at l
-    (ordered-along (λ x y. x < y) ltb (λ x. Unit {0}) (λ x y p q t. ltb→lt x y t) (λ x y z p q. trans x y z p q) l (every-all _ (λ x. tt) l) (subst T (sym h) tt)) i j a b
+    ordered-at (λ x y. x < y) l
+    (ordered-along (λ x y. x < y) ltb (λ x. Unit {0}) (λ x y p q t. ltb→lt x y t) (λ x y z p q. trans x y z p q) l (every-all _ (λ x. tt) l) (subst T (sym h) tt)) 0 i j a b
   where
     trans : (x y z : ℕ) → x < y → y < z → x < z
     trans x y z p q = omega arith

@@ -6,8 +6,9 @@ use mathlib.Core.Path.{_≡_, refl, sym, ap, _∙_, subst}
 use mathlib.Core.Bool.{false}
 use mathlib.Core.List.{List, [], _∷_}
 use lib.ListN.{length, getD, take, drop, replicate, length-take, length-drop}
-use lib.Dec.{leb, leb→le}
+use lib.Dec.{T, leb, leb→le}
 use Rattle.rules.specs.declared.Params.{Params}
+use Rattle.rules.specs.declared.Shape.{Shape}
 use Rattle.rules.specs.declared.TreeAnswer.{TreeAnswer}
 use Rattle.rules.specs.Words.{nought, filled}
 use Rattle.rules.specs.Lent.{Columns, Work, TreeRooms, Outcome, Stack, stack, zeroColumns, zeroWork}
@@ -30,7 +31,7 @@ finished (Grown r) R = record { answer = TreeAnswer.Grown r; rooms = record { no
 
 -- ---- rooms filled with zero look at lengths alone
 
-filled-same : {A : Type 0} (x : A) (l l′ : List A) → length l′ ≡ length l → filled x l′ ≡ filled x l
+pub filled-same : {A : Type 0} (x : A) (l l′ : List A) → length l′ ≡ length l → filled x l′ ≡ filled x l
 filled-same x [] [] e = refl
 filled-same x [] (y ∷ l′) e = absurd (omega arith)
 filled-same x (z ∷ l) [] e = absurd (omega arith)
@@ -43,7 +44,7 @@ pub record WorkLong (w w′ : Work Stack) : Type 0 where
   pub wholes : length (w′ .waiting .wholes) ≡ length (w .waiting .wholes)
   pub reals : length (w′ .waiting .reals) ≡ length (w .waiting .reals)
 
-nodes-zero : (c c′ : Columns) → NodesLong c c′ → zeroColumns c′ ≡ zeroColumns c
+pub nodes-zero : (c c′ : Columns) → NodesLong c c′ → zeroColumns c′ ≡ zeroColumns c
 nodes-zero c c′ h = λ i.
     record {
       value = filled-same nought (c .value) (c′ .value) (h .value) i;
@@ -54,7 +55,7 @@ nodes-zero c c′ h = λ i.
       falseChild = filled-same 0 (c .falseChild) (c′ .falseChild) (h .no) i;
     }
 
-work-zero : (w w′ : Work Stack) → WorkLong w w′ → zeroWork stack w′ ≡ zeroWork stack w
+pub work-zero : (w w′ : Work Stack) → WorkLong w w′ → zeroWork stack w′ ≡ zeroWork stack w
 work-zero w w′ h = λ i.
     record {
       order = filled-same 0 (w .order) (w′ .order) (h .order) i;
@@ -78,8 +79,39 @@ every-each Q (x ∷ l) d h = (h 0, every-each Q l d (λ i. h (suc i)))
 pub lent-long {ℓ} : {A : Type ℓ} (n : ℕ) (l : List A) → n ≤ length l → length (take (n - 0) (drop 0 l)) ≡ n
 lent-long n l h = simp (length-take, length-drop) (omega arith)
 
-none : (n : ℕ) → n ≤ 0 → n ≡ 0
+pub none : (n : ℕ) → n ≤ 0 → n ≡ 0
 none n h = omega arith
+
+-- ---- the work room that the checks ask
+
+pub record WorkRoom (S : Shape) (w : Work Stack) : Type 0 where
+  pub order : S .features * S .rows ≤ length (w .order)
+  pub scratch : S .rows ≤ length (w .scratch)
+  pub flags : S .rows ≤ length (w .flags)
+  pub wholes : S .rows ≤ length (w .waiting .wholes)
+  pub reals : S .rows ≤ length (w .waiting .reals)
+
+pub work-room : (S : Shape) (w : Work Stack) → T (workEnough stack S w) → WorkRoom S w
+unfolding workEnough
+work-room S w h =
+    let (o, s, f, p) = and4 (leb (S .features * S .rows) (length (w .order))) (leb (S .rows) (length (w .scratch)))
+    (leb (max (S .rows) (S .features)) (length (w .flags))) (leb (S .rows) (stack .places (w .waiting))) h in
+    record {
+      order = leb→le _ _ o;
+      scratch = leb→le _ _ s;
+      flags = rows-of (S .rows) (S .features) (length (w .flags)) (leb→le _ _ f);
+      wholes = first (S .rows) (length (w .waiting .wholes)) (length (w .waiting .reals)) (leb→le _ _ p);
+      reals = second (S .rows) (length (w .waiting .wholes)) (length (w .waiting .reals)) (leb→le _ _ p);
+    }
+  where
+    rows-of : (r f n : ℕ) → max r f ≤ n → r ≤ n
+    rows-of r f n h = omega arith
+
+    first : (r a b : ℕ) → r ≤ min a b → r ≤ a
+    first r a b h = omega arith
+
+    second : (r a b : ℕ) → r ≤ min a b → r ≤ b
+    second r a b h = omega arith
 
 module _ (C : TreeCall) (R : TreeRooms Stack) where
   pub fit-refused : (n : ℕ) → n ≡ firstFailed (treeTests stack C R) → 0 < n → record { answer = TreeAnswer.Refused n; rooms = R } ≡ fitTree stack C R
@@ -110,13 +142,8 @@ module _ (C : TreeCall) (R : TreeRooms Stack) where
     all-passed : TreePassed stack C R
     all-passed = tree-passed stack C R (sym e ∙ none n h)
 
-    work-room : (C .shape .features * C .shape .rows ≤ length (R .work .order)) × (C .shape .rows ≤ length (R .work .scratch))
-        × (max (C .shape .rows) (C .shape .features) ≤ length (R .work .flags)) × (C .shape .rows ≤ stack .places (R .work .waiting))
-    unfolding workEnough
-    work-room =
-        let (o, s, f, w) = and4 (leb (C .shape .features * C .shape .rows) (length (R .work .order))) (leb (C .shape .rows) (length (R .work .scratch)))
-        (leb (max (C .shape .rows) (C .shape .features)) (length (R .work .flags))) (leb (C .shape .rows) (stack .places (R .work .waiting))) (all-passed .work) in
-        (leb→le _ _ o, leb→le _ _ s, leb→le _ _ f, leb→le _ _ w)
+    room : WorkRoom (C .shape) (R .work)
+    room = work-room (C .shape) (R .work) (all-passed .work)
 
     pub few-features : C .shape .features ≤ 1024
     few-features = all-passed .passed .fewFeatures
@@ -125,7 +152,7 @@ module _ (C : TreeCall) (R : TreeRooms Stack) where
     size-low = mul-le-mul few-features (all-passed .passed .fewRows)
 
     pub size-room : C .shape .features * C .shape .rows ≤ length (R .work .order)
-    size-room = work-room .0
+    size-room = room .order
 
     pub plant-asks : Binary64 (C .given .inputs .values) → (p : Params) → ParamsMade (C .settings) (C .tried) (C .shape .features) p → (k : ℕ) → k ≡ C .shape .features * C .shape .rows
         → PlantAsks (C .shape .features) (frameIn (C .shape .rows) p (C .given .weights) (C .given .counts) (C .words) (C .thresholds)) (C .given .inputs) (R .nodes)
@@ -149,18 +176,9 @@ module _ (C : TreeCall) (R : TreeRooms Stack) where
           features-few = few-features;
           deep = subst (λ (p′ : Params). p′ .limit ≤ 65535) (m .same) (m .deep);
           col-room = ek;
-          scratch-room = work-room .1;
-          flag-room = rows-of (C .shape .rows) (C .shape .features) (length (R .work .flags)) (work-room .2);
-          whole-room = first (C .shape .rows) (length (R .work .waiting .wholes)) (length (R .work .waiting .reals)) (work-room .3);
-          real-room = second (C .shape .rows) (length (R .work .waiting .wholes)) (length (R .work .waiting .reals)) (work-room .3);
+          scratch-room = room .scratch;
+          flag-room = room .flags;
+          whole-room = room .wholes;
+          real-room = room .reals;
           node-room = all-passed .room;
         })
-      where
-        rows-of : (r f n : ℕ) → max r f ≤ n → r ≤ n
-        rows-of r f n h = omega arith
-
-        first : (r a b : ℕ) → r ≤ min a b → r ≤ a
-        first r a b h = omega arith
-
-        second : (r a b : ℕ) → r ≤ min a b → r ≤ b
-        second r a b h = omega arith

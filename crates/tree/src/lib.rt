@@ -11,7 +11,7 @@ use rules::Settings;
 use rules::Shape;
 use rules::TreeAnswer;
 
-fn zero_nodes(
+pub fn zero_nodes(
     value: &mut [f64],
     feature: &mut [u32],
     threshold: &mut [f64],
@@ -30,7 +30,7 @@ fn zero_nodes(
     columns::zero_u32(no);
 }
 
-fn zero_work(
+pub fn zero_work(
     order: &mut [u32],
     scratch: &mut [u32],
     flags: &mut [bool],

@@ -15,6 +15,7 @@ use Rattle.rules.specs.Checks.{roomFor}
 use Rattle.rules.specs.Fit.{Tree, fit}
 use Rattle.rules.specs.Forest.{stopped, grownAll, growTrees, startsFrom, forestEntries}
 use Rattle.laws.specs.Lists.{length-from, getD-from}
+use Rattle.laws.specs.Passed.{CutAt}
 use Rattle.laws.specs.Written.{starts-length}
 use Rattle.laws.specs.Outs.{Then, then-of}
 use Rattle.growth.specs.Rooms.{LongAll}
@@ -24,7 +25,7 @@ use Rattle.plant.specs.Plant.{NodesLong, PlantAsks, PlantDone, long-all}
 use Rattle.trees.specs.declared.Grove.{Grove}
 use Rattle.trees.specs.declared.Grove.the-variants as U
 use Rattle.trees.specs.Standing.{dropAll, putReport, ReportsLong, Standing, standing-first, standing-end, standing-stop, standing-next, room-here}
-use Rattle.trees.specs.Next.{frameFor, CutAt, NextAsks, NextDone}
+use Rattle.trees.specs.Next.{frameFor, NextAsks, NextDone}
 
 -- what the trees are grown from
 pub record Lot : Type 0 where
@@ -60,8 +61,8 @@ PlantIn L t k w = PlantAsks (L .features) (lotFrame L t) (L .inputs) k (w .cols)
 pub record AllAsks (L : Lot) (c : Columns) (starts : ℕ) (r : Reports) (w : Widths) : Type 0 where
   pub fine : (t : ℕ) → t < L .trees → (k : Columns) → roomFor (lotFrame L t) ≤ shortest k → PlantIn L t k w
   pub counted : (t : ℕ) → t < L .trees → t * L .rows + L .rows ≤ length (L .counts)
-  pub word : (t : ℕ) → t < L .trees → CutAt (L .wordCuts) (L .words) t
-  pub threshold : (t : ℕ) → t < L .trees → CutAt (L .thresholdCuts) (L .thresholds) t
+  pub word : (t : ℕ) → t < L .trees → CutAt (L .wordCuts) (length (L .words)) t
+  pub threshold : (t : ℕ) → t < L .trees → CutAt (L .thresholdCuts) (length (L .thresholds)) t
   pub nodes : (t : ℕ) → t < L .trees → Then (fit (lotFrame L t) (L .inputs)) (λ (x : Tree). length (x .nodes) ≤ roomFor (lotFrame L t))
   pub reported : (t : ℕ) → t < L .trees → Then (fit (lotFrame L t) (L .inputs)) (λ (x : Tree). x .report .nodes ≡ length (x .nodes))
   pub few : L .trees ≤ 1024

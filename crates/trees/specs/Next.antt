@@ -11,6 +11,7 @@ use Rattle.rules.specs.declared.Params.{Params}
 use Rattle.rules.specs.Words.{stretch}
 use Rattle.rules.specs.Lent.{Data, Frame, Columns}
 use Rattle.rules.specs.Forest.{part}
+use Rattle.laws.specs.Passed.{CutAt}
 use Rattle.growth.specs.Rooms.{LongAll}
 use Rattle.plant.specs.declared.Planted.{Planted}
 use Rattle.plant.specs.Plant.{frameIn, PlantAsks, PlantDone}
@@ -19,18 +20,12 @@ use Rattle.trees.specs.Standing.{dropAll, takeAll}
 abbrev pub frameFor : ℕ → Params → List Float → List ℕ → List ℕ → List Float → List ℕ → List ℕ → ℕ → Frame
 frameFor rows p weights counts words thresholds wc tc t = frameIn rows p weights (stretch (t * rows) rows counts) (part wc words t) (part tc thresholds t)
 
--- tree t's part of a tape lies within it
-pub record CutAt {A : Type 0} (cuts : List ℕ) (tape : List A) (t : ℕ) : Type 0 where
-  pub known : t + 1 < length cuts
-  pub order : getD cuts t 0 ≤ getD cuts (t + 1) 0
-  pub high : getD cuts (t + 1) 0 ≤ length tape
-
 pub record NextAsks (features rows : ℕ) (p : Params) (weights : List Float) (counts words : List ℕ) (thresholds : List Float) (wc tc : List ℕ) (D : Data) (t at : ℕ) (c : Columns) (cols sc fl rw rr : ℕ) : Type 0 where
   pub plant : PlantAsks features (frameFor rows p weights counts words thresholds wc tc t) D (dropAll at c) cols sc fl rw rr
   pub long : LongAll at c
   pub counted : t * rows + rows ≤ length counts
-  pub word : CutAt wc words t
-  pub threshold : CutAt tc thresholds t
+  pub word : CutAt wc (length words) t
+  pub threshold : CutAt tc (length thresholds) t
 
 pub record NextDone (F : Frame) (D : Data) (at : ℕ) (c c′ : Columns) (r : Planted) : Type 0 where
   pub kept : takeAll at c′ ≡ takeAll at c

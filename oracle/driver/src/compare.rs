@@ -4,10 +4,10 @@ use crate::calls::Call;
 use crate::case::{self, Case};
 use crate::chance::Chance;
 use crate::make_fit::{self, SMALL, Size};
-use crate::tally::{Counts, Tally, caught, passed_over};
+use crate::tally::{Counts, Tally, caught};
 use crate::{
-    crafted, damage_fit, damage_read, differences, exhaustive, faults, limits, make_read, own,
-    rehearsal,
+    crafted, damage_fit, damage_read, differences, exhaustive, faults, limits, limits_read,
+    make_read, own, rehearsal,
 };
 use std::process::ExitCode;
 
@@ -86,11 +86,10 @@ pub fn compare(mut tally: Tally, count: usize, least: &Counts) -> ExitCode {
     exhaustive::tables(|case| tally.hold(&case));
     exhaustive::checks(|case| tally.hold(&case));
     limits::each(&mut chance, |case| tally.hold(&case));
+    limits_read::each(&mut Chance::new(5), |case| tally.hold(&case));
     random(&mut tally, &mut chance, count);
     differences::hold(&mut tally);
-    if tally.library.grows_forests() {
-        own::hold(&mut tally, &mut chance, count / 100);
-    }
+    own::hold(&mut tally, &mut chance, count / 100);
     tally.end("compare", least)
 }
 
@@ -122,9 +121,7 @@ pub fn replay(mut tally: Tally, by: &[By], file: &str, each: bool, least: &Count
     for (place, listed) in case::read_list(file).iter().enumerate() {
         for by in by {
             let answer = match by {
-                By::Library if !passed_over(library, &listed.case) => {
-                    caught(|| listed.case.answer(library))
-                }
+                By::Library => caught(|| listed.case.answer(library)),
                 By::Copy if listed.judge == 1 => caught(|| listed.case.expected()),
                 _ => continue,
             };

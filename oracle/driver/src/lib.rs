@@ -14,6 +14,7 @@ mod faults;
 mod floats;
 pub mod library;
 mod limits;
+mod limits_read;
 mod make_fit;
 mod make_read;
 pub mod mutants;

@@ -8,10 +8,6 @@ use paper::{
 
 /// All public calls.
 pub trait Library {
-    /// Whether it has the fit of a forest; else such cases are passed over.
-    fn grows_forests(&self) -> bool {
-        true
-    }
     fn fit_tree(&self, call: &TreeCall, rooms: &mut TreeRooms) -> TreeAnswer;
     fn fit_forest(&self, call: &ForestCall, rooms: &mut ForestRooms) -> ForestAnswer;
     fn predictions(

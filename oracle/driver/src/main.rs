@@ -38,15 +38,17 @@ fn main() -> ExitCode {
 }
 
 fn paper() -> Tally<'static> {
-    Tally::new("the second judge", &Paper, None)
+    Tally::new("the judges", &Paper, None)
 }
 
 fn compared(count: usize) -> ExitCode {
     compare::compare(paper(), count, &Counts::each(1))
 }
 
+/// A list of any cases may be told of one by one.
 fn replayed(by: &[By], list: &str, each: bool) -> ExitCode {
-    compare::replay(paper(), by, list, each, &Counts::each(1))
+    let least = if each { 0 } else { 1 };
+    compare::replay(paper(), by, list, each, &Counts::each(least))
 }
 
 fn number(word: &str) -> usize {

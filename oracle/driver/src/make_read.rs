@@ -124,7 +124,7 @@ pub fn is_forest(reader: Reader) -> bool {
     )
 }
 
-fn join(table: &mut Table, next: Table) {
+pub fn join(table: &mut Table, next: Table) {
     table.value.extend(next.value);
     table.feature.extend(next.feature);
     table.threshold.extend(next.threshold);
@@ -135,7 +135,7 @@ fn join(table: &mut Table, next: Table) {
 
 /// A good tree: a split's true child is any later number that has a next one, so children may be shared and
 /// nodes unreached; a leaf holds anything. Columns may go on for up to `longer` more entries.
-fn tree(chance: &mut Chance, nodes: usize, features: usize, longer: usize) -> Table {
+pub fn tree(chance: &mut Chance, nodes: usize, features: usize, longer: usize) -> Table {
     let mut table = Table {
         value: floats::anything(chance, nodes),
         threshold: floats::anything(chance, nodes),

@@ -72,28 +72,23 @@ impl Counts {
 
 impl fmt::Display for Counts {
     fn fmt(&self, to: &mut fmt::Formatter) -> fmt::Result {
-        let (first, last) = self.refusals.split_at(6);
+        let Counts {
+            trees,
+            forests,
+            readers,
+            nodes,
+            checks,
+            bad_draws,
+            refusals,
+        } = self;
+        let (beside, (first, last)) = (self.beside_trees(), refusals.split_at(6));
         write!(
             to,
-            "{} trees grown; {} beside: ",
-            self.trees,
-            self.beside_trees()
+            "{trees} trees grown; {beside} beside: {forests} forests grown, "
         )?;
-        write!(
-            to,
-            "{} forests grown, {} answers of readers, ",
-            self.forests, self.readers
-        )?;
-        write!(
-            to,
-            "{} nodes read out, {} checks passed, ",
-            self.nodes, self.checks
-        )?;
-        write!(
-            to,
-            "{} bad draws, refusals 1 to 6 {first:?}, 8 to 10 {last:?}",
-            self.bad_draws
-        )
+        write!(to, "{readers} answers of readers, {nodes} nodes read out, ")?;
+        write!(to, "{checks} checks passed, {bad_draws} bad draws, ")?;
+        write!(to, "refusals 1 to 6 {first:?}, 8 to 10 {last:?}")
     }
 }
 
@@ -129,9 +124,6 @@ impl<'a> Tally<'a> {
     }
 
     pub fn hold(&mut self, case: &Case) {
-        if passed_over(self.library, case) {
-            return;
-        }
         let expected = caught(|| case.expected());
         let by = |library: &dyn Library| caught(|| case.answer(library));
         match self.second {
@@ -180,11 +172,6 @@ impl<'a> Tally<'a> {
         }
         ExitCode::FAILURE
     }
-}
-
-/// Whether a library has no call for this case.
-pub fn passed_over(library: &dyn Library, case: &Case) -> bool {
-    matches!(&case.call, Call::Fit(fit) if fit.forest) && !library.grows_forests()
 }
 
 /// A judge that panics has answered nothing, which no call should give.

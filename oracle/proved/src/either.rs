@@ -1,9 +1,9 @@
 //! The calls, by whichever way the library is reached: linked, or served where `SERVED` names a program.
 
-use crate::boundary::*;
-#[cfg(target_arch = "x86_64")]
-use crate::linked;
 use crate::served;
+#[cfg(target_arch = "x86_64")]
+use tailboardy_sys::linked;
+use tailboardy_sys::*;
 
 macro_rules! choose {
     ($($kind:literal $name:ident = $symbol:ident($($given:ident: $number:ty),*)

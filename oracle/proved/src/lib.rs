@@ -3,15 +3,10 @@
 
 #![allow(clippy::too_many_arguments)]
 
-#[macro_use]
-mod boundary;
 mod either;
-#[cfg(target_arch = "x86_64")]
-mod linked;
 mod served;
 mod waiting;
 
-use boundary::TreeSettings;
 use driver::library::Library;
 use driver::outcome::bits;
 use paper::{
@@ -19,6 +14,7 @@ use paper::{
     TreeCall, TreeRooms,
 };
 pub use served::named as served;
+use tailboardy_sys::{ForestSettings, TreeSettings};
 use waiting::Stack;
 
 pub struct Proved;
@@ -83,12 +79,54 @@ impl Library for Proved {
         }
     }
 
-    fn grows_forests(&self) -> bool {
-        false
-    }
-
-    fn fit_forest(&self, _: &ForestCall, _: &mut ForestRooms) -> ForestAnswer {
-        unreachable!("not exported yet")
+    fn fit_forest(&self, call: &ForestCall, rooms: &mut ForestRooms) -> ForestAnswer {
+        let ForestRooms {
+            nodes,
+            starts,
+            reports,
+            work,
+        } = rooms;
+        let (given, draws) = (&call.given, &call.draws);
+        let mut stack = Stack::new(work.waiting.len(), lot(given, draws.words));
+        let told = either::fit_forest(
+            given.rows,
+            given.features,
+            call.trees,
+            forest_settings(call),
+            given.x,
+            given.y,
+            given.weights,
+            given.counts,
+            given.listings,
+            draws.words,
+            draws.thresholds,
+            &places(call.cuts.words),
+            &places(call.cuts.thresholds),
+            nodes.value,
+            nodes.feature,
+            nodes.threshold,
+            nodes.score,
+            nodes.true_child,
+            nodes.false_child,
+            starts,
+            reports.nodes,
+            reports.depth,
+            reports.root_mass,
+            reports.searches,
+            reports.words_used,
+            reports.thresholds_used,
+            work.columns,
+            work.scratch,
+            work.flags,
+            &mut stack.wholes,
+            &mut stack.reals,
+        );
+        stack.told(work.waiting);
+        ForestAnswer {
+            refusal: told.number,
+            tree: told.tree,
+            search: told.search,
+        }
     }
 
     fn predictions(
@@ -178,6 +216,10 @@ fn lot(given: &Given, words: &[u32]) -> u32 {
     })
 }
 
+fn places(cuts: &[u64]) -> Vec<usize> {
+    cuts.iter().map(|cut| *cut as usize).collect()
+}
+
 fn tree_settings(call: &TreeCall) -> TreeSettings {
     TreeSettings {
         limited: call.settings.limit.is_some(),
@@ -185,6 +227,18 @@ fn tree_settings(call: &TreeCall) -> TreeSettings {
         leaf: call.settings.least_leaf,
         split: call.settings.least_split,
         tried: call.tried,
+        random: call.settings.splitter == Splitter::Random,
+    }
+}
+
+fn forest_settings(call: &ForestCall) -> ForestSettings {
+    ForestSettings {
+        limited: call.settings.limit.is_some(),
+        limit: call.settings.limit.unwrap_or(0),
+        leaf: call.settings.least_leaf,
+        split: call.settings.least_split,
+        said: call.tried.is_some(),
+        tried: call.tried.unwrap_or(0),
         random: call.settings.splitter == Splitter::Random,
     }
 }

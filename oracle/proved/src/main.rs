@@ -9,25 +9,19 @@ use std::process::ExitCode;
 /// So many of each kind must be compared in a full run,
 const FULL: Counts = Counts {
     trees: 400_000,
-    forests: 0,
+    forests: 40_000,
     readers: 50_000,
     nodes: 9_000,
     checks: 25_000,
-    bad_draws: 8_000,
+    bad_draws: 12_000,
     refusals: [
-        30_000, 20_000, 5_000, 5_000, 6_000, 15_000, 150_000, 1_500, 1_200,
+        40_000, 25_000, 7_500, 8_000, 8_000, 20_000, 150_000, 1_500, 1_200,
     ],
 };
 
 /// in a sample, and in the list.
-const SAMPLE: Counts = Counts {
-    forests: 0,
-    ..Counts::each(50)
-};
-const LIST: Counts = Counts {
-    forests: 0,
-    ..Counts::each(1)
-};
+const SAMPLE: Counts = Counts::each(50);
+const LIST: Counts = Counts::each(1);
 
 fn main() -> ExitCode {
     let args: Vec<String> = std::env::args().skip(1).collect();

@@ -1,10 +1,10 @@
 //! The library in another program: `served.c` has it linked, and answers through pipes. A processor that is not the library's has
 //! it run by an emulator.
 
-use crate::boundary::*;
 use std::io::{self, BufReader, Read, Write};
 use std::process::{Child, ChildStdout, Command, Stdio, exit};
 use std::sync::{Mutex, OnceLock};
+use tailboardy_sys::*;
 
 struct Pipe {
     program: Child,
@@ -124,6 +124,8 @@ macro_rules! fields {
 fields! {
     TreeSettings: limited limit leaf split tried random;
     TreeTold: number tree search nodes depth mass searches words thresholds;
+    ForestSettings: limited limit leaf split said tried random;
+    ForestTold: number tree search;
     ErrorTold: number error;
     NodeTold: number there value feature threshold score yes no;
 }

@@ -1,18 +1,16 @@
 -- `replay::read_cases` is safe and ends: at is at most one past the text. Assumes nothing.
 use Prim.Native.Nat.{_≤_, _+_, _-_}
+use mathlib.Core.Path.{_≡_}
 use lib.ListN.{length}
 use borrow.Author.Needs.{needs}
 use Rattle.replay.proofs.read_cases.Statement.{statement}
 use Rattle.replay.proofs.read_cases.Tie as tie
 
 abbrev Inv-loop : tie.InvT-loop
-Inv-loop text t₀ line₀ at₀ t line at = at ≤ length text + 1
+Inv-loop text tally₀ line₀ at₀ tally line at = (at ≤ length text + 1) × (length tally ≡ length tally₀)
 
 abbrev μ-loop : tie.MeasureT-loop
-μ-loop text t₀ line₀ at₀ t line at = length text + 1 - at
-
-zero-requires : tie.Need-zero-requires Inv-loop μ-loop
-zero-requires c κs = search needs
+μ-loop text tally₀ line₀ at₀ tally line at = length text + 1 - at
 
 find-requires : tie.Need-find-requires Inv-loop μ-loop
 find-requires c κs = search needs
@@ -38,8 +36,8 @@ part-read-case-end c = search needs
 read-case-requires : tie.Need-read-case-requires Inv-loop μ-loop
 read-case-requires c κs = search needs
 
-more-requires : tie.Need-more-requires Inv-loop μ-loop
-more-requires c κs = search needs
+next-requires : tie.Need-next-requires Inv-loop μ-loop
+next-requires c κs = search needs
 
 add-at-2 : tie.Need-add-at-2 Inv-loop μ-loop
 add-at-2 c = search needs
@@ -50,6 +48,9 @@ loop-less c = search needs
 loop-again : tie.Need-loop-again Inv-loop μ-loop
 loop-again c = search needs
 
+same-length : tie.Need-same-length Inv-loop μ-loop
+same-length c = search needs
+
 returns : tie.Need-returns Inv-loop μ-loop
 returns c = search needs
 
@@ -59,7 +60,6 @@ read-cases-spec =
     (tie.spec
     Inv-loop
     μ-loop
-    zero-requires
     find-requires
     add-at
     loop-holds
@@ -68,8 +68,9 @@ read-cases-spec =
     part-read-case-start
     part-read-case-end
     read-case-requires
-    more-requires
+    next-requires
     add-at-2
     loop-less
     loop-again
+    same-length
     returns)

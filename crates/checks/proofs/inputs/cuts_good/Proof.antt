@@ -9,7 +9,8 @@ use Prim.Native.Nat.{ℕ, suc, _+_}
 use denote.Ref.{now}
 use lib.Dec.{eqb}
 use Rattle.rules.specs.Checks.{goodCuts}
-use Rattle.checks.specs.Tests.{and-on, and-off, same-default}
+use Rattle.laws.specs.Lists.{same-default}
+use Rattle.checks.specs.Tests.{and-on, and-off}
 use Rattle.checks.proofs.inputs.cuts_good.Statement.{statement}
 use Rattle.checks.proofs.inputs.cuts_good.Tie as tie
 

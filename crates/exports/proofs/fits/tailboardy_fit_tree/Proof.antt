@@ -1,6 +1,6 @@
 -- `exports::fits::tailboardy_fit_tree` meets its contract: settings from plain numbers, the fit, and its answer as plain numbers. Assumes nothing.
 use borrow.Author.Needs.{needs}
-use Rattle.exports.specs.Plain.{tree-linked}
+use Rattle.exports.specs.Calls.{tree-linked}
 use Rattle.exports.proofs.fits.tailboardy_fit_tree.Statement.{statement}
 use Rattle.exports.proofs.fits.tailboardy_fit_tree.Tie as tie
 

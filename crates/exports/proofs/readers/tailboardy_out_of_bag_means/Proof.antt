@@ -1,7 +1,7 @@
 -- `exports::readers::tailboardy_out_of_bag_means` meets its contract: the call, and its answer as a number. Assumes nothing.
 use borrow.Author.Needs.{needs}
 use Rattle.rules.specs.Answers.{replyTold}
-use Rattle.exports.specs.Plain.{answer-told}
+use Rattle.exports.specs.Calls.{answer-told}
 use Rattle.exports.proofs.readers.tailboardy_out_of_bag_means.Statement.{statement}
 use Rattle.exports.proofs.readers.tailboardy_out_of_bag_means.Tie as tie
 

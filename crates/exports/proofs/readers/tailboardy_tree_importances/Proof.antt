@@ -1,6 +1,6 @@
 -- `exports::readers::tailboardy_tree_importances` meets its contract: how to scale from plain numbers, the call, and its answer as a number. Assumes nothing.
 use borrow.Author.Needs.{needs}
-use Rattle.exports.specs.Plain.{importances-linked}
+use Rattle.exports.specs.Calls.{importances-linked}
 use Rattle.exports.proofs.readers.tailboardy_tree_importances.Statement.{statement}
 use Rattle.exports.proofs.readers.tailboardy_tree_importances.Tie as tie
 

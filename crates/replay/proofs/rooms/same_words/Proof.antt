@@ -1,18 +1,20 @@
 -- `replay::rooms::same_words` is safe and ends: i is within the room. Assumes nothing.
 use Prim.Native.Nat.{_≤_, _-_}
-use lib.ListN.{length}
 use borrow.Author.Needs.{needs}
 use Rattle.replay.proofs.rooms.same_words.Statement.{statement}
 use Rattle.replay.proofs.rooms.same_words.Tie as tie
 
 abbrev Inv-loop : tie.InvT-loop
-Inv-loop entries rest room i₀ i = i ≤ length room
+Inv-loop entries rest n room i₀ i = i ≤ n
 
 abbrev μ-loop : tie.MeasureT-loop
-μ-loop entries rest room i₀ i = length room - i
+μ-loop entries rest n room i₀ i = n - i
 
 loop-holds : tie.Need-loop-holds Inv-loop μ-loop
 loop-holds c = search needs
+
+returns : tie.Need-returns Inv-loop μ-loop
+returns c = search needs
 
 mul-wide : tie.Need-mul-wide Inv-loop μ-loop
 mul-wide c = search needs
@@ -26,8 +28,8 @@ wide-requires c κs = search needs
 expected-requires : tie.Need-expected-requires Inv-loop μ-loop
 expected-requires c κs = search needs
 
-returns : tie.Need-returns Inv-loop μ-loop
-returns c = search needs
+returns-2 : tie.Need-returns-2 Inv-loop μ-loop
+returns-2 c = search needs
 
 add-i : tie.Need-add-i Inv-loop μ-loop
 add-i c = search needs
@@ -38,8 +40,8 @@ loop-less c = search needs
 loop-again : tie.Need-loop-again Inv-loop μ-loop
 loop-again c = search needs
 
-returns-2 : tie.Need-returns-2 Inv-loop μ-loop
-returns-2 c = search needs
+returns-3 : tie.Need-returns-3 Inv-loop μ-loop
+returns-3 c = search needs
 
 pub same-words-spec : {M : Type 1} → statement M
 same-words-spec =
@@ -48,12 +50,13 @@ same-words-spec =
     Inv-loop
     μ-loop
     loop-holds
+    returns
     mul-wide
     shared-slice-read-wide
     wide-requires
     expected-requires
-    returns
+    returns-2
     add-i
     loop-less
     loop-again
-    returns-2)
+    returns-3)

@@ -1,0 +1,123 @@
+-- From a forest's passed checks to what the growth of its trees asks. Assumes nothing.
+use Prim.Native.Nat.{ℕ, _+_, _-_, _*_, _<_, _≤_, max}
+use native.Mathlib.Nat.{suc-mul, mul-le-mul, mul-le-mul-right}
+use native.Mathlib.Omega.{arith}
+use mathlib.Core.Path.{_≡_, refl, sym, _∙_, subst}
+use mathlib.Core.Bool.{_&&_}
+use mathlib.Core.List.{map}
+use lib.ListN.{length, drop, length-map, length-drop}
+use lib.Seq.{length-take-le}
+use lib.Dec.{T, eqb, leb, eqb→eq}
+use lib.Ieee.Fits.{and-l, and-r}
+use Rattle.rules.specs.declared.Params.{Params}
+use Rattle.rules.specs.Words.{from, stretch, total}
+use Rattle.rules.specs.Lent.{Frame, Reports, ForestRooms, Stack, stack, kept, keptRows}
+use Rattle.rules.specs.Checks.{firstFailed, goodCuts, roomFor, reportsExact}
+use Rattle.rules.specs.Fit.{paramsOf}
+use Rattle.rules.specs.Forest.{ForestCall, triedOf, frameAt, frames, cutsGood, forestTests}
+use Rattle.laws.specs.Lists.{every-all, every-map, total-under, keep-short, length-from}
+use Rattle.laws.specs.Root.{Listed, fit-nodes, fit-reported}
+use Rattle.laws.specs.Passed.{ForestPassed, forest-passed, forest-framed, listed-right, Binary64, and2, and5, cut-at}
+use Rattle.columns.specs.Setup.{counted-passed}
+use Rattle.tree.specs.Ends.{none, WorkRoom, work-room}
+use Rattle.trees.specs.Standing.{ReportsLong}
+use Rattle.trees.specs.All.{AllAsks}
+use Rattle.forest.specs.Ends.{lot, Made}
+
+reports-exact : (n : ℕ) (p : Reports) → T (reportsExact n p) → ReportsLong n p
+unfolding reportsExact
+reports-exact n p h =
+    let (a, h′) = and2 (eqb (length (p .nodes)) n) _ h in
+    let (b, c, d, e, f) = and5 (eqb (length (p .depth)) n) (eqb (length (p .mass)) n) (eqb (length (p .searches)) n) (eqb (length (p .words)) n) (eqb (length (p .thresholds)) n) h′ in
+    record { nodes = eqb→eq _ _ a; depth = eqb→eq _ _ b; mass = eqb→eq _ _ c; searches = eqb→eq _ _ d; words = eqb→eq _ _ e; thresholds = eqb→eq _ _ f }
+
+room-low : (F : Frame) → F .rows ≤ 65535 → roomFor F ≤ 131069
+unfolding roomFor keptRows
+room-low F h = low (length (keptRows F)) (F .rows) (omega (arith, keep-short (kept F) (from 0 (F .rows)), length-from 0 (F .rows))) h
+  where
+    low : (k n : ℕ) → k ≤ n → n ≤ 65535 → max 1 (2 * k - 1) ≤ 131069
+    low k n a b = omega arith
+
+module _ (C : ForestCall) (R : ForestRooms Stack) (n : ℕ) (e : n ≡ firstFailed (forestTests stack C R)) (h : n ≤ 0) where
+  right : ForestPassed stack C R
+  right = forest-passed stack C R (sym e ∙ none n h)
+
+  room : WorkRoom (C .shape) (R .work)
+  room = work-room (C .shape) (R .work) (right .work)
+
+  pub few-features : C .shape .features ≤ 1024
+  few-features = right .passed .fewFeatures
+
+  pub size-low : C .shape .features * C .shape .rows ≤ 1024 * 65535
+  size-low = mul-le-mul few-features (right .passed .fewRows)
+
+  pub size-room : C .shape .features * C .shape .rows ≤ length (R .work .order)
+  size-room = room .order
+
+  -- tree t's counts lie within the counts
+  counted : (t : ℕ) → t < C .trees → t * C .shape .rows + C .shape .rows ≤ length (C .given .counts)
+  counted t k =
+      subst (λ m. t * C .shape .rows + C .shape .rows ≤ m) (sym (right .passed .countsLong))
+      (subst (λ m. m ≤ C .trees * C .shape .rows) (suc-mul t (C .shape .rows)) (mul-le-mul-right (C .shape .rows) k))
+
+  low : total roomFor (frames C) < 4294967296
+  unfolding frames frameAt
+  low =
+      under (total roomFor (frames C)) (length (frames C)) (C .trees) (length (frames C) * 131069)
+      (total-under roomFor 131069 (frames C) (every-map _ (frameAt C) (from 0 (C .trees)) (every-all _ (λ t. room-low (frameAt C t) (right .passed .fewRows)) (from 0 (C .trees)))))
+      (mul-le-mul-right 131069 (few (length (frames C)) (C .trees) (length-map (from 0 (C .trees)) (frameAt C) ∙ length-from 0 (C .trees)) (right .fewTrees)))
+    where
+      few : (a b : ℕ) → a ≡ b → b ≤ 1024 → a ≤ 1024
+      few a b q k = omega arith
+
+      under : (s a b m : ℕ) → s ≤ m → m ≤ 1024 * 131069 → s < 4294967296
+      under s a b m x y = omega arith
+
+  module _ (held : Binary64 (C .given .inputs .values)) (p : Params) (m : Made C p) (k : ℕ) (ek : k ≡ C .shape .features * C .shape .rows) where
+    listed : (t : ℕ) → Listed (frameAt C t) (C .given .inputs)
+    listed t = listed-right (C .shape) (C .trees) (C .given) (right .passed) (frameAt C t) (forest-framed C (right .passed) t) held
+
+    pub all-asks : AllAsks (lot C p) (R .nodes) (length (R .starts)) (R .reports)
+        (record { cols = k; scratch = length (R .work .scratch); flags = length (R .work .flags); wholes = length (R .work .waiting .wholes); reals = length (R .work .waiting .reals) })
+    unfolding frames frameAt cutsGood paramsOf
+    all-asks =
+        let q = right .passed in
+        let (w, d) = and2 (goodCuts (C .trees) (length (C .words)) (C .wordCuts)) (goodCuts (C .trees) (length (C .thresholds)) (C .thresholdCuts)) (right .cuts) in
+        subst (λ p′. AllAsks (lot C p′) (R .nodes) (length (R .starts)) (R .reports)
+        (record { cols = k; scratch = length (R .work .scratch); flags = length (R .work .flags); wholes = length (R .work .waiting .wholes); reals = length (R .work .waiting .reals) })) (sym (m .same))
+        (record {
+          fine = λ t b c r.
+              record {
+                listed = listed t;
+                same = refl;
+                rows = q .someRows;
+                few = q .fewRows;
+                some = q .someFeatures;
+                wide = q .valuesLong;
+                targeted = q .targetsLong;
+                tables = counted-passed (C .shape .rows) (C .given .weights) _ (part-long t (counted t b)) (q .weightsLong);
+                low = forest-framed C q t .low;
+                listings = q .listingsLong;
+                features-few = few-features;
+                deep = subst (λ (p′ : Params). p′ .limit ≤ 65535) (m .same) (m .deep);
+                col-room = ek;
+                scratch-room = room .scratch;
+                flag-room = room .flags;
+                whole-room = room .wholes;
+                real-room = room .reals;
+                node-room = r;
+              };
+          counted = counted;
+          word = cut-at (C .trees) (length (C .words)) (C .wordCuts) w;
+          threshold = cut-at (C .trees) (length (C .thresholds)) (C .thresholdCuts) d;
+          nodes = λ t b. fit-nodes (frameAt C t) (C .given .inputs) (listed t) (q .someFeatures);
+          reported = λ t b. fit-reported (frameAt C t) (C .given .inputs);
+          few = right .fewTrees;
+          startsRoom = right .startsRoom;
+          reports = reports-exact (C .trees) (R .reports) (right .reports);
+          room = right .room;
+          low = low;
+        })
+      where
+        part-long : (t : ℕ) → t * C .shape .rows + C .shape .rows ≤ length (C .given .counts) → length (stretch (t * C .shape .rows) (C .shape .rows) (C .given .counts)) ≡ C .shape .rows
+        part-long t b = length-take-le (C .shape .rows) (drop (t * C .shape .rows) (C .given .counts)) (omega (arith, length-drop (t * C .shape .rows) (C .given .counts)))

@@ -1,0 +1,3 @@
+pub mod WaitingList
+pub mod Flat
+pub mod Fits

@@ -1,0 +1,235 @@
+// Kind 2: a fit of a forest.
+ghost use mathlib.Core.Path.{_≡_};
+ghost use lib.ListN.{length};
+use crate::calls;
+use crate::rooms;
+use crate::rooms::Check;
+use crate::rooms::Verdict;
+use numbers::ForestTold;
+use rules::Settings;
+use rules::Shape;
+use rules::Tried;
+
+fn told_of(t: ForestTold) -> [usize; 3]
+    ensures { λ r. ⌜ 3 ≡ length r ⌝ }
+{
+    [t.number as usize, t.tree as usize, t.search as usize]
+}
+
+// The start table and the six report columns.
+fn reports<'a>(
+    answer: &[usize],
+    lengths: &[usize],
+    c: Check,
+    starts: &'a [u32],
+    nodes: &'a [u32],
+    depth: &'a [u32],
+    mass: &'a [f64],
+    searches: &'a [u32],
+    wordsused: &'a [u32],
+    thresholdsused: &'a [u32],
+) -> Check {
+    let d = rooms::words(answer, lengths, c, starts);
+    let e = rooms::words(answer, lengths, d, nodes);
+    let f = rooms::words(answer, lengths, e, depth);
+    let g = rooms::reals(answer, lengths, f, mass);
+    let h = rooms::words(answer, lengths, g, searches);
+    let i = rooms::words(answer, lengths, h, wordsused);
+    rooms::words(answer, lengths, i, thresholdsused)
+}
+
+fn compare<'a>(
+    answer: &[usize],
+    lengths: &[usize],
+    t: ForestTold,
+    value: &'a [f64],
+    feature: &'a [u32],
+    threshold: &'a [f64],
+    score: &'a [f64],
+    yes: &'a [u32],
+    no: &'a [u32],
+    starts: &'a [u32],
+    nodes: &'a [u32],
+    depth: &'a [u32],
+    mass: &'a [f64],
+    searches: &'a [u32],
+    wordsused: &'a [u32],
+    thresholdsused: &'a [u32],
+    order: &'a [u32],
+    scratch: &'a [u32],
+    flags: &'a [bool],
+    wholes: &'a [[u32; 6]],
+    triples: &'a [[f64; 3]],
+) -> Verdict {
+    let told = told_of(t);
+    let c = rooms::first(3);
+    let d = rooms::nodes(
+        answer,
+        lengths,
+        c,
+        value,
+        feature,
+        threshold,
+        score,
+        yes,
+        no,
+    );
+    let e = reports(
+        answer,
+        lengths,
+        d,
+        starts,
+        nodes,
+        depth,
+        mass,
+        searches,
+        wordsused,
+        thresholdsused,
+    );
+    let f = rooms::work(answer, lengths, e, order, scratch, flags, wholes, triples);
+    rooms::judged(answer, &told, f)
+}
+
+// Lends rooms of nines.
+fn fit(
+    lengths: &[usize],
+    answer: &[usize],
+    shape: Shape,
+    trees: usize,
+    settings: Settings,
+    tried: Tried,
+    values: &[f64],
+    targets: &[f64],
+    weights: &[f64],
+    counts: &[u32],
+    listings: &[u32],
+    words: &[u32],
+    thresholds: &[f64],
+    wordcuts: &[usize],
+    thresholdcuts: &[usize],
+) -> Verdict {
+    let mut value = [9.0; 64];
+    let mut feature = [9u32; 64];
+    let mut threshold = [9.0; 64];
+    let mut score = [9.0; 64];
+    let mut yes = [9u32; 64];
+    let mut no = [9u32; 64];
+    let mut starts = [9u32; 64];
+    let mut nodes = [9u32; 64];
+    let mut depth = [9u32; 64];
+    let mut mass = [9.0; 64];
+    let mut searches = [9u32; 64];
+    let mut wordsused = [9u32; 64];
+    let mut thresholdsused = [9u32; 64];
+    let mut order = [9u32; 64];
+    let mut scratch = [9u32; 64];
+    let mut flags = [true; 64];
+    let mut wholes = [[9u32; 6]; 64];
+    let mut triples = [[9.0; 3]; 64];
+    let a = forest::fit_forest(
+        shape,
+        trees,
+        settings,
+        tried,
+        values,
+        targets,
+        weights,
+        counts,
+        listings,
+        words,
+        thresholds,
+        wordcuts,
+        thresholdcuts,
+        rooms::lent_reals(lengths, 0, &mut value),
+        rooms::lent_words(lengths, 1, &mut feature),
+        rooms::lent_reals(lengths, 2, &mut threshold),
+        rooms::lent_reals(lengths, 3, &mut score),
+        rooms::lent_words(lengths, 4, &mut yes),
+        rooms::lent_words(lengths, 5, &mut no),
+        rooms::lent_words(lengths, 6, &mut starts),
+        rooms::lent_words(lengths, 7, &mut nodes),
+        rooms::lent_words(lengths, 8, &mut depth),
+        rooms::lent_reals(lengths, 9, &mut mass),
+        rooms::lent_words(lengths, 10, &mut searches),
+        rooms::lent_words(lengths, 11, &mut wordsused),
+        rooms::lent_words(lengths, 12, &mut thresholdsused),
+        rooms::lent_words(lengths, 13, &mut order),
+        rooms::lent_words(lengths, 14, &mut scratch),
+        rooms::lent_flags(lengths, 15, &mut flags),
+        rooms::lent_wholes(lengths, 16, &mut wholes),
+        rooms::lent_triples(lengths, 16, &mut triples),
+    );
+    compare(
+        answer,
+        lengths,
+        numbers::forest_told_of(a),
+        &value,
+        &feature,
+        &threshold,
+        &score,
+        &yes,
+        &no,
+        &starts,
+        &nodes,
+        &depth,
+        &mass,
+        &searches,
+        &wordsused,
+        &thresholdsused,
+        &order,
+        &scratch,
+        &flags,
+        &wholes,
+        &triples,
+    )
+}
+
+fn with_lists(
+    call: &[usize],
+    reals: &[f64],
+    words: &[u32],
+    answer: &[usize],
+    shape: Shape,
+    settings: Settings,
+    tried: Tried,
+) -> Verdict {
+    let l = calls::lists_at(call, 8);
+    let thresholdcuts = calls::after(call, l.end);
+    let end = calls::after(call, thresholdcuts);
+    let lengths = calls::rest(call, end);
+    if lengths.len() != 17 {
+        return Verdict::Malformed;
+    }
+    fit(
+        lengths,
+        answer,
+        shape,
+        calls::number(call, 2),
+        settings,
+        tried,
+        calls::reals(reals, l.values, l.targets),
+        calls::reals(reals, l.targets, l.weights),
+        calls::reals(reals, l.weights, l.counts),
+        calls::words(words, l.counts, l.listings),
+        calls::words(words, l.listings, l.words),
+        calls::words(words, l.words, l.thresholds),
+        calls::reals(reals, l.thresholds, l.end),
+        calls::entries(call, l.end, thresholdcuts),
+        calls::entries(call, thresholdcuts, end),
+    )
+}
+
+pub fn replay(call: &[usize], reals: &[f64], words: &[u32], answer: &[usize]) -> Verdict {
+    let told = calls::rest(call, 3);
+    if !calls::settings_good(told) {
+        return Verdict::Malformed;
+    }
+    let number = calls::number(told, 3);
+    if 4294967296 < number {
+        return Verdict::Malformed;
+    }
+    let tried = numbers::tried_from(number < 4294967296, calls::word(number));
+    let shape = calls::shape_of(call);
+    let settings = calls::settings_of(told);
+    with_lists(call, reals, words, answer, shape, settings, tried)
+}
