@@ -1,6 +1,6 @@
 //! The words of the command line, and the help that is made of the same list.
 
-use crate::{Output, Stop, record};
+use crate::{Output, Stop, csv, record};
 use std::fmt::Write;
 use tailboardy::{RandomForestRegressorParameters, Splitter};
 
@@ -222,8 +222,8 @@ impl Args {
         for (_, value) in self.said.iter().filter(|(it, _)| *it == name) {
             let record =
                 record::record(value).map_err(|why| Stop::Usage(format!("{name}: {why}")))?;
-            let trimmed = record.iter().map(|it| it.trim().to_owned());
-            names.get_or_insert_with(Vec::new).extend(trimmed);
+            let all = names.get_or_insert_with(Vec::new);
+            all.extend(record.iter().map(|it| csv::name(it)));
         }
         Ok(names)
     }

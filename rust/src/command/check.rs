@@ -13,12 +13,13 @@ pub fn run(args: &Args) -> Result<Output, Stop> {
     let roles = Roles::said(args)?;
     let csv = Csv::read(&args.files[0])?;
     roles.ids_in(&csv)?;
-    let features = match (&roles.features, args.get("--listing")) {
-        (None, Some(listed)) => Csv::read(listed)?.names().to_vec(),
+    let listed = args.get("--listing").map(Csv::read).transpose()?;
+    let features = match (&roles.features, &listed) {
+        (None, Some(listed)) => listed.names().to_vec(),
         _ => roles.features(&csv, None)?,
     };
     let show = Show::new(csv, &roles, features)?;
-    let listing = Listing::lent(args, &show)?;
+    let listing = Listing::of(listed, &show)?;
     let mut fitting = Fitting::new(&show.x, &show.y).with_weights(&show.weights);
     if let Some(listing) = &listing {
         fitting = fitting.with_listings(&listing.listings);

@@ -107,18 +107,28 @@ impl Csv {
     }
 }
 
-/// Names without the spaces around them, each once.
+/// A column's name as it is written in one line: without the spaces around it, and with one where lines or words are parted. A byte
+/// order mark parts them too, since it cannot be seen.
+pub fn name(text: &str) -> String {
+    let parts =
+        |letter: char| letter.is_whitespace() || letter.is_control() || letter == '\u{feff}';
+    let words = text.split(parts);
+    let words: Vec<&str> = words.filter(|word| !word.is_empty()).collect();
+    words.join(" ")
+}
+
+/// All names, each once.
 fn names(head: &Cells) -> Result<Vec<String>, String> {
     let mut names: Vec<String> = Vec::new();
     for at in 0..head.len() {
-        let name = head.get(at).trim();
+        let name = name(head.get(at));
         if name.is_empty() {
             return Err(format!("column {} has no name", at + 1));
         }
-        if names.iter().any(|it| it == name) {
-            return Err(format!("two columns have the name {}", quoted(name)));
+        if names.contains(&name) {
+            return Err(format!("two columns have the name {}", quoted(&name)));
         }
-        names.push(name.to_owned());
+        names.push(name);
     }
     Ok(names)
 }
@@ -126,7 +136,8 @@ fn names(head: &Cells) -> Result<Vec<String>, String> {
 #[cfg(test)]
 mod tests {
     use super::*;
-    use tailboardy::MAX_ROWS;
+    use crate::record;
+    use tailboardy::{MAX_ROWS, SplitMix64};
 
     fn read(text: &str) -> Result<Vec<Vec<String>>, String> {
         match Csv::read_from("t", text.as_bytes()) {
@@ -168,6 +179,35 @@ mod tests {
             quotes
         );
         assert_eq!(read("a\n1\n2\n\n"), table(&[&["a"], &["1"], &["2"]]));
+        assert_eq!(read("\" a\r\n  b\t\"\n1\n"), table(&[&["a b"], &["1"]]));
+    }
+
+    /// Any text is a table or told to be none; and a table that is written again is the same.
+    #[test]
+    fn any_text_is_read_or_told() {
+        let mut draws = SplitMix64::new(17);
+        let letters = [
+            'a', 'b', ',', ',', '"', '"', '\n', '\n', '\r', ' ', '1', '\u{feff}', 'é',
+        ];
+        let mut tables = 0;
+        for _ in 0..50_000 {
+            let length = draws.up_to(14);
+            let letter = |_| letters[draws.up_to(letters.len() as u64 - 1) as usize];
+            let text: String = (0..length).map(letter).collect();
+            let Ok(rows) = read(&text) else {
+                continue;
+            };
+            let mut again = String::new();
+            for row in &rows {
+                record::write(row.iter().map(String::as_str), &mut again);
+            }
+            let empty = rows
+                .iter()
+                .any(|row| row.iter().all(|cell| cell.is_empty()));
+            assert!(empty || read(&again) == Ok(rows), "{text:?} {again:?}");
+            tables += 1;
+        }
+        assert!(tables > 500, "{tables}");
     }
 
     #[test]

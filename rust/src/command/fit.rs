@@ -104,12 +104,8 @@ impl Task<'_> {
         features: Vec<String>,
     ) -> Result<(Show, RandomForestRegressor, String), Stop> {
         let show = Show::new(csv, &self.roles, features)?;
-        let listing = Listing::lent(self.args, &show)?;
-        if let (Some(weight), true) = (&show.weight, show.weights.iter().all(|it| *it == 0.0)) {
-            let place = format!("{}, column {weight}", show.csv.file());
-            let why = "all weights are 0, so that nothing is left to fit on";
-            return Err(Stop::refused(&place, why));
-        }
+        let listing = self.args.get("--listing").map(Csv::read).transpose()?;
+        let listing = Listing::of(listing, &show)?;
         let progress = Progress::new();
         let watch = |stand: usize, all: usize| progress.tell(stand, all);
         let mut fitting = Fitting::new(&show.x, &show.y)

@@ -1,7 +1,6 @@
 //! A listing in a file: for each feature a column of row numbers, counted from 0, in the order of its values.
 
 use crate::Stop;
-use crate::args::Args;
 use crate::csv::Csv;
 use crate::number::quoted;
 use crate::show::Show;
@@ -16,7 +15,7 @@ pub struct Listing {
 }
 
 impl Listing {
-    pub fn new(csv: Csv, features: &[String]) -> Result<Self, Stop> {
+    fn new(csv: Csv, features: &[String]) -> Result<Self, Stop> {
         let columns: Result<Vec<usize>, Stop> = features.iter().map(|it| csv.column(it)).collect();
         let columns = columns?;
         let lists: Result<Vec<Vec<u32>>, Stop> = columns.iter().map(|it| rows(&csv, *it)).collect();
@@ -28,9 +27,8 @@ impl Listing {
         })
     }
 
-    /// The one that was named, if one was.
-    pub fn lent(args: &Args, show: &Show) -> Result<Option<Self>, Stop> {
-        let csv = args.get("--listing").map(Csv::read).transpose()?;
+    /// For the features of a show, if a table was given.
+    pub fn of(csv: Option<Csv>, show: &Show) -> Result<Option<Self>, Stop> {
         csv.map(|csv| Listing::new(csv, &show.features)).transpose()
     }
 

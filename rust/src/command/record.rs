@@ -164,7 +164,11 @@ pub fn record(text: &str) -> Result<Vec<String>, String> {
     let mut cells = Cells::default();
     reader.record(&mut cells).map_err(|(_, why)| why)?;
     let cell = |at: usize| cells.get(at).to_owned();
-    Ok((0..cells.len()).map(cell).collect())
+    let record = (0..cells.len()).map(cell).collect();
+    match reader.record(&mut cells) {
+        Ok(None) => Ok(record),
+        _ => Err("it goes on in another line".into()),
+    }
 }
 
 /// Writes a record, with quotes where they are needed.
@@ -198,5 +202,6 @@ mod tests {
             "plain,\"a,b\",\"say \"\"x\"\"\",\"two\nlines\",, z \n"
         );
         assert_eq!(record(&text).unwrap(), cells);
+        assert!(record("a,b\nc").is_err());
     }
 }

@@ -2,7 +2,7 @@
 
 use crate::Stop;
 use crate::args::Args;
-use crate::csv::Csv;
+use crate::csv::{self, Csv};
 use crate::number::{self, quoted};
 use tailboardy::DenseMatrix;
 
@@ -30,8 +30,8 @@ pub struct Show {
 impl Roles {
     pub fn said(args: &Args) -> Result<Self, Stop> {
         let roles = Roles {
-            target: args.get("--target").map(|it| it.trim().to_owned()),
-            weight: args.get("--weight").map(|it| it.trim().to_owned()),
+            target: args.get("--target").map(csv::name),
+            weight: args.get("--weight").map(csv::name),
             features: args.names("--features")?,
             ids: args.names("--id")?,
         };
@@ -100,6 +100,11 @@ impl Show {
         };
         let y = list(&roles.target)?;
         let weights = list(&roles.weight)?.unwrap_or_default();
+        if let (Some(weight), true) = (&roles.weight, weights.iter().all(|it| *it == 0.0)) {
+            let place = format!("{}, column {weight}", csv.file());
+            let why = "all weights are 0, so that nothing is left to fit on";
+            return Err(Stop::refused(&place, why));
+        }
         let x = matrix(&csv, &features)?;
         Ok(Show {
             y: y.unwrap_or_else(|| vec![0.0; csv.rows()]),
