@@ -48,6 +48,16 @@ impl Params {
             false => Splitter::Best,
         }
     }
+
+    pub(crate) fn of_tree(&self, seed: u64) -> BaseTreeParameters {
+        BaseTreeParameters {
+            max_depth: self.limit,
+            min_samples_leaf: self.least_leaf as usize,
+            min_samples_split: self.least_split as usize,
+            seed: Some(seed),
+            splitter: self.splitter(),
+        }
+    }
 }
 
 /// A tree that the published code grew, and the numbers that go with it.
@@ -61,7 +71,7 @@ pub struct Grown {
 }
 
 impl Grown {
-    fn new(tree: tree_window::Tree, told: Told) -> Self {
+    pub(crate) fn new(tree: tree_window::Tree, told: Told) -> Self {
         assert!(
             tree_window::leaves_bare(&tree),
             "a leaf that holds a cut: the table could not tell it"
@@ -85,6 +95,15 @@ impl Grown {
     }
 }
 
+/// The listings as the published code takes them.
+pub(crate) fn order(data: &Data) -> Vec<Vec<usize>> {
+    data.listings.chunks(data.rows).map(wide).collect()
+}
+
+pub(crate) fn wide(numbers: &[u32]) -> Vec<usize> {
+    numbers.iter().map(|&number| number as usize).collect()
+}
+
 /// Grow one tree. With no tape the draws are made from `seed`. A bad draw answers with its search.
 pub fn grow(
     data: &Data,
@@ -94,18 +113,6 @@ pub fn grow(
     seed: u64,
 ) -> Result<Grown, usize> {
     let x = Matrix::new(data.rows, data.features, data.x);
-    let order: Vec<Vec<usize>> = data
-        .listings
-        .chunks(data.rows)
-        .map(|listing| listing.iter().map(|&row| row as usize).collect())
-        .collect();
-    let parameters = BaseTreeParameters {
-        max_depth: params.limit,
-        min_samples_leaf: params.least_leaf as usize,
-        min_samples_split: params.least_split as usize,
-        seed: Some(seed),
-        splitter: params.splitter(),
-    };
     tape::clear();
     if let Some(tape) = tape {
         tape::lay(tape);
@@ -114,11 +121,11 @@ pub fn grow(
         &x,
         &data.y.to_vec(),
         (!data.weights.is_empty()).then_some(data.weights),
-        counts.iter().map(|&count| count as usize).collect(),
+        wide(counts),
         params.tried,
-        &order,
+        &order(data),
         &MSECriterion,
-        parameters,
+        params.of_tree(seed),
     );
     let told = tape::told().remove(0);
     match told.bad_draw {

@@ -11,6 +11,7 @@ pub mod harness;
 #[allow(dead_code)]
 #[rustfmt::skip]
 mod rand_custom;
+pub mod ready;
 
 #[allow(dead_code)]
 mod linalg {

@@ -26,8 +26,14 @@ pub struct Told {
     pub bad_draw: Option<usize>,
 }
 
+/// A tape laid ready, and whether its orders are known to be good.
+struct Laid {
+    tape: Tape,
+    good: bool,
+}
+
 thread_local! {
-    static READY: RefCell<VecDeque<Tape>> = const { RefCell::new(VecDeque::new()) };
+    static READY: RefCell<VecDeque<Laid>> = const { RefCell::new(VecDeque::new()) };
     static TOLD: RefCell<Vec<Told>> = const { RefCell::new(Vec::new()) };
 }
 
@@ -39,7 +45,16 @@ pub fn clear() {
 
 /// Lay a tape ready for the next source.
 pub fn lay(tape: Tape) {
-    READY.with(|ready| ready.borrow_mut().push_back(tape));
+    put(Laid { tape, good: false });
+}
+
+/// The same for a tape that was made here: its orders are not looked at again, so that playing one costs no more than drawing it.
+pub fn lay_good(tape: Tape) {
+    put(Laid { tape, good: true });
+}
+
+fn put(laid: Laid) {
+    READY.with(|ready| ready.borrow_mut().push_back(laid));
 }
 
 /// What the dropped sources did since the last call.
@@ -49,7 +64,7 @@ pub fn told() -> Vec<Told> {
 
 /// The source that the copied files make by its name.
 pub struct SmallRng {
-    tape: Option<Tape>,
+    laid: Option<Laid>,
     state: u64,
     told: Told,
 }
@@ -57,7 +72,7 @@ pub struct SmallRng {
 impl SeedableRng for SmallRng {
     fn seed_from_u64(seed: u64) -> Self {
         SmallRng {
-            tape: READY.with(|ready| ready.borrow_mut().pop_front()),
+            laid: READY.with(|ready| ready.borrow_mut().pop_front()),
             state: seed,
             told: Told::default(),
         }
@@ -129,11 +144,11 @@ impl Rng for SmallRng {
         let to = from + places.len();
         self.told.searches += 1;
         self.told.words_used = to;
-        let Some(tape) = &self.tape else {
+        let Some(laid) = &self.laid else {
             return self.make_order(places);
         };
-        match tape.words.get(from..to) {
-            Some(words) if permutation(words) => {
+        match laid.tape.words.get(from..to) {
+            Some(words) if laid.good || permutation(words) => {
                 for (place, word) in places.iter_mut().zip(words) {
                     *place = *word as usize;
                 }
@@ -145,10 +160,10 @@ impl Rng for SmallRng {
     fn threshold(&mut self, low: f64, high: f64) -> f64 {
         let at = self.told.thresholds_used;
         self.told.thresholds_used += 1;
-        let Some(tape) = &self.tape else {
+        let Some(laid) = &self.laid else {
             return self.make_threshold(low, high);
         };
-        match tape.thresholds.get(at) {
+        match laid.tape.thresholds.get(at) {
             Some(&t) if low <= t && t < high => t,
             _ => {
                 self.bad();
