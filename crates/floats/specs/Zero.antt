@@ -6,15 +6,15 @@ use native.Mathlib.Nat.{mul-pos, mul-one, one-mul, zero-mul, mul-zero, mul-comm,
 use native.Mathlib.Omega.{arith}
 use mathlib.Core.Bool.{Bool, true, false, not, _&&_, Bool·beq, cond}
 use lib.IntN.{ℤ, pos}
-use lib.Dec.{T, ltb, leb, eqb, ltb→lt, lt→ltb, leb→le}
+use lib.Dec.{T, ltb, leb, eqb, ltb→lt, lt→ltb, leb→le, eqb→eq, T-not}
 use lib.Pow.{pow-pos, pow-lt}
-use lib.Ieee.{Float, nan, inf, fin, Format, binary64, prec, emax, low, up, down, unlike, round, neg, sum, add, mul, ofInt, fits, eq, sub}
+use lib.Ieee.{Float, nan, inf, fin, Format, binary64, prec, emax, low, up, down, unlike, round, neg, sum, add, mul, ofInt, fits, level, eq, sub}
 use lib.Ieee.Fits.{up-pos, down-pos, and-l, and-r, two, two-le-pos}
 use lib.Ieee.Exact.{HasValue, round-exact}
 use lib.Ieee.Order.{round-mono}
 use lib.Ieee.Positive.{above, positive-of-value, above-of-le}
 use lib.Ieee.Scale.{round-same, finite}
-use Rattle.floats.specs.Round.{round-self, round-neg, shift, clear, round-clear}
+use Rattle.floats.specs.Round.{unique, round-self, round-neg, shift, clear, round-clear}
 
 abbrev pub isZero : Float → Bool
 isZero nan = false
@@ -263,3 +263,47 @@ sub-self nan = unfold eq in refl
 sub-self (inf true) = unfold eq in refl
 sub-self (inf false) = unfold eq in refl
 sub-self (fin s m e) = ap (λ (z : Float). eq z (fin false 0 (pos 0))) (sum-self s (m * up e * down e) (down e * down e) (mul-pos (down-pos e) (down-pos e))) ∙ zero-eq
+
+-- ---- values that are equal and no zeros are the same
+no-factor : (a c : ℕ) → 0 < c → a * c ≡ 0 → a ≡ 0
+no-factor zero c C h = refl
+no-factor (suc a) c C h = absurd (omega (arith, h, mul-pos (zero-lt-suc a) C))
+
+zero-level : (s : Bool) (k b : ℕ) → k ≡ 0 → b ≡ 0 → T (level s k false b)
+zero-level s k b h g = subst (λ n. T (level s n false b)) (sym h) (subst (λ n. T (level s 0 false n)) (sym g) (go s))
+  where
+    go : (s : Bool) → T (level s 0 false 0)
+    go true = tt
+    go false = tt
+
+pub eq-same : (f : Format) (x y : Float) → T (fits f x) → T (fits f y) → T (eq x y) → T (not (eq x (fin false 0 (pos 0)))) → x ≡ y
+unfolding eq
+eq-same f nan y p q h z = absurd h
+eq-same f (inf s) nan p q h z = absurd h
+eq-same f (inf true) (inf true) p q h z = refl
+eq-same f (inf true) (inf false) p q h z = absurd h
+eq-same f (inf false) (inf true) p q h z = absurd h
+eq-same f (inf false) (inf false) p q h z = refl
+eq-same f (inf s) (fin t n d) p q h z = absurd h
+eq-same f (fin s m e) nan p q h z = absurd h
+eq-same f (fin s m e) (inf t) p q h z = absurd h
+eq-same f (fin s m e) (fin t n d) p q h z =
+    let r = go s t h in
+    unique f (fin s m e) (fin t n d) s (m * up e) (down e) p q (down-pos e) (refl, refl) (sym (r .1), sym (r .0))
+  where
+    here : ℕ
+    here = m * up e * down d
+
+    there : ℕ
+    there = n * up d * down e
+
+    large : T (eqb here 0) → ⊥
+    large l =
+        T-not (level s (m * up e * 1) false (0 * down e)) z
+        (zero-level s (m * up e * 1) (0 * down e) (mul-one (m * up e) ∙ no-factor (m * up e) (down d) (down-pos d) (eqb→eq here 0 l)) (zero-mul (down e)))
+
+    go : (s t : Bool) → T (level s here t there) → (here ≡ there) × (s ≡ t)
+    go true true l = (eqb→eq here there (and-l (eqb here there) true l), refl)
+    go true false l = absurd (large (and-r (eqb here there) (eqb here 0) l))
+    go false true l = absurd (large (and-r (eqb here there) (eqb here 0) l))
+    go false false l = (eqb→eq here there (and-l (eqb here there) true l), refl)

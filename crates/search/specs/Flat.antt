@@ -1,20 +1,20 @@
 -- The flat tables that the code is lent, and the elements that their rows stand for. Assumes nothing.
-use Prim.Native.Nat.{ℕ, _+_, _-_, _*_, _<_, _≤_}
+use Prim.Native.Nat.{ℕ, zero, suc, _+_, _-_, _*_, _<_, _≤_}
 use mathlib.Core.Path.{_≡_, refl}
 use mathlib.Core.Bool.{Bool, _||_, cond}
 use mathlib.Core.List.{List, [], map}
 use lib.ListN.{length, getD, take, drop}
 use lib.Dec.{ltb}
-use lib.Ieee.{Float, le, eq}
+use lib.Ieee.{Float, nan, le, eq}
 use Rattle.rules.specs.declared.Params.{Params}
 use Rattle.rules.specs.declared.Cut.{Cut}
 use Rattle.rules.specs.declared.Held.{Held}
 use Rattle.rules.specs.declared.Held.the-variants.{Nothing, Holds}
 use Rattle.rules.specs.declared.Walk.{Walk}
-use Rattle.rules.specs.Search.{Element, Column, Task, at, candidateAt, step, tally, totals, Tries, drawn, search, Found, uncut, cut}
+use Rattle.rules.specs.Search.{Element, Column, Task, at, candidateAt, step, tally, totals, Tries, drawn, search, Found, found}
 use Rattle.rules.specs.Totals.{takeIn, empty}
 use Rattle.rules.specs.Threshold.{threshold}
-use Rattle.rules.specs.Words.{from}
+use Rattle.rules.specs.Words.{nought, from}
 use Rattle.rules.specs.Draws.{Out, bad, ok, bind, Tapes, nextThreshold, tape}
 use Rattle.rules.specs.Fit.{elementIn}
 use Rattle.search.specs.declared.Asked.{Asked}
@@ -74,12 +74,36 @@ tooFew P a k = ltb k (P .leaf) || ltb (a .count - k) (P .leaf)
 abbrev pub cutBetween : ℕ → Float → Float → Cut
 cutBetween j low high = record { feature = j; threshold = threshold low high }
 
--- what s holds along feature j's column, and the walk that a run stands for
-unfoldable pub heldOf : ℕ → Spot → Held
-heldOf j s = cond (s .held) (Holds (cond (s .here) (cutBetween j (s .low) (s .high)) (s .earlier)) (s .proxy)) Nothing
+-- what s holds, by the cuts that stand at each place, and the walk that a run stands for
+unfoldable pub heldOf : (ℕ → Cut) → Spot → Held
+heldOf c s = cond (s .held) (Holds (c (s .place)) (s .proxy)) Nothing
 
-abbrev pub walkOf : ℕ → Run → Walk
-walkOf j r = record { before = r .before; count = r .count; last = r .last; best = heldOf j (r .spot) }
+abbrev pub walkOf : (ℕ → Cut) → Run → Walk
+walkOf c r = record { before = r .before; count = r .count; last = r .last; best = heldOf c (r .spot) }
+
+abbrev pub earlierOf : Held → Cut
+earlierOf Nothing = record { feature = 0; threshold = nought }
+earlierOf (Holds c q) = c
+
+-- row r's value of feature j
+abbrev pub valueIn : ℕ → List Float → ℕ → ℕ → Float
+valueIn f x j r = getD x (r * f + j) nan
+
+-- the value of the run of equals that ends before place i of a column whose rows have the values v
+unfoldable pub runAt : (ℕ → Float) → List ℕ → ℕ → Float
+runAt v l zero = v (getD l 0 0)
+runAt v l (suc i) = cond (eq (v (getD l i 0)) (runAt v l i)) (runAt v l i) (v (getD l i 0))
+
+-- the cuts by their places: an earlier one, then those before each row of the column
+unfoldable pub cutsIn : ℕ → List Float → ℕ → List ℕ → Cut → ℕ → Cut
+cutsIn f x j l b zero = b
+cutsIn f x j l b (suc i) = cutBetween j (runAt (valueIn f x j) l i) (valueIn f x j (getD l i 0))
+
+-- rows whose value of feature j can be read
+pub record Readable (rows features : ℕ) (x : List Float) (j : ℕ) (l : List ℕ) : Type 0 where
+  pub below : Below rows l
+  pub wide : length x ≡ rows * features
+  pub one : j < features
 
 unfoldable pub joinIn : Asked → Cell → Asked
 joinIn s e = record { totals = takeIn (s .totals) (e .target) (e .mass); count = s .count + e .count }
@@ -129,20 +153,14 @@ drawsAt W M d = record { words = drop (d .words) W; thresholds = drop (d .thresh
 abbrev pub Fair : List ℕ → Drawn → Type 0
 Fair W d = (d .words ≤ length W) × (d .searches ≤ d .words)
 
-abbrev pub answerOf : Held → Drawn → Search
-answerOf Nothing d = S.Uncut d
-answerOf (Holds c q) d = S.Found c d
-
 -- the answer of a search that began with d as the definition has it
 abbrev pub meant : List ℕ → List Float → Drawn → Search → Out (Found × Tapes)
 meant W M d S.Refused = bad (d .searches)
-meant W M d (S.Uncut e) = ok (uncut, drawsAt W M e)
-meant W M d (S.Found c e) = ok (cut c, drawsAt W M e)
+meant W M d (S.Goes h e) = ok (found h, drawsAt W M e)
 
 abbrev pub FairAfter : List ℕ → Search → Type 0
 FairAfter W S.Refused = Unit {0}
-FairAfter W (S.Uncut d) = Fair W d
-FairAfter W (S.Found c d) = Fair W d
+FairAfter W (S.Goes h d) = Fair W d
 
 pub record Searched (P : Params) (W : List ℕ) (M : List Float) (task : Task) (d : Drawn) (r : Search) : Type 0 where
   pub same : meant W M d r ≡ search (tape (P .features)) P (drawsAt W M d) task

@@ -15,14 +15,13 @@ use Rattle.rules.specs.declared.Params.{Params}
 use Rattle.rules.specs.declared.Held.{Held}
 use Rattle.rules.specs.declared.Held.the-variants.{Nothing, Holds}
 use Rattle.rules.specs.declared.Walk.{Walk}
-use Rattle.rules.specs.Search.{Element, Column, Task, at, judge, candidateAt, step, walk, bestIn, totals, trueSide, Tries, drawn, drawIn, randomIn, tryOne, tryAll, final, search, found, Found, uncut, cut}
+use Rattle.rules.specs.Search.{Element, Column, Task, at, judge, candidateAt, step, walk, bestIn, totals, trueSide, Tries, drawn, drawIn, randomIn, tryOne, tryAll, final, search, found, Found}
 use Rattle.rules.specs.Words.{member, fresh, eachOnce}
 use Rattle.rules.specs.Totals.{takeIn, empty}
 use Rattle.rules.specs.Draws.{Out, bad, ok, bind, Tapes, tape, nextThreshold, takeThreshold, takeWords}
 use Rattle.search.specs.declared.Asked.{Asked}
-use Rattle.search.specs.Flat.{Tables, elementOf, bare, sideOn, left, meantTries, drawAt, part, columnsAt, taskAt, drawsAt, Fair, answerOf, meant, FairAfter, Searched}
+use Rattle.search.specs.Flat.{Tables, elementOf, bare, sideOn, left, meantTries, drawAt, part, columnsAt, taskAt, drawsAt, Fair, Searched}
 use Rattle.search.specs.declared.Drawn.{Drawn}
-use Rattle.search.specs.declared.Search.{Search}
 use Rattle.search.specs.declared.Search.the-variants as S
 use lib.Seq.{take-take, drop-drop}
 use Rattle.search.specs.declared.Tried.{Tried}
@@ -349,26 +348,14 @@ module _ (P : Params) (W : List ℕ) (M : List Float) (task : Task) (d : Drawn) 
     unfolding bind
     search-stop q = record { same = sym (ap (λ z. bind (meantTries (drop n′ (drop (d .words) W)) M (d .searches) z) (λ r. ok (found (r .best), tape (P .features) .done (r .left)))) q) ∙ search-meant; fair = tt }
 
-    pub search-goes : (h : Held) (m : ℕ) → r ≡ Goes h m → (n : ℕ) → n ≡ n′ → d .words + n ≤ length W → 0 < n → {a : Search}
-        → a ≡ answerOf h (record { words = d .words + n; thresholds = m; searches = d .searches + 1 }) → Searched P W M task d a
+    pub search-goes : (h : Held) (m : ℕ) → r ≡ Goes h m → (n : ℕ) → n ≡ n′ → d .words + n ≤ length W → 0 < n
+        → Searched P W M task d (S.Goes h (record { words = d .words + n; thresholds = m; searches = d .searches + 1 }))
     unfolding bind tape
-    search-goes h m q n en room pos′ {a} ea =
-        subst (Searched P W M task d) (sym ea)
-        (record {
+    search-goes h m q n en room pos′ =
+        record {
           same =
-              goes h
+              ap (λ s. ok (found h, record { words = drop (d .words + n) W; thresholds = drop m M; searches = s })) (add-one (d .searches))
               ∙ ap (λ l. ok (found h, record { words = l; thresholds = drop m M; searches = suc (d .searches) })) (sym (drop-drop n (d .words) W) ∙ ap (λ z. drop z (drop (d .words) W)) en)
               ∙ sym (ap (λ z. bind (meantTries (drop n′ (drop (d .words) W)) M (d .searches) z) (λ r. ok (found (r .best), tape (P .features) .done (r .left)))) q) ∙ search-meant;
-          fair = fairly h;
-        })
-      where
-        next : Drawn
-        next = record { words = d .words + n; thresholds = m; searches = d .searches + 1 }
-
-        goes : (h : Held) → meant W M d (answerOf h next) ≡ ok (found h, record { words = drop (d .words + n) W; thresholds = drop m M; searches = suc (d .searches) })
-        goes Nothing = ap (λ s. ok (uncut, record { words = drop (d .words + n) W; thresholds = drop m M; searches = s })) (add-one (d .searches))
-        goes (Holds c q) = ap (λ s. ok (cut c, record { words = drop (d .words + n) W; thresholds = drop m M; searches = s })) (add-one (d .searches))
-
-        fairly : (h : Held) → FairAfter W (answerOf h next)
-        fairly Nothing = (room, omega (arith, fair .1, pos′))
-        fairly (Holds c q) = (room, omega (arith, fair .1, pos′))
+          fair = (room, omega (arith, fair .1, pos′));
+        }

@@ -1,9 +1,12 @@
 // Best search: the walk along a column, and the best candidate that it meets.
 ghost use mathlib.Core.Path.{_≡_};
+ghost use mathlib.Core.Bool.{cond};
 ghost use mathlib.Core.List.{map};
 ghost use Prim.Native.Nat.{ℕ, _+_, _≤_, _<_};
+ghost use lib.ListN.{length, getD};
+ghost use lib.Ieee.{lt, eq};
 ghost use Rattle.rules.specs.Search.{better, judge, walk, tally, bestIn};
-ghost use Rattle.search.specs.Flat.{Shaped, Below, elementOf, bare, stepIn, cutBetween, heldOf, walkOf};
+ghost use Rattle.search.specs.Flat.{Shaped, Below, elementOf, bare, stepIn, cutBetween, heldOf, walkOf, earlierOf, valueIn, runAt, cutsIn, Readable};
 use crate::Asked;
 use crate::Cell;
 use criterion::take_in;
@@ -13,15 +16,12 @@ use rules::Held;
 use rules::Params;
 use rules::Totals;
 
-// What is held, by what decides: whether there is a cut, its proxy, and whether this column has it, and then between which values; else it is the earlier one.
-// Its threshold is made once, after the column.
+// What is held, by what decides: whether there is a cut, its proxy, and its place: 0 is an earlier column's, and any other tells how many rows of this column have come
+// when the first row past the cut has. A place is chosen without a branch, which the values beside it could not be; they are read again after the column.
 pub struct Spot {
     pub held: bool,
     pub proxy: f64,
-    pub here: bool,
-    pub low: f64,
-    pub high: f64,
-    pub earlier: Cut,
+    pub place: usize,
 }
 
 // What is carried along a column: the rows before by totals and count, the value of the run of equals, what is held.
@@ -33,28 +33,32 @@ pub struct Run {
 }
 
 pub fn spot_of(h: Held) -> Spot
-    ensures { λ r. ⌜ ((j : ℕ) → heldOf j r ≡ h) ⌝ }
+    ensures { λ r. ⌜ (r .place ≡ 0) × ((c : ℕ → Cut) → c 0 ≡ earlierOf h → heldOf c r ≡ h) ⌝ }
 {
     match h {
         Held::Nothing => Spot {
             held: false,
             proxy: 0.0,
-            here: false,
-            low: 0.0,
-            high: 0.0,
-            earlier: Cut {
-                feature: 0,
-                threshold: 0.0,
-            },
+            place: 0,
         },
-        Held::Holds(c, q) => Spot {
+        Held::Holds(_, q) => Spot {
             held: true,
             proxy: q,
-            here: false,
-            low: 0.0,
-            high: 0.0,
-            earlier: c,
+            place: 0,
         },
+    }
+}
+
+// The cut that was held before the column.
+pub fn earlier_of(h: Held) -> Cut
+    ensures { λ r. ⌜ r ≡ earlierOf h ⌝ }
+{
+    match h {
+        Held::Nothing => Cut {
+            feature: 0,
+            threshold: 0.0,
+        },
+        Held::Holds(c, _) => c,
     }
 }
 
@@ -62,73 +66,65 @@ pub fn spot_of(h: Held) -> Spot
 pub fn anew(s: Spot) -> Spot
     ensures { λ r. ⌜ r ≡ s ⌝ }
 {
-    let earlier = s.earlier;
     Spot {
         held: s.held,
         proxy: s.proxy,
-        here: s.here,
-        low: s.low,
-        high: s.high,
-        earlier,
+        place: s.place,
     }
 }
 
-pub fn held_of(j: u32, s: Spot) -> Held
-    ensures { λ r. ⌜ r ≡ heldOf j s ⌝ }
+// The greater proxy of two, the held one first.
+pub fn greater(p: f64, q: f64) -> f64
+    ensures { λ r. ⌜ r ≡ cond (lt p q) q p ⌝ }
+{
+    if p < q {
+        return q;
+    }
+    p
+}
+
+pub fn pick(b: bool, n: usize, m: usize) -> usize
+    ensures { λ r. ⌜ r ≡ cond b n m ⌝ }
+{
+    if b {
+        return n;
+    }
+    m
+}
+
+// A candidate at a place, of proxy q, against what is held.
+pub fn better_spot(s: Spot, place: usize, q: f64) -> Spot
+    requires { ⌜ s .place ≤ place ⌝ }
+    ensures { λ r. ⌜ (r .place ≤ place) × ((c : ℕ → Cut) → heldOf c r ≡ better (heldOf c s) (c place) q) ⌝ }
 {
     if s.held {
-        if s.here {
-            let t = threshold_of(s.low, s.high);
-            return Held::Holds(
-                Cut {
-                    feature: j,
-                    threshold: t,
-                },
-                s.proxy,
-            );
-        }
-        let c = s.earlier;
-        return Held::Holds(c, s.proxy);
+        return Spot {
+            held: true,
+            proxy: greater(s.proxy, q),
+            place: pick(s.proxy < q, place, s.place),
+        };
     }
-    Held::Nothing
-}
-
-// A candidate between low and high, of proxy q, against what is held.
-pub fn better_spot(s: Spot, low: f64, high: f64, q: f64) -> Spot
-    ensures { λ r. ⌜ ((j : ℕ) → heldOf j r ≡ better (heldOf j s) (cutBetween j low high) q) ⌝ }
-{
-    let earlier = s.earlier;
-    let new = Spot {
+    Spot {
         held: true,
         proxy: q,
-        here: true,
-        low,
-        high,
-        earlier,
-    };
-    if s.held {
-        if s.proxy < q {
-            return new;
-        }
-        return s;
+        place,
     }
-    new
 }
 
-pub fn judge_spot(p: Params, a: Asked, s: Spot, t: Totals, k: u32, low: f64, high: f64) -> Spot
-    requires { ⌜ k ≤ a .count ⌝ }
-    ensures { λ r. ⌜ ((j : ℕ) → heldOf j r ≡ judge p (bare a) (heldOf j s) t k (cutBetween j low high)) ⌝ }
+pub fn judge_spot(p: Params, a: Asked, s: Spot, t: Totals, k: u32, place: usize) -> Spot
+    requires { ⌜ (k ≤ a .count) × (s .place ≤ place) ⌝ }
+    ensures { λ r. ⌜ (r .place ≤ place) × ((c : ℕ → Cut) → heldOf c r ≡ judge p (bare a) (heldOf c s) t k (c place)) ⌝ }
 {
     if crate::too_few(p, a, k) {
         return s;
     }
     let q = crate::proxy_in(a, t);
-    better_spot(s, low, high, q)
+    better_spot(s, place, q)
 }
 
-pub fn step_of(p: Params, a: Asked, w: Run, e: Cell) -> Run
-    requires { ⌜ w .count + e .count ≤ a .count ⌝ }
-    ensures { λ r. ⌜ ((j : ℕ) → walkOf j r ≡ stepIn p a j (walkOf j w) e) ⌝ }
+pub fn step_of(p: Params, a: Asked, w: Run, e: Cell, place: usize) -> Run
+    requires { ⌜ (w .count + e .count ≤ a .count) × (w .spot .place ≤ place) ⌝ }
+    ensures { λ r. ⌜ (r .spot .place ≤ place) × ((j : ℕ) (c : ℕ → Cut) → c place ≡ cutBetween j (w .last) (e .value) → walkOf c r ≡ stepIn p a j (walkOf c w) e) ⌝ }
 {
     let before = w.before;
     let spot = anew(w.spot);
@@ -142,7 +138,7 @@ pub fn step_of(p: Params, a: Asked, w: Run, e: Cell) -> Run
             spot,
         };
     }
-    let next = judge_spot(p, a, spot, before, w.count, w.last, e.value);
+    let next = judge_spot(p, a, spot, before, w.count, place);
     Run {
         before: now,
         count: n,
@@ -168,10 +164,11 @@ pub fn walk_column(
     requires rows { ⌜ Below rows (now col) ⌝ }
     requires shape { ⌜ Shaped rows features (record { x = now x; y = now y; weights = now weights; counts = now counts }) × (j < features) ⌝ }
     requires room { ⌜ w .count + tally (map (elementOf features (record { x = now x; y = now y; weights = now weights; counts = now counts })) (now col)) ≤ a .count ⌝ }
-    ensures { λ r. ⌜ walkOf j r ≡ walk p (bare a) j (walkOf j w) (map (elementOf features (record { x = now (x .entry); y = now (y .entry); weights = now (weights .entry); counts = now (counts .entry) })) (now (col .entry))) ⌝ }
+    requires start { ⌜ (w .spot .place ≡ 0) × (w .last ≡ runAt (valueIn features (now x) j) (now col) 0) ⌝ }
+    ensures { λ r. ⌜ (r .spot .place ≤ length (now (col .entry))) × ((b : Cut) → let c = cutsIn features (now (x .entry)) j (now (col .entry)) b in walkOf c r ≡ walk p (bare a) j (walkOf c w) (map (elementOf features (record { x = now (x .entry); y = now (y .entry); weights = now (weights .entry); counts = now (counts .entry) })) (now (col .entry)))) ⌝ }
 {
     let mut v = w;
-    let mut i = 0;
+    let mut i: usize = 0;
     while i < col.len() {
         let e = crate::cell_of(
             x,
@@ -183,10 +180,90 @@ pub fn walk_column(
             crate::wide(j),
             crate::wide(col[i]),
         );
-        v = step_of(p, a, v, e);
+        i += 1;
+        v = step_of(p, a, v, e, i);
+    }
+    v
+}
+
+// The value of the row at place i of a column.
+fn value_here(x: &[f64], col: &[u32], rows: usize, features: usize, j: u32, i: usize) -> f64
+    requires { ⌜ Readable rows features (now x) j (now col) × (i < length (now col)) ⌝ }
+    ensures { λ r. ⌜ r ≡ valueIn features (now (x .entry)) j (getD (now (col .entry)) i 0) ⌝ }
+{
+    crate::value_of(x, features, crate::wide(j), crate::wide(col[i]))
+}
+
+// A run of equals of value v, or a new one of value e.
+fn run_on(v: f64, e: f64) -> f64
+    ensures { λ r. ⌜ r ≡ cond (eq e v) v e ⌝ }
+{
+    if e == v {
+        return v;
+    }
+    e
+}
+
+// The value of the run that ends before place n, from the column's start.
+fn run_anew(x: &[f64], col: &[u32], rows: usize, features: usize, j: u32, n: usize) -> f64
+    requires { ⌜ Readable rows features (now x) j (now col) × (n < length (now col)) ⌝ }
+    ensures { λ r. ⌜ r ≡ runAt (valueIn features (now (x .entry)) j) (now (col .entry)) n ⌝ }
+{
+    let mut v = value_here(x, col, rows, features, j, 0);
+    let mut i: usize = 0;
+    while i < n {
+        let e = value_here(x, col, rows, features, j, i);
+        v = run_on(v, e);
         i += 1;
     }
     v
+}
+
+// The same. Values that are equal differ only where they are zeros: else the last of the run tells.
+fn run_before(x: &[f64], col: &[u32], rows: usize, features: usize, j: u32, n: usize) -> f64
+    requires { ⌜ Readable rows features (now x) j (now col) × (n < length (now col)) ⌝ }
+    ensures { λ r. ⌜ r ≡ runAt (valueIn features (now (x .entry)) j) (now (col .entry)) n ⌝ }
+{
+    if 0 < n {
+        let v = value_here(x, col, rows, features, j, n - 1);
+        if v == 0.0 {
+            return run_anew(x, col, rows, features, j, n);
+        }
+        return v;
+    }
+    run_anew(x, col, rows, features, j, n)
+}
+
+// What s holds once the column is walked.
+pub fn held_of(
+    x: &[f64],
+    col: &[u32],
+    rows: usize,
+    features: usize,
+    j: u32,
+    earlier: Cut,
+    s: Spot,
+) -> Held
+    requires { ⌜ Readable rows features (now x) j (now col) × (s .place ≤ length (now col)) ⌝ }
+    ensures { λ r. ⌜ r ≡ heldOf (cutsIn features (now (x .entry)) j (now (col .entry)) earlier) s ⌝ }
+{
+    if s.held {
+        if s.place == 0 {
+            return Held::Holds(earlier, s.proxy);
+        }
+        let i = s.place - 1;
+        let low = run_before(x, col, rows, features, j, i);
+        let high = value_here(x, col, rows, features, j, i);
+        let t = threshold_of(low, high);
+        return Held::Holds(
+            Cut {
+                feature: j,
+                threshold: t,
+            },
+            s.proxy,
+        );
+    }
+    Held::Nothing
 }
 
 // The best splitter along a column's stretch.
@@ -211,7 +288,7 @@ pub fn best_in(
     if col.len() == 0 {
         return h;
     }
-    let first = crate::value_of(x, features, crate::wide(j), crate::wide(col[0]));
+    let first = value_here(x, col, rows, features, j, 0);
     let spot = spot_of(h);
     let w = Run {
         before: Totals {
@@ -223,6 +300,5 @@ pub fn best_in(
         spot,
     };
     let v = walk_column(x, y, weights, counts, col, rows, features, p, j, a, w);
-    let s = v.spot;
-    held_of(j, s)
+    held_of(x, col, rows, features, j, earlier_of(h), v.spot)
 }

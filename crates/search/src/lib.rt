@@ -8,7 +8,7 @@ ghost use Rattle.rules.specs.Words.{eachOnce};
 ghost use Rattle.rules.specs.Draws.{tape};
 ghost use Rattle.rules.specs.Search.{judge, tryOne, tryAll};
 ghost use Rattle.rules.specs.Totals.{less, proxy};
-ghost use Rattle.search.specs.Flat.{Shaped, elementOf, cellOf, bare, tooFew, meantTries, left, NodeAsks, taskAt, Fair, answerOf, Searched};
+ghost use Rattle.search.specs.Flat.{Shaped, elementOf, cellOf, bare, tooFew, meantTries, left, NodeAsks, taskAt, Fair, Searched};
 ghost use Rattle.rules.specs.declared.Held.the-variants.{Nothing};
 use criterion::better_of;
 use criterion::less_of;
@@ -50,11 +50,10 @@ pub struct Drawn {
     pub searches: usize,
 }
 
-// A search's answer: a bad draw, no cut, or a cut; with how far the tapes are used after it.
+// A search's answer: a bad draw; or the candidate held, if any, and how far the tapes are used after it. In one shape, so that what was drawn stands in one place.
 pub enum Search {
     Refused,
-    Uncut(Drawn),
-    Found(Cut, Drawn),
+    Goes(Held, Drawn),
 }
 
 // Whether a true side of k, or what it leaves of a node, is below the least leaf.
@@ -269,16 +268,6 @@ pub fn lesser(a: usize, b: usize) -> usize
     b
 }
 
-// What a search answers, of what trying the features left.
-pub fn answered(h: Held, d: Drawn) -> Search
-    ensures { λ r. ⌜ r ≡ answerOf h d ⌝ }
-{
-    match h {
-        Held::Nothing => Search::Uncut(d),
-        Held::Holds(c, _) => Search::Found(c, d),
-    }
-}
-
 // The search of a node whose rows lie from `from` to `to` in every column.
 pub fn search_node(
     x: &[f64],
@@ -326,7 +315,7 @@ pub fn search_node(
         let Tried::Goes(h, m) = r else {
             return Search::Refused;
         };
-        return answered(
+        return Search::Goes(
             h,
             Drawn {
                 words: at + features,

@@ -3,7 +3,7 @@ use native.Mathlib.Omega.{arith}
 use mathlib.Core.Path.{sym, ap, _∙_, subst}
 use Prim.Native.Nat.{_+_, _-_, _≤_, _<_, min}
 use lib.ListN.{length, drop, take}
-use Rattle.search.specs.Flat.{taskAt, left}
+use Rattle.search.specs.Flat.{taskAt}
 use Rattle.rules.specs.Words.{eachOnce}
 use Rattle.search.specs.Tries.{chosen-at, search-bad, search-short, search-stop, search-goes}
 use borrow.Author.Needs.{needs}
@@ -47,11 +47,8 @@ add-t24 c = omega (arith, c .before .before .before .before .before .before .bef
 add-t25 : tie.Need-add-t25
 add-t25 c = omega (arith, c .before .before .before .before .before .before .before .before .before .before .before .before .before .before .before .before .before .pre .4 .0, c .before .before .before .before .before .before .before .before .before .before .before .before .before .before .before .before .before .pre .4 .1, c .before .before .before .before .before .before .before .before .before .before .before .before .before .before .before .before .before .pre .3, c .before .before .before .before .before .before .before .before .before .if1 .left, c .before .before .before .before .before .before .before .before .before .before .before .before .before .before .before .before .before .good .1 .1 .1 .1 .1 .0 .0)
 
-answered-requires : tie.Need-answered-requires
-answered-requires c κs = search needs
-
 returns-3 : tie.Need-returns-3
-returns-3 c = let a = c .before .before .before .before .before .before .before .before .before .before .before .before .before .before .before .before .before .before .args in search-goes (a .p) (a .words .now) (a .thresholds .now) (taskAt (a .rows) (a .features) (a .from) (a .to) (record { x = a .x .now; y = a .y .now; weights = a .weights .now; counts = a .counts .now }) (a .cols .now) (a .a)) (a .d) (c .before .before .before .before .before .before .before .before .before .before .before .before .before .before .before .before .before .before .pre .4) (sym (ap (λ n. eachOnce n (take n (drop (a .d .words) (a .words .now)))) (c .before .before .before .before .before .before .before .before .before .before .before .before .before .before .before .before .before .before .pre .1)) ∙ sym (c .before .before .before .before .before .before .before .before .before .choice-good .ensures) ∙ c .before .before .before .before .before .before .before .before .if2 .taken) (c .before .before .before .before .before .before .lesser .ensures ∙ ap (λ z. min z (a .features)) (c .before .before .before .before .before .before .before .wide .ensures) ∙ ap (min (a .p .tried)) (c .before .before .before .before .before .before .before .before .before .before .before .before .before .before .before .before .before .before .pre .1)) _ (c .before .before .before .before .before .try-all .ensures) _ _ (c .before .before .before .r .given .1) (a .features) (c .before .before .before .before .before .before .before .before .before .before .before .before .before .before .before .before .before .before .pre .1) (omega (arith, c .before .before .before .before .before .before .before .before .before .before .before .before .before .before .before .before .before .before .pre .4 .0, c .before .before .before .before .before .before .before .before .before .before .if1 .left)) (c .before .before .before .before .before .before .before .before .before .before .before .before .before .before .before .before .before .before .pre .3) (c .answered .ensures)
+returns-3 c = let a = c .before .before .before .before .before .before .before .before .before .before .before .before .before .before .before .before .before .args in search-goes (a .p) (a .words .now) (a .thresholds .now) (taskAt (a .rows) (a .features) (a .from) (a .to) (record { x = a .x .now; y = a .y .now; weights = a .weights .now; counts = a .counts .now }) (a .cols .now) (a .a)) (a .d) (c .before .before .before .before .before .before .before .before .before .before .before .before .before .before .before .before .before .pre .4) (sym (ap (λ n. eachOnce n (take n (drop (a .d .words) (a .words .now)))) (c .before .before .before .before .before .before .before .before .before .before .before .before .before .before .before .before .before .pre .1)) ∙ sym (c .before .before .before .before .before .before .before .before .choice-good .ensures) ∙ c .before .before .before .before .before .before .before .if2 .taken) (c .before .before .before .before .before .lesser .ensures ∙ ap (λ z. min z (a .features)) (c .before .before .before .before .before .before .wide .ensures) ∙ ap (min (a .p .tried)) (c .before .before .before .before .before .before .before .before .before .before .before .before .before .before .before .before .before .pre .1)) _ (c .before .before .before .before .try-all .ensures) _ _ (c .before .before .r .given .1) (a .features) (c .before .before .before .before .before .before .before .before .before .before .before .before .before .before .before .before .before .pre .1) (omega (arith, c .before .before .before .before .before .before .before .before .before .before .before .before .before .before .before .before .before .pre .4 .0, c .before .before .before .before .before .before .before .before .before .if1 .left)) (c .before .before .before .before .before .before .before .before .before .before .before .before .before .before .before .before .before .pre .3)
 
 returns-4 : tie.Need-returns-4
 returns-4 c = let a = c .before .before .before .before .before .before .before .before .before .before .args in search-bad (a .p) (a .words .now) (a .thresholds .now) (taskAt (a .rows) (a .features) (a .from) (a .to) (record { x = a .x .now; y = a .y .now; weights = a .weights .now; counts = a .counts .now }) (a .cols .now) (a .a)) (a .d) (c .before .before .before .before .before .before .before .before .before .before .pre .4) (sym (ap (λ n. eachOnce n (take n (drop (a .d .words) (a .words .now)))) (c .before .before .before .before .before .before .before .before .before .before .pre .1)) ∙ sym (c .before .choice-good .ensures) ∙ c .if2 .left)
@@ -71,6 +68,5 @@ search-node-spec =
     returns-2
     add-t24
     add-t25
-    answered-requires
     returns-3
     returns-4)

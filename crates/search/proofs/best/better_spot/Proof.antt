@@ -1,20 +1,27 @@
 -- `search::best::better_spot` meets its contract: by whether a cut is held, and which proxy is greater. Assumes nothing.
-use Rattle.rules.specs.Search.{better}
+use native.Mathlib.Omega.{arith}
+use lib.Ieee.{lt}
 use Rattle.search.specs.Flat.{heldOf}
+use Rattle.search.specs.Runs.{better-held, better-none, place-most}
+use borrow.Author.Needs.{needs}
 use Rattle.search.proofs.best.better_spot.Statement.{statement}
 use Rattle.search.proofs.best.better_spot.Tie as tie
 
+greater-requires : tie.Need-greater-requires
+greater-requires c κs = search needs
+
+pick-requires : tie.Need-pick-requires
+pick-requires c κs = search needs
+
 returns : tie.Need-returns
-unfolding better heldOf
-returns c = λ j. simp (c .before .before .if1 .taken, c .if2 .taken)
+unfolding heldOf
+returns c =
+    let a = c .before .before .before .before .args in
+    (place-most (lt (a .s .proxy) (a .q)) (a .place) (a .s .place) (c .pick .ensures) (c .before .before .before .before .pre), better-held (a .s) (a .place) (a .q) (c .before .before .before .if1 .taken) (c .pick .ensures) (c .before .before .greater .ensures))
 
 returns-2 : tie.Need-returns-2
-unfolding better heldOf
-returns-2 c = λ j. simp (c .before .before .if1 .taken, c .if2 .left)
-
-returns-3 : tie.Need-returns-3
-unfolding better heldOf
-returns-3 c = λ j. simp (c .if1 .left)
+unfolding heldOf
+returns-2 c = (omega arith, better-none (c .before .args .s) (c .before .args .place) (c .before .args .q) (c .if1 .left))
 
 pub better-spot-spec : {M : Type 1} → statement M
-better-spot-spec = tie.close (tie.spec returns returns-2 returns-3)
+better-spot-spec = tie.close (tie.spec greater-requires pick-requires returns returns-2)

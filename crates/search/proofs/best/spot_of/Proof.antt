@@ -1,7 +1,8 @@
 -- `search::best::spot_of` meets its contract: a match on what is held. Assumes nothing.
-use mathlib.Core.Path.{sym}
+use mathlib.Core.Path.{refl, sym}
 use borrow.Author.Needs.{needs}
 use Rattle.search.specs.Flat.{heldOf}
+use Rattle.search.specs.Runs.{spot-held}
 use Rattle.search.proofs.best.spot_of.Statement.{statement}
 use Rattle.search.proofs.best.spot_of.Tie as tie
 
@@ -13,11 +14,11 @@ enum-known-h c = search needs
 
 returns : tie.Need-returns
 unfolding heldOf
-returns c = λ j. sym (c .enum-told .given .1)
+returns c = (refl, λ k e. sym (c .enum-told .given .1))
 
 returns-2 : tie.Need-returns-2
 unfolding heldOf
-returns-2 c = λ j. sym (c .before .h .given .1)
+returns-2 c = (refl, λ k e. spot-held (c .before .h .given .1) e)
 
 pub spot-of-spec : {M : Type 1} → statement M
 spot-of-spec = tie.close (tie.spec enum-told enum-known-h returns returns-2)

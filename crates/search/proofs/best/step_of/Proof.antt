@@ -1,6 +1,9 @@
 -- `search::best::step_of` meets its contract: by whether the value differs. Assumes nothing.
-use mathlib.Core.Path.{ap}
-use Rattle.search.specs.Flat.{heldOf, walkOf}
+use native.Mathlib.Omega.{arith}
+use mathlib.Core.Path.{ap, _∙_}
+use Rattle.rules.specs.Search.{judge}
+use Rattle.search.specs.declared.best.Spot.{Spot}
+use Rattle.search.specs.Flat.{bare, heldOf, walkOf}
 use Rattle.search.specs.Laws.{step-same, step-new}
 use borrow.Author.Needs.{needs}
 use Rattle.search.proofs.best.step_of.Statement.{statement}
@@ -16,13 +19,20 @@ take-in-requires : tie.Need-take-in-requires
 take-in-requires c κs = search needs
 
 returns : tie.Need-returns
-returns c = λ j. let a = c .before .before .before .before .before .before .before .before .args in step-same (a .p) (a .a) j (walkOf j (a .w)) (a .e) (ap (heldOf j) (c .before .before .before .before .before .before .anew .ensures)) (c .before .before .before .take-in .ensures) (c .if1 .taken)
+returns c =
+    let a = c .before .before .before .before .before .before .before .before .args in
+    let s = c .before .before .before .before .before .before .anew .ensures in
+    (omega (arith, ap (λ (z : Spot). z .place) s, c .before .before .before .before .before .before .before .before .pre .1), λ j k e. step-same (a .p) (a .a) j (walkOf k (a .w)) (a .e) (ap (heldOf k) s) (c .before .before .before .take-in .ensures) (c .if1 .taken))
 
 judge-spot-requires : tie.Need-judge-spot-requires
-judge-spot-requires c κs = search needs
+judge-spot-requires c κs =
+    let p = c .before .before .before .before .before .before .before .before .pre in
+    (omega (arith, p .0), omega (arith, ap (λ (z : Spot). z .place) (c .before .before .before .before .before .before .anew .ensures), p .1))
 
 returns-2 : tie.Need-returns-2
-returns-2 c = λ j. let a = c .before .before .before .before .before .before .before .before .before .args in step-new (a .p) (a .a) j (walkOf j (a .w)) (a .e) (ap (heldOf j) (c .before .before .before .before .before .before .before .anew .ensures)) (c .before .before .before .before .take-in .ensures) (c .before .if1 .left) (c .judge-spot .ensures j)
+returns-2 c =
+    let a = c .before .before .before .before .before .before .before .before .before .args in
+    (c .judge-spot .ensures .0, λ j k e. step-new (a .p) (a .a) j (walkOf k (a .w)) (a .e) (ap (heldOf k) (c .before .before .before .before .before .before .before .anew .ensures)) (c .before .before .before .before .take-in .ensures) (c .before .if1 .left) (c .judge-spot .ensures .1 k ∙ ap (judge (a .p) (bare (a .a)) _ (a .w .before) (a .w .count)) e))
 
 pub step-of-spec : {M : Type 1} → statement M
 step-of-spec = tie.close (tie.spec anew-requires add-n take-in-requires returns judge-spot-requires returns-2)

@@ -1,12 +1,16 @@
 -- `search::best::walk_column` meets its contract: the loop's invariant: the walk from here along the rest is the walk of the whole. Assumes nothing.
 use native.Mathlib.Omega.{arith}
-use mathlib.Core.Path.{_≡_, refl, sym, _∙_, subst}
-use Prim.Native.Nat.{_+_, _-_, _≤_, _<_}
+use mathlib.Core.Path.{_≡_, refl, sym, ap, _∙_, subst}
+use Prim.Native.Nat.{ℕ, _+_, _-_, _≤_, _<_}
 use mathlib.Core.List.{map}
 use lib.ListN.{length, getD, drop}
-use Rattle.search.specs.Flat.{elementOf, bare, walkOf}
+use Rattle.rules.specs.declared.Cut.{Cut}
+use Rattle.rules.specs.declared.Walk.{Walk}
+use Rattle.rules.specs.declared.Held.the-variants.{Nothing}
 use Rattle.rules.specs.Search.{walk, tally}
+use Rattle.search.specs.Flat.{elementOf, bare, stepIn, walkOf, earlierOf, valueIn, runAt, cutsIn}
 use Rattle.search.specs.Laws.{cell-here, turn-fits, turn-room, turn-walk, turn-end}
+use Rattle.search.specs.Runs.{turn-cut, turn-run}
 use borrow.Author.Needs.{needs}
 use Rattle.search.proofs.best.walk_column.Statement.{statement}
 use Rattle.search.proofs.best.walk_column.Tie as tie
@@ -15,13 +19,15 @@ abbrev Inv-loop : tie.InvT-loop
 Inv-loop x y weights counts col rows features p j a v₀ i₀ v i =
     (i ≤ length col)
     × (v .count + tally (map (elementOf features (record { x = x; y = y; weights = weights; counts = counts })) (drop i col)) ≤ a .count)
-    × (walk p (bare a) j (walkOf j v) (map (elementOf features (record { x = x; y = y; weights = weights; counts = counts })) (drop i col)) ≡ walk p (bare a) j (walkOf j v₀) (map (elementOf features (record { x = x; y = y; weights = weights; counts = counts })) col))
+    × (v .spot .place ≤ i)
+    × (v .last ≡ runAt (valueIn features x j) col i)
+    × ((b : Cut) → walk p (bare a) j (walkOf (cutsIn features x j col b) v) (map (elementOf features (record { x = x; y = y; weights = weights; counts = counts })) (drop i col)) ≡ walk p (bare a) j (walkOf (cutsIn features x j col b) v₀) (map (elementOf features (record { x = x; y = y; weights = weights; counts = counts })) col))
 
 abbrev μ-loop : tie.MeasureT-loop
 μ-loop x y weights counts col rows features p j a v₀ i₀ v i = length col - i
 
 loop-holds : tie.Need-loop-holds Inv-loop μ-loop
-loop-holds c = (omega arith, c .before .before .before .before .before .pre .1 .1, refl)
+loop-holds c = let p = c .before .before .before .before .before .pre in (omega arith, p .1 .1 .0, omega (arith, p .1 .1 .1 .0), p .1 .1 .1 .1, λ b. refl)
 
 wide-requires : tie.Need-wide-requires Inv-loop μ-loop
 wide-requires c κs = search needs
@@ -40,27 +46,40 @@ cell-of-requires c κs =
     let s = c .before .before .before .before .before .before .before .before .before .before .pre in
     (s .1 .0 .0, subst (λ n. n < c .before .before .before .before .before .before .before .before .before .before .args .rows) (sym (c .wide2 .ensures)) (s .0 (c .before .before .before .before .loop .i) (c .before .before .before .loop-test .taken)), subst (λ n. n < c .before .before .before .before .before .before .before .before .before .before .args .features) (sym (c .before .before .wide .ensures)) (s .1 .0 .1))
 
-step-of-requires : tie.Need-step-of-requires Inv-loop μ-loop
-step-of-requires c κs = let a = c .before .before .before .before .before .before .before .before .before .before .before .args in let l = c .before .before .before .before .before .loop in turn-fits (elementOf (a .features) (record { x = a .x .now; y = a .y .now; weights = a .weights .now; counts = a .counts .now })) (a .col .now) (l .i) (c .before .before .before .before .loop-test .taken) (a .j) (l .v .count) (a .a .count) (cell-here (a .features) (record { x = a .x .now; y = a .y .now; weights = a .weights .now; counts = a .counts .now }) (a .j) (getD (a .col .now) (l .i) 0) (c .cell-of .ensures) (c .before .before .before .wide .ensures) (c .before .wide2 .ensures)) (l .inv .1)
-
 add-i : tie.Need-add-i Inv-loop μ-loop
-add-i c = omega (arith, c .before .before .before .before .before .loop-test .taken, c .before .before .before .before .before .before .before .before .before .before .before .before .good .1 .1 .1 .1 .0 .0)
+add-i c = omega (arith, c .before .before .before .before .loop-test .taken, c .before .before .before .before .before .before .before .before .before .before .before .good .1 .1 .1 .1 .0 .0)
+
+step-of-requires : tie.Need-step-of-requires Inv-loop μ-loop
+step-of-requires c κs =
+    let a = c .before .before .before .before .before .before .before .before .before .before .before .args in
+    let l = c .before .before .before .before .before .loop in
+    let e = cell-here (a .features) (record { x = a .x .now; y = a .y .now; weights = a .weights .now; counts = a .counts .now }) (a .j) (getD (a .col .now) (l .i) 0) (c .cell-of .ensures) (c .before .before .before .wide .ensures) (c .before .wide2 .ensures) in
+    (turn-fits (elementOf (a .features) (record { x = a .x .now; y = a .y .now; weights = a .weights .now; counts = a .counts .now })) (a .col .now) (l .i) (c .before .before .before .before .loop-test .taken) (a .j) (l .v .count) (a .a .count) e (l .inv .1), omega (arith, l .inv .2))
 
 loop-less : tie.Need-loop-less Inv-loop μ-loop
-loop-less c = search needs
+loop-less c = omega (arith, c .before .before .before .before .before .loop-test .taken)
 
 loop-again : tie.Need-loop-again Inv-loop μ-loop
+unfolding stepIn
 loop-again c =
     let a = c .before .before .before .before .before .before .before .before .before .before .before .before .args in
     let l = c .before .before .before .before .before .before .loop in
-    let e = cell-here (a .features) (record { x = a .x .now; y = a .y .now; weights = a .weights .now; counts = a .counts .now }) (a .j) (getD (a .col .now) (l .i) 0) (c .before .cell-of .ensures) (c .before .before .before .before .wide .ensures) (c .before .before .wide2 .ensures) in (
-      omega arith,
-      turn-room (elementOf (a .features) (record { x = a .x .now; y = a .y .now; weights = a .weights .now; counts = a .counts .now })) (a .col .now) (l .i) (c .before .before .before .before .before .loop-test .taken) (a .p) (a .a) (a .j) (walkOf (a .j) (l .v)) (a .a .count) e (c .step-of .ensures (a .j)) (l .inv .1),
-      turn-walk (elementOf (a .features) (record { x = a .x .now; y = a .y .now; weights = a .weights .now; counts = a .counts .now })) (a .col .now) (l .i) (c .before .before .before .before .before .loop-test .taken) (a .p) (a .a) (a .j) (walkOf (a .j) (l .v)) e (c .step-of .ensures (a .j)) ∙ l .inv .2,
+    let e = cell-here (a .features) (record { x = a .x .now; y = a .y .now; weights = a .weights .now; counts = a .counts .now }) (a .j) (getD (a .col .now) (l .i) 0) (c .before .cell-of .ensures) (c .before .before .before .before .wide .ensures) (c .before .before .wide2 .ensures) in
+    let h = c .before .before .before .before .before .before .before .before .before .before .before .before .pre .1 .0 .1 in
+    let k : Cut → ℕ → Cut = cutsIn (a .features) (a .x .now) (a .j) (a .col .now) in
+    let s : (b : Cut) → walkOf (k b) (c .step-of .result) ≡ stepIn (a .p) (a .a) (a .j) (walkOf (k b) (l .v)) (c .before .cell-of .result) = λ b. c .step-of .ensures .1 (a .j) (k b) (turn-cut (a .features) (record { x = a .x .now; y = a .y .now; weights = a .weights .now; counts = a .counts .now }) (a .j) (a .col .now) (l .i) h e (l .inv .3) b) in (
+      omega (arith, c .before .before .before .before .before .loop-test .taken),
+      turn-room (elementOf (a .features) (record { x = a .x .now; y = a .y .now; weights = a .weights .now; counts = a .counts .now })) (a .col .now) (l .i) (c .before .before .before .before .before .loop-test .taken) (a .p) (a .a) (a .j) (walkOf (k (earlierOf Nothing)) (l .v)) (a .a .count) e (s (earlierOf Nothing)) (l .inv .1),
+      c .step-of .ensures .0,
+      turn-run (a .features) (record { x = a .x .now; y = a .y .now; weights = a .weights .now; counts = a .counts .now }) (a .j) (a .col .now) (l .i) h e (l .inv .3) (ap (λ (w : Walk). w .last) (s (earlierOf Nothing))),
+      λ b. turn-walk (elementOf (a .features) (record { x = a .x .now; y = a .y .now; weights = a .weights .now; counts = a .counts .now })) (a .col .now) (l .i) (c .before .before .before .before .before .loop-test .taken) (a .p) (a .a) (a .j) (walkOf (k b) (l .v)) e (s b) ∙ l .inv .4 b,
     )
 
 returns : tie.Need-returns Inv-loop μ-loop
-returns c = let a = c .before .before .before .before .before .before .before .args in let l = c .before .loop in sym (turn-end (elementOf (a .features) (record { x = a .x .now; y = a .y .now; weights = a .weights .now; counts = a .counts .now })) (a .col .now) (l .i) (c .loop-test .left) (a .p) (a .a) (a .j) (walkOf (a .j) (l .v))) ∙ l .inv .2
+returns c =
+    let a = c .before .before .before .before .before .before .before .args in
+    let l = c .before .loop in
+    (omega (arith, l .inv .0, l .inv .2), λ b. sym (turn-end (elementOf (a .features) (record { x = a .x .now; y = a .y .now; weights = a .weights .now; counts = a .counts .now })) (a .col .now) (l .i) (c .loop-test .left) (a .p) (a .a) (a .j) (walkOf (cutsIn (a .features) (a .x .now) (a .j) (a .col .now) b) (l .v))) ∙ l .inv .4 b)
 
 pub walk-column-spec : {M : Type 1} → statement M
 walk-column-spec =
@@ -74,8 +93,8 @@ walk-column-spec =
     shared-slice-read-wide
     wide-requires-2
     cell-of-requires
-    step-of-requires
     add-i
+    step-of-requires
     loop-less
     loop-again
     returns)

@@ -1,0 +1,40 @@
+-- `search::best::run_before` meets its contract: by whether the last value is a zero. Assumes nothing.
+use native.Mathlib.Omega.{arith}
+use Rattle.search.specs.Flat.{valueIn}
+use Rattle.search.specs.Runs.{run-last}
+use borrow.Author.Needs.{needs}
+use Rattle.search.proofs.best.run_before.Statement.{statement}
+use Rattle.search.proofs.best.run_before.Tie as tie
+
+sub-value-here : tie.Need-sub-value-here
+sub-value-here c = omega (arith, c .if1 .taken)
+
+value-here-requires : tie.Need-value-here-requires
+value-here-requires c κs = (c .before .before .before .pre .0, omega (arith, c .before .before .before .pre .1))
+
+run-anew-requires : tie.Need-run-anew-requires
+run-anew-requires c κs = c .before .before .before .before .before .pre
+
+returns : tie.Need-returns
+returns c = c .run-anew .ensures
+
+returns-2 : tie.Need-returns-2
+returns-2 c = let a = c .before .before .before .before .before .args in run-last (valueIn (a .features) (a .x .now) (a .j)) (a .col .now) (λ r. c .before .before .before .before .shared-slice-known .given _) (a .n) (c .before .before .if1 .taken) (c .before .value-here .ensures) (c .if2 .left)
+
+run-anew-requires-2 : tie.Need-run-anew-requires-2
+run-anew-requires-2 c κs = c .before .before .before .pre
+
+returns-3 : tie.Need-returns-3
+returns-3 c = c .run-anew2 .ensures
+
+pub run-before-spec : {M : Type 1} → statement M
+run-before-spec =
+    tie.close
+    (tie.spec
+    sub-value-here
+    value-here-requires
+    run-anew-requires
+    returns
+    returns-2
+    run-anew-requires-2
+    returns-3)

@@ -1,0 +1,104 @@
+-- The value of a run of equals, and the cuts by their places. Assumes nothing.
+use Prim.Native.Nat.{ℕ, zero, suc, _+_, _-_, _<_, _≤_}
+use native.Mathlib.Omega.{arith}
+use native.Mathlib.Numerals.{add-one}
+use mathlib.Core.Path.{_≡_, refl, sym, ap, _∙_, subst}
+use mathlib.Core.Bool.{Bool, true, false, not, cond}
+use mathlib.Core.List.{List}
+use lib.ListN.{getD}
+use lib.Dec.{T}
+use lib.Ieee.{Float, binary64, ofBits, fits, lt, eq}
+use Rattle.floats.specs.Zero.{eq-same}
+use Rattle.rules.specs.declared.Cut.{Cut}
+use Rattle.rules.specs.declared.Held.{Held}
+use Rattle.rules.specs.declared.Held.the-variants.{Nothing, Holds}
+use Rattle.rules.specs.Search.{better}
+use Rattle.rules.specs.Threshold.{threshold}
+use Rattle.rules.specs.Words.{nought}
+use Rattle.search.specs.declared.best.Spot.{Spot}
+use Rattle.search.specs.declared.Cell.{Cell}
+use Rattle.search.specs.Laws.{value-is}
+use Rattle.search.specs.Flat.{Tables, elementOf, cellOf, cutBetween, heldOf, earlierOf, valueIn, runAt, cutsIn}
+
+module _ (v : ℕ → Float) (l : List ℕ) where
+  pub run-next : (i : ℕ) → runAt v l (i + 1) ≡ cond (eq (v (getD l i 0)) (runAt v l i)) (runAt v l i) (v (getD l i 0))
+  unfolding runAt
+  run-next i = ap (runAt v l) (add-one i)
+
+  module _ (F : (r : ℕ) → T (fits binary64 (v r))) where
+    run-fits : (i : ℕ) → T (fits binary64 (runAt v l i))
+    unfolding runAt
+    run-fits zero = F (getD l 0 0)
+    run-fits (suc i) = go (eq (v (getD l i 0)) (runAt v l i)) (run-fits i)
+      where
+        go : (b : Bool) → T (fits binary64 (runAt v l i)) → T (fits binary64 (cond b (runAt v l i) (v (getD l i 0))))
+        go true t = t
+        go false t = F (getD l i 0)
+
+    -- a last value that is no zero is the run's own
+    pub run-last : (n : ℕ) {u : Float} → 0 < n → u ≡ v (getD l (n - 1) 0) → eq u nought ≡ false → u ≡ runAt v l n
+    unfolding ofBits runAt
+    run-last n {u} h e z = e ∙ go (n - 1) (subst (λ w. eq w nought ≡ false) e z) ∙ ap (runAt v l) (let q : suc (n - 1) ≡ n = omega (arith, h) in q)
+      where
+        pick : (k : ℕ) → eq (v (getD l k 0)) nought ≡ false → (b : Bool) → eq (v (getD l k 0)) (runAt v l k) ≡ b → v (getD l k 0) ≡ cond b (runAt v l k) (v (getD l k 0))
+        pick k z true q = eq-same binary64 (v (getD l k 0)) (runAt v l k) (F (getD l k 0)) (run-fits k) (subst T (sym q) tt) (subst (λ b. T (not b)) (sym z) tt)
+        pick k z false q = refl
+
+        go : (k : ℕ) → eq (v (getD l k 0)) nought ≡ false → v (getD l k 0) ≡ runAt v l (suc k)
+        go k z = pick k z (eq (v (getD l k 0)) (runAt v l k)) refl
+
+pub cut-next : (f : ℕ) (x : List Float) (j : ℕ) (l : List ℕ) (b : Cut) (i : ℕ) → cutsIn f x j l b (i + 1) ≡ cutBetween j (runAt (valueIn f x j) l i) (valueIn f x j (getD l i 0))
+unfolding cutsIn
+cut-next f x j l b i = ap (cutsIn f x j l b) (add-one i)
+
+-- one turn at place i
+module _ (f : ℕ) (t : Tables) (j : ℕ) (l : List ℕ) (i : ℕ) (h : j < f) {e : Cell} (ee : e ≡ cellOf j (elementOf f t (getD l i 0))) {z : Float} (ez : z ≡ runAt (valueIn f (t .x) j) l i) where
+  turn-value : e .value ≡ valueIn f (t .x) j (getD l i 0)
+  unfolding cellOf
+  turn-value = ap (λ (d : Cell). d .value) ee ∙ sym (value-is f t j (getD l i 0) h refl refl refl)
+
+  pub turn-cut : (b : Cut) → cutsIn f (t .x) j l b (i + 1) ≡ cutBetween j z (e .value)
+  turn-cut b = cut-next f (t .x) j l b i ∙ sym (λ k. cutBetween j (ez k) (turn-value k))
+
+  pub turn-run : {u : Float} → u ≡ cond (eq (e .value) z) z (e .value) → u ≡ runAt (valueIn f (t .x) j) l (i + 1)
+  turn-run eu = eu ∙ (λ k. cond (eq (turn-value k) (ez k)) (ez k) (turn-value k)) ∙ sym (run-next (valueIn f (t .x) j) l i)
+
+-- ---- a candidate against what is held
+
+pub spot-held : {h : Held} {b : Cut} {q : Float} → h ≡ Holds b q → {z : Cut} → z ≡ earlierOf h → Holds z q ≡ h
+spot-held {h} {b} {q} e g = ap (λ w. Holds w q) (g ∙ ap earlierOf e) ∙ sym e
+
+module _ (s : Spot) (place : ℕ) (q : Float) where
+  pub better-held : s .held ≡ true → {n : ℕ} {g : Float} → n ≡ cond (lt (s .proxy) q) place (s .place) → g ≡ cond (lt (s .proxy) q) q (s .proxy) → (c : ℕ → Cut) → Holds (c n) g ≡ better (heldOf c s) (c place) q
+  unfolding better heldOf
+  better-held h en eg c =
+      (λ i. Holds (c (en i)) (eg i)) ∙ go (lt (s .proxy) q) ∙ sym (ap (λ b. better (cond b (Holds (c (s .place)) (s .proxy)) Nothing) (c place) q) h)
+    where
+      go : (b : Bool) → Holds (c (cond b place (s .place))) (cond b q (s .proxy)) ≡ cond b (Holds (c place) q) (Holds (c (s .place)) (s .proxy))
+      go true = refl
+      go false = refl
+
+  pub better-none : s .held ≡ false → (c : ℕ → Cut) → Holds (c place) q ≡ better (heldOf c s) (c place) q
+  unfolding better heldOf
+  better-none h c = sym (ap (λ b. better (cond b (Holds (c (s .place)) (s .proxy)) Nothing) (c place) q) h)
+
+pub place-most : (b : Bool) (n m : ℕ) {k : ℕ} → k ≡ cond b n m → m ≤ n → k ≤ n
+place-most true n m e h = omega (arith, e)
+place-most false n m e h = omega (arith, e, h)
+
+-- ---- what is held once the column is walked
+
+module _ (f : ℕ) (x : List Float) (j : ℕ) (l : List ℕ) (b : Cut) (s : Spot) where
+  held-at : s .held ≡ true → {n : ℕ} → s .place ≡ n → Holds (cutsIn f x j l b n) (s .proxy) ≡ heldOf (cutsIn f x j l b) s
+  unfolding heldOf
+  held-at h e = ap (λ n. Holds (cutsIn f x j l b n) (s .proxy)) (sym e) ∙ sym (ap (λ z. cond z (Holds (cutsIn f x j l b (s .place)) (s .proxy)) Nothing) h)
+
+  pub held-earlier : s .held ≡ true → s .place ≡ 0 → Holds b (s .proxy) ≡ heldOf (cutsIn f x j l b) s
+  unfolding cutsIn
+  held-earlier h e = held-at h e
+
+  pub held-here : s .held ≡ true → (s .place ≡ 0 → ⊥) → {low high t : Float} → low ≡ runAt (valueIn f x j) l (s .place - 1) → high ≡ valueIn f x j (getD l (s .place - 1) 0)
+      → t ≡ threshold low high → Holds (record { feature = j; threshold = t }) (s .proxy) ≡ heldOf (cutsIn f x j l b) s
+  unfolding cutsIn
+  held-here h n el eh et =
+      ap (λ z. Holds (record { feature = j; threshold = z }) (s .proxy)) (et ∙ (λ k. threshold (el k) (eh k))) ∙ held-at h (let q : s .place ≡ suc (s .place - 1) = omega (arith, n) in q)
