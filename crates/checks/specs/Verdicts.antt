@@ -11,7 +11,7 @@ use borrow.Author.Tests.{eqb-true}
 use Rattle.rules.specs.declared.Shape.{Shape}
 use Rattle.rules.specs.Words.{from, total}
 use Rattle.rules.specs.Lent.{Given, TreeRooms, ForestRooms, Stack, stack, unweighted, shortest}
-use Rattle.rules.specs.Checks.{Test, test, firstFailed, shapeIn, treesIn, valuesLong, listingsLong, lengths, goodCuts, numbersGood, countsGood, countsOne, roomFor, workEnough, reportsExact}
+use Rattle.rules.specs.Checks.{Test, test, firstFailed, shapeIn, treesIn, lengths, goodCuts, numbersGood, countsGood, countsOne, roomFor, workEnough, reportsExact}
 use Rattle.rules.specs.Listing.{listingsGood}
 use Rattle.rules.specs.Fit.{TreeCall, frameOf, treeTests}
 use Rattle.rules.specs.Forest.{ForestCall, frameAt, frames, cutsGood, roomsGood, forestTests}

@@ -6,7 +6,7 @@ use mathlib.Core.List.{List, [], _++_, map}
 use lib.ListN.{length, getD, take, drop}
 use lib.Dec.{T, leb}
 use lib.Ieee.{Float}
-use Rattle.rules.specs.Words.{from, keep, eachOnce, stretch, front}
+use Rattle.rules.specs.Words.{from, keep, eachOnce, stretch}
 use Rattle.rules.specs.Lent.{listingAt}
 use Rattle.rules.specs.Search.{Element, Column}
 use Rattle.rules.specs.Fit.{elementIn}
@@ -49,25 +49,22 @@ pub record CountAsks (rows : ℕ) (weights : List Float) (counts : List ℕ) : T
   pub few : rows ≤ 65535
   pub low : Every (λ c. T (leb c 65535)) counts
 
--- a listing's rows that pass, r of them, at the front of a column
-pub record KeptTo (p : ℕ → Bool) (listing before after : List ℕ) (r : ℕ) : Type 0 where
+-- a listing's rows that pass, r of them, at the front of a column; what lies behind them is free
+pub record KeptTo (p : ℕ → Bool) (listing column : List ℕ) (r : ℕ) : Type 0 where
   pub within : r ≤ length listing
   pub count : r ≡ length (keep p listing)
-  pub written : after ≡ front (keep p listing) before
+  pub written : take r column ≡ keep p listing
 
 pub record KeepAsks (listing : List ℕ) (weights : List Float) (counts : List ℕ) (column : ℕ) : Type 0 where
   pub tables : Counted (length counts) weights counts
   pub below : Every (λ i. i < length counts) listing
   pub room : length listing ≤ column
 
--- of each feature's listing
-abbrev pub keptColumns : ℕ → List ℕ → (ℕ → Bool) → ℕ → List ℕ → List ℕ
-keptColumns rows listings p n cols = inColumns rows 0 rows (λ j. front (keep p (listingAt rows listings j))) n cols
-
-pub record KeptAll (p : ℕ → Bool) (rows features : ℕ) (listings before after : List ℕ) (r : ℕ) : Type 0 where
+-- of each feature's listing, as many in each column
+pub record KeptAll (p : ℕ → Bool) (rows features : ℕ) (listings cols : List ℕ) (r : ℕ) : Type 0 where
   pub within : r ≤ rows
   pub count : r ≡ length (keep p (from 0 rows))
-  pub written : after ≡ keptColumns rows listings p features before
+  pub written : (j : ℕ) → j < features → part rows j 0 r cols ≡ keep p (listingAt rows listings j)
 
 pub record KeepAllAsks (rows features : ℕ) (listings : List ℕ) (weights : List Float) (counts : List ℕ) (order : ℕ) : Type 0 where
   pub tables : Counted rows weights counts

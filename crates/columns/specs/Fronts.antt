@@ -12,19 +12,19 @@ use Rattle.rules.specs.Words.{keep, putIf}
 use Rattle.laws.specs.Lists.{keep-append, total-sides, length-total}
 use Rattle.columns.specs.Columns.{fails, parted}
 
--- one entry more, kept or not
-module _ {A : Type 0} (p : A → Bool) (l : List A) (i : ℕ) (d : A) (h : i < length l) where
-  keep-more : keep p (take (i + 1) l) ≡ keep p (take i l) ++ putIf (p (getD l i d)) (getD l i d) []
+-- the next entry x of l₀ is written into l just past those kept, and stays if it is kept
+module _ {A : Type 0} (p : A → Bool) (l₀ l : List A) (i w : ℕ) (d x : A) (same : x ≡ getD l₀ i d) (h : i < length l₀) (e : take w l ≡ keep p (take i l₀)) where
+  one-more : keep p (take (i + 1) l₀) ≡ take w l ++ putIf (p x) x []
   unfolding keep
-  keep-more = rw (add-one, take-suc l i d) (keep-append p (take i l) (getD l i d ∷ []))
+  one-more = rw (add-one, take-suc l₀ i d) (keep-append p (take i l₀) (getD l₀ i d ∷ [])) ∙ (λ z. sym e z ++ putIf (p (sym same z)) (sym same z) [])
 
-  pub keep-yes : p (getD l i d) ≡ true → keep p (take (i + 1) l) ≡ keep p (take i l) ++ (getD l i d ∷ [])
+  pub front-yes : w < length l → p x ≡ true → take (w + 1) (set l w x) ≡ keep p (take (i + 1) l₀)
   unfolding putIf
-  keep-yes e = keep-more ∙ ap (λ b. keep p (take i l) ++ putIf b (getD l i d) []) e
+  front-yes g t = ap (λ n. take n (set l w x)) (add-one w) ∙ take-suc-set l w x g ∙ ap (λ b. take w l ++ putIf b x []) (sym t) ∙ sym one-more
 
-  pub keep-no : p (getD l i d) ≡ false → keep p (take (i + 1) l) ≡ keep p (take i l)
+  pub front-no : p x ≡ false → take w (set l w x) ≡ keep p (take (i + 1) l₀)
   unfolding putIf
-  keep-no e = keep-more ∙ ap (λ b. keep p (take i l) ++ putIf b (getD l i d) []) e ∙ append-nil (keep p (take i l))
+  front-no t = take-set-le w l w x (le-refl w) ∙ sym (append-nil (take w l)) ∙ ap (λ b. take w l ++ putIf b x []) (sym t) ∙ sym one-more
 
 -- what passes and what does not make up the list
 pub keep-both : {A : Type 0} (p : A → Bool) (l : List A) → length (keep p l) + length (keep (λ x. not (p x)) l) ≡ length l
@@ -34,17 +34,10 @@ keep-both p l =
 pub parted-long : (p : ℕ → Bool) (l : List ℕ) → length (parted p l) ≡ length l
 parted-long p l = length-append (keep p l) (keep (fails p) l) ∙ keep-both p l
 
--- a write at w into a list whose first w are known
-module _ {A : Type 0} (l : List A) (w : ℕ) (x : A) where
-  pub front-more : (k : List A) → take w l ≡ k → w < length l → take (w + 1) (set l w x) ≡ k ++ (x ∷ [])
-  front-more k e h = rw (add-one, take-suc-set, e)
-
-  pub front-same : (k : List A) → take w l ≡ k → take w (set l w x) ≡ k
-  front-same k e = take-set-le w l w x (le-refl w) ∙ e
-
-  pub rest-more : (l₀ : List A) (i : ℕ) → w ≤ i → drop i l ≡ drop i l₀ → drop (i + 1) (set l w x) ≡ drop (i + 1) l₀
-  rest-more l₀ i h e =
-      drop-set-lt (i + 1) l w x (omega arith) ∙ sym (drop-drop 1 i l) ∙ ap (λ (k : List A). drop 1 k) e ∙ drop-drop 1 i l₀
+-- what such a write leaves from i on
+pub rest-more : {A : Type 0} (l l₀ : List A) (w i : ℕ) (x : A) → w ≤ i → drop i l ≡ drop i l₀ → drop (i + 1) (set l w x) ≡ drop (i + 1) l₀
+rest-more {A} l l₀ w i x h e =
+    drop-set-lt (i + 1) l w x (omega arith) ∙ sym (drop-drop 1 i l) ∙ ap (λ (k : List A). drop 1 k) e ∙ drop-drop 1 i l₀
 
 -- lists that agree from i on agree at i
 pub head-same : {A : Type 0} (l l₀ : List A) (i : ℕ) (d : A) → drop i l ≡ drop i l₀ → getD l i d ≡ getD l₀ i d

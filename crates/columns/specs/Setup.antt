@@ -15,10 +15,9 @@ use Rattle.rules.specs.Lent.{unweighted, countIn}
 use Rattle.rules.specs.Totals.{empty, takeIn}
 use Rattle.rules.specs.Search.{Element, totals}
 use Rattle.rules.specs.Fit.{elementIn}
-use Rattle.laws.specs.Lists.{Every, every-all, every-or, total-le, length-from}
+use Rattle.laws.specs.Lists.{Every, every-all, every-or, total-le, keep-short, length-from}
 use Rattle.criterion.specs.Bounds.{Weighed}
 use Rattle.columns.specs.Columns.{bare, Counted}
-use Rattle.columns.specs.Fronts.{keep-both}
 
 -- what a row's mass asks
 pub weighed-row : (rows : ℕ) (weights : List Float) (counts : List ℕ) (i : ℕ) → Counted rows weights counts → i < rows → Weighed i weights counts
@@ -55,6 +54,9 @@ from-all n = ap (from 0) (same n)
   where
     same : (n : ℕ) → n - 0 ≡ n
     same n = omega arith
+
+pub kept-few : (p : ℕ → Bool) (rows : ℕ) → length (keep p (from 0 rows)) ≤ rows
+kept-few p rows = omega (arith, keep-short p (from 0 rows), length-from 0 rows)
 
 -- ---- totals look at targets and masses alone
 
@@ -134,16 +136,13 @@ times k (i ∷ l) = ap (λ n. k + n) (times k l) ∙ turn (length l)
 -- counts up to 65,535, of so many rows at most, add up to a u32
 pub low-total : (counts : List ℕ) (rows : ℕ) (p : ℕ → Bool) → rows ≤ 65535 → Every (λ c. T (leb c 65535)) counts → total (countIn counts) (keep p (from 0 rows)) < 4294967296
 unfolding countIn
-low-total counts rows p few low = small (total (countIn counts) (keep p (from 0 rows))) (length (keep p (from 0 rows))) bound (kept-few p (from 0 rows) (length-from 0 rows)) few
+low-total counts rows p few low = small (total (countIn counts) (keep p (from 0 rows))) (length (keep p (from 0 rows))) bound (kept-few p rows) few
   where
     one : (i : ℕ) → countIn counts i ≤ 65535
     one i = leb→le (countIn counts i) 65535 (every-or (λ c. T (leb c 65535)) counts 0 i low tt)
 
     bound : total (countIn counts) (keep p (from 0 rows)) ≤ length (keep p (from 0 rows)) * 65535
     bound = subst (λ m. total (countIn counts) (keep p (from 0 rows)) ≤ m) (times 65535 (keep p (from 0 rows))) (total-le (countIn counts) (λ i. 65535) (keep p (from 0 rows)) (every-all _ one (keep p (from 0 rows))))
-
-    kept-few : (p : ℕ → Bool) (l : List ℕ) → length l ≡ rows → length (keep p l) ≤ rows
-    kept-few p l e = omega (arith, keep-both p l)
 
     small : (t k : ℕ) → t ≤ k * 65535 → k ≤ rows → rows ≤ 65535 → t < 4294967296
     small t k a b c = omega arith

@@ -115,17 +115,18 @@ pub fn kept_count(weights: &[f64], counts: &[u32], rows: usize) -> u32
 }
 
 // The kept rows of a listing, in its order, at the front of a column. Answers how many.
+// Every row is written and the place moves on where it is kept: no branch depends on the bag.
 pub fn kept_column(listing: &[u32], weights: &[f64], counts: &[u32], column: &mut [u32]) -> usize
     requires { ⌜ KeepAsks (now listing) (now weights) (now counts) (length (now column)) ⌝ }
-    ensures { λ r. ⌜ KeptTo (keptIn (now (weights .entry)) (now (counts .entry))) (now (listing .entry)) (now (column .entry)) (now (column .exit)) r ⌝ }
+    ensures { λ r. ⌜ KeptTo (keptIn (now (weights .entry)) (now (counts .entry))) (now (listing .entry)) (now (column .exit)) r ⌝ }
 {
     let mut n: usize = 0;
     let mut i: usize = 0;
     while i < listing.len() {
         let e = listing[i];
         let row = e as usize;
+        column[n] = e;
         if criterion::is_kept(weights, counts, row) {
-            column[n] = e;
             n += 1;
         }
         i += 1;
@@ -143,7 +144,7 @@ pub fn kept_columns(
     features: usize,
 ) -> usize
     requires { ⌜ KeepAllAsks rows features (now listings) (now weights) (now counts) (length (now order)) ⌝ }
-    ensures { λ r. ⌜ KeptAll (keptIn (now (weights .entry)) (now (counts .entry))) rows features (now (listings .entry)) (now (order .entry)) (now (order .exit)) r ⌝ }
+    ensures { λ r. ⌜ KeptAll (keptIn (now (weights .entry)) (now (counts .entry))) rows features (now (listings .entry)) (now (order .exit)) r ⌝ }
 {
     let mut n: usize = 0;
     let mut k: usize = 0;
@@ -158,24 +159,22 @@ pub fn kept_columns(
 
 // ---- partition
 
-// One pass: the flagged rows to the front of the stretch, the others to the front of the scratch.
+// One pass: the flagged rows to the front of the stretch, the others to the front of the scratch. Each row is written to both.
 fn sweep(col: &mut [u32], scratch: &mut [u32], flags: &[bool]) -> usize
     requires { ⌜ PartAsks (now col) (length (now scratch)) (length (now flags)) ⌝ }
     ensures { λ r. ⌜ Swept (flagged (now (flags .entry))) (now (col .entry)) (now (col .exit)) (now (scratch .exit)) r ⌝ }
 {
     let mut w: usize = 0;
-    let mut f: usize = 0;
     let mut i: usize = 0;
     while i < col.len() {
         let e = col[i];
         let row = e as usize;
         let t = flags[row];
+        let f = i - w;
         col[w] = e;
         scratch[f] = e;
         if t {
             w += 1;
-        } else {
-            f += 1;
         }
         i += 1;
     }

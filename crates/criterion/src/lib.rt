@@ -1,6 +1,6 @@
 // Totals and scores, the threshold between two values, and the numbers that they are made of (criterion.rs).
 ghost use mathlib.Core.Path.{_≡_};
-ghost use Prim.Native.Nat.{_≤_, _<_};
+ghost use Prim.Native.Nat.{_≤_};
 ghost use lib.Ieee.Scale.{finite};
 ghost use Rattle.rules.specs.Words.{float};
 ghost use Rattle.rules.specs.Lent.{massIn, keptIn};

@@ -3,18 +3,15 @@ use Prim.Native.Nat.{ℕ, _+_, _-_, _*_, _<_, _≤_, max}
 use native.Mathlib.Nat.{suc-mul, mul-le-mul, mul-le-mul-right}
 use native.Mathlib.Omega.{arith}
 use mathlib.Core.Path.{_≡_, refl, sym, _∙_, subst}
-use mathlib.Core.Bool.{_&&_}
-use mathlib.Core.List.{map}
 use lib.ListN.{length, drop, length-map, length-drop}
 use lib.Seq.{length-take-le}
-use lib.Dec.{T, eqb, leb, eqb→eq}
-use lib.Ieee.Fits.{and-l, and-r}
+use lib.Dec.{T, eqb, eqb→eq}
 use Rattle.rules.specs.declared.Params.{Params}
 use Rattle.rules.specs.Words.{from, stretch, total}
 use Rattle.rules.specs.Lent.{Frame, Reports, ForestRooms, Stack, stack, kept, keptRows}
 use Rattle.rules.specs.Checks.{firstFailed, goodCuts, roomFor, reportsExact}
 use Rattle.rules.specs.Fit.{paramsOf}
-use Rattle.rules.specs.Forest.{ForestCall, triedOf, frameAt, frames, cutsGood, forestTests}
+use Rattle.rules.specs.Forest.{ForestCall, frameAt, frames, cutsGood, forestTests}
 use Rattle.laws.specs.Lists.{every-all, every-map, total-under, keep-short, length-from}
 use Rattle.laws.specs.Root.{Listed, fit-nodes, fit-reported}
 use Rattle.laws.specs.Passed.{ForestPassed, forest-passed, forest-framed, listed-right, Binary64, and2, and5, cut-at}

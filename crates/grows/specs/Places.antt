@@ -10,7 +10,6 @@ use Rattle.rules.specs.Search.{search}
 use Rattle.rules.specs.Growth.{Waiting, TreeNode, State, withChildren, expand}
 use Rattle.rules.specs.Draws.{Out, bad, ok, bind, Tapes, tape}
 use Rattle.search.specs.Flat.{drawsAt, Fair}
-use Rattle.growth.specs.declared.Step.the-variants.{Refused, Goes}
 use Rattle.growth.specs.Rooms.{Ground, BelowTo, waitAt, waitingOf, stackOf, Laid, LongAll, NodesIn, Taken}
 use Rattle.grows.specs.declared.At.{At}
 use Rattle.grows.specs.declared.Turned.{Turned}

@@ -1,6 +1,6 @@
 // A tree grown from its root: the last node to wait is split, and its children are searched, until none waits.
 ghost use mathlib.Core.Path.{_≡_};
-ghost use Prim.Native.Nat.{_≤_, _<_, max};
+ghost use Prim.Native.Nat.{_≤_, max};
 ghost use lib.ListN.{length};
 ghost use Rattle.growth.specs.Rooms.{LongAll};
 ghost use Rattle.grows.specs.Places.{TurnAsks, TurnDone};

@@ -8,7 +8,7 @@ use mathlib.Core.Bool.{Bool, true, false, _&&_}
 use mathlib.Core.List.{List, map}
 use lib.ListN.{length, getD}
 use lib.Dec.{T, eqb}
-use lib.Ieee.{Float, add}
+use lib.Ieee.{Float}
 use Rattle.rules.specs.Words.{nought, from, every}
 use Rattle.rules.specs.Lent.{Columns, Entry, shortest, entryAt, entriesAt}
 use Rattle.rules.specs.Table.{isLeaf, goodTree, ForestTable, treeAt, treesOf}

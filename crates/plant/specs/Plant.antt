@@ -64,19 +64,19 @@ pub record SetUpAsks (rows features : ℕ) (targets weights : List Float) (count
   pub once : (j : ℕ) → j < features → T (eachOnce rows (listingAt rows listings j))
   pub room : cols ≡ features * rows
 
-pub record SetUp (rows features : ℕ) (targets weights : List Float) (counts listings before after : List ℕ) (r : Root) : Type 0 where
-  pub kept : KeptAll (keptIn weights counts) rows features listings before after (r .kept)
+pub record SetUp (rows features : ℕ) (targets weights : List Float) (counts listings cols : List ℕ) (r : Root) : Type 0 where
+  pub kept : KeptAll (keptIn weights counts) rows features listings cols (r .kept)
   pub totals : r .asked .totals ≡ totals empty (map (bare targets weights counts) (from 0 rows))
   pub count : r .asked .count ≡ total (countIn counts) (keep (keptIn weights counts) (from 0 rows))
   pub most : r .most ≡ max 1 (2 * r .kept - 1)
 
-pub set-up-made : {rows features : ℕ} {targets weights : List Float} {counts listings before after : List ℕ} {k kept count most : ℕ} {t : Totals}
-    → KeptAll (keptIn weights counts) rows features listings before after k → t ≡ totals empty (map (bare targets weights counts) (from 0 rows))
+pub set-up-made : {rows features : ℕ} {targets weights : List Float} {counts listings cols : List ℕ} {k kept count most : ℕ} {t : Totals}
+    → KeptAll (keptIn weights counts) rows features listings cols k → t ≡ totals empty (map (bare targets weights counts) (from 0 rows))
     → count ≡ total (countIn counts) (keep (keptIn weights counts) (from 0 rows)) → most ≡ max 1 (2 * k - 1) → kept ≡ k
-    → SetUp rows features targets weights counts listings before after (record { kept = kept; most = most; asked = record { totals = t; count = count } })
-set-up-made {rows} {features} {targets} {weights} {counts} {listings} {before} {after} s et en em ek =
+    → SetUp rows features targets weights counts listings cols (record { kept = kept; most = most; asked = record { totals = t; count = count } })
+set-up-made {rows} {features} {targets} {weights} {counts} {listings} {cols} s et en em ek =
     record {
-      kept = subst (KeptAll (keptIn weights counts) rows features listings before after) (sym ek) s;
+      kept = subst (KeptAll (keptIn weights counts) rows features listings cols) (sym ek) s;
       totals = et;
       count = en;
       most = em ∙ ap (λ n. max 1 (2 * n - 1)) (sym ek);
@@ -168,32 +168,28 @@ long-all m c h =
     let (v, h₁) = under m _ _ h in let (f, h₂) = under m _ _ h₁ in let (t, h₃) = under m _ _ h₂ in let (s, h₄) = under m _ _ h₃ in let (a, b) = under m _ _ h₄ in
     record { value = v; feature = f; threshold = t; score = s; yes = a; no = b }
 
-module _ (features : ℕ) (F : Frame) (D : Data) (c : Columns) (before : List ℕ) (sc fl rw rr : ℕ) (h : PlantAsks features F D c (length before) sc fl rw rr) where
+module _ (features : ℕ) (F : Frame) (D : Data) (c : Columns) (cl sc fl rw rr : ℕ) (h : PlantAsks features F D c cl sc fl rw rr) where
   once : (j : ℕ) → j < features → T (eachOnce (F .rows) (listingAt (F .rows) (D .listings) j))
   unfolding listing
   once j k = h .listed .once j (subst (λ n. j < n) (h .same) k)
 
-  pub set-up-asks : SetUpAsks (F .rows) features (D .targets) (F .weights) (F .counts) (D .listings) (length before)
+  pub set-up-asks : SetUpAsks (F .rows) features (D .targets) (F .weights) (F .counts) (D .listings) cl
   set-up-asks = record { few = h .few; some = h .some; tables = h .tables; targeted = h .targeted; low = h .low; listed = h .listings; once = once; room = h .col-room }
 
-  module _ (after : List ℕ) (r : Root) (s : SetUp (F .rows) features (D .targets) (F .weights) (F .counts) (D .listings) before after r) where
+  module _ (cols : List ℕ) (r : Root) (s : SetUp (F .rows) features (D .targets) (F .weights) (F .counts) (D .listings) cols r) where
     abbrev pub ground : Ground
-    ground = record { rows = F .rows; features = features; tables = record { x = D .values; y = D .targets; weights = F .weights; counts = F .counts }; cols = after }
-
-    room : features * F .rows ≤ length before
-    room = omega (arith, h .col-room)
+    ground = record { rows = F .rows; features = features; tables = record { x = D .values; y = D .targets; weights = F .weights; counts = F .counts }; cols = cols }
 
     pub root-is : root F D ≡ rootTask ground (r .kept) (r .asked)
     unfolding S.columnsAt C.columnsAt listing
     root-is =
         subst (λ n. root F D ≡ record {
-          columns = C.columnsAt (elementIn n (D .values) (D .targets) (F .weights) (F .counts)) (F .rows) n 0 (r .kept) after;
+          columns = C.columnsAt (elementIn n (D .values) (D .targets) (F .weights) (F .counts)) (F .rows) n 0 (r .kept) cols;
           totals = r .asked .totals;
           count = r .asked .count;
         }) (sym (h .same))
-        (root-made F D before after (r .kept) (r .asked .totals) (r .asked .count)
-        (subst (λ n. KeptAll (keptIn (F .weights) (F .counts)) (F .rows) n (D .listings) before after (r .kept)) (h .same) (s .kept))
-        (subst (λ n. n * F .rows ≤ length before) (h .same) room) (h .listed .once) (s .totals) (s .count))
+        (root-made F D cols (r .kept) (r .asked .totals) (r .asked .count)
+        (subst (λ n. KeptAll (keptIn (F .weights) (F .counts)) (F .rows) n (D .listings) cols (r .kept)) (h .same) (s .kept)) (s .totals) (s .count))
 
     rows-are : rowsOf (rootTask ground (r .kept) (r .asked)) ≡ r .kept
     unfolding keptRows kept
@@ -214,7 +210,7 @@ module _ (features : ℕ) (F : Frame) (D : Data) (c : Columns) (before : List �
     pub root-fine : Good (F .params) (rootTask ground (r .kept) (r .asked))
     root-fine = subst (Good (F .params)) root-is (root-good F D (h .listed))
 
-    pub tree-asks : length after ≡ length before → TreeAsks ground (F .params) (r .most) (r .kept) (r .asked) rw rr
+    pub tree-asks : length cols ≡ cl → TreeAsks ground (F .params) (r .most) (r .kept) (r .asked) rw rr
     tree-asks kept-long =
         record {
           shape = record { wide = h .wide; targets = h .targeted; counted = h .tables .counted; weighed = h .tables .weighed };
@@ -224,7 +220,7 @@ module _ (features : ℕ) (F : Frame) (D : Data) (c : Columns) (before : List �
           few = h .features-few;
           some = h .some;
           long = kept-long ∙ h .col-room;
-          below = kept-below (keptIn (F .weights) (F .counts)) (F .rows) features (D .listings) before after (r .kept) (s .kept) room once;
+          below = kept-below (keptIn (F .weights) (F .counts)) (F .rows) features (D .listings) cols (r .kept) (s .kept) once;
           whole-room = h .whole-room;
           real-room = h .real-room;
           deep = h .deep;

@@ -97,16 +97,16 @@ module _ (F : Frame) (D : Data) (task : Task) (is : root F D ≡ task) (c c′ :
 
 -- ---- all of it, as the code goes
 
-module _ (features : ℕ) (F : Frame) (D : Data) (c c′ : Columns) (before : List ℕ) (sc fl rw rr : ℕ) (h : PlantAsks features F D c (length before) sc fl rw rr) (after : List ℕ) (r : Root)
-    (s : SetUp (F .rows) features (D .targets) (F .weights) (F .counts) (D .listings) before after r) (t : Turned)
-    (d : G.TreeDone (ground features F D c before sc fl rw rr h after r s) (F .params) (F .words) (F .thresholds) c c′ (r .kept) (r .asked) t) where
+module _ (features : ℕ) (F : Frame) (D : Data) (c c′ : Columns) (cl sc fl rw rr : ℕ) (h : PlantAsks features F D c cl sc fl rw rr) (cols : List ℕ) (r : Root)
+    (s : SetUp (F .rows) features (D .targets) (F .weights) (F .counts) (D .listings) cols r) (t : Turned)
+    (d : G.TreeDone (ground features F D c cl sc fl rw rr h cols r s) (F .params) (F .words) (F .thresholds) c c′ (r .kept) (r .asked) t) where
   pub plant-tells : TellAsks (length (F .words)) (length (F .thresholds)) t
   unfolding grown
   plant-tells =
-      tell-asks F D _ (root-is features F D c before sc fl rw rr h after r s) c c′ (r .most) (root-fine features F D c before sc fl rw rr h after r s)
-      (subst (λ n. 0 < n) (h .same) (h .some)) (subst (λ n. n ≤ 1024) (h .same) (h .features-few)) (enough features F D c before sc fl rw rr h after r s)
-      (most-low features F D c before sc fl rw rr h after r s) t (d .grown)
+      tell-asks F D _ (root-is features F D c cl sc fl rw rr h cols r s) c c′ (r .most) (root-fine features F D c cl sc fl rw rr h cols r s)
+      (subst (λ n. 0 < n) (h .same) (h .some)) (subst (λ n. n ≤ 1024) (h .same) (h .features-few)) (enough features F D c cl sc fl rw rr h cols r s)
+      (most-low features F D c cl sc fl rw rr h cols r s) t (d .grown)
 
   pub plant-done : {z : Planted} → z ≡ told (r .asked .totals .mass) (length (F .words)) (length (F .thresholds)) t → PlantDone F D c c′ z
   unfolding grown
-  plant-done e = subst (PlantDone F D c c′) (sym e) (answers F D _ (root-is features F D c before sc fl rw rr h after r s) c c′ t (d .grown))
+  plant-done e = subst (PlantDone F D c c′) (sym e) (answers F D _ (root-is features F D c cl sc fl rw rr h cols r s) c c′ t (d .grown))

@@ -82,7 +82,7 @@ fn set_up(
     features: usize,
 ) -> Root
     requires { ⌜ SetUpAsks rows features (now targets) (now weights) (now counts) (now listings) (length (now cols)) ⌝ }
-    ensures { λ r. ⌜ SetUp rows features (now (targets .entry)) (now (weights .entry)) (now (counts .entry)) (now (listings .entry)) (now (cols .entry)) (now (cols .exit)) r ⌝ }
+    ensures { λ r. ⌜ SetUp rows features (now (targets .entry)) (now (weights .entry)) (now (counts .entry)) (now (listings .entry)) (now (cols .exit)) r ⌝ }
 {
     let kept = columns::kept_columns(listings, weights, counts, cols, rows, features);
     let totals = columns::root_totals(targets, weights, counts, rows);

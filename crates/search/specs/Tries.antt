@@ -6,7 +6,7 @@ use native.Mathlib.Numerals.{add-one}
 use mathlib.Core.Path.{_≡_, refl, sym, ap, _∙_, subst}
 use mathlib.Core.Bool.{Bool, true, false, not, _&&_, _||_, cond}
 use mathlib.Core.List.{List, [], _∷_, map}
-use lib.ListN.{length, getD, set, take, drop, replicate, drop-of-length-le, length-replicate, length-take, length-drop, length-set}
+use lib.ListN.{length, getD, set, take, drop, replicate, drop-of-length-le, length-take, length-drop, length-set}
 use borrow.Author.Tests.{ltb-true, ne-eqb, lt-ltb, le-ltb, eq-eqb, eqb-true, eqb-false}
 use lib.Seq.{drop-cons, getD-take, getD-drop, getD-set-same, getD-set-other}
 use lib.Dec.{ltb, eqb}
@@ -181,20 +181,20 @@ abbrev pub met : List ℕ → ℕ → List ℕ
 met ws zero = []
 met ws (suc i) = getD ws i 0 ∷ met ws i
 
-pub record Meets (n : ℕ) (ws : List ℕ) (seen : List Bool) (i : ℕ) : Type 0 where
+pub record Meets (marks n : ℕ) (ws : List ℕ) (seen : List Bool) (i : ℕ) : Type 0 where
   pub within : i ≤ n
-  pub long : length seen ≡ 1024
+  pub long : length seen ≡ marks
   pub flags : (r : ℕ) → getD seen r false ≡ member r (met ws i)
   pub goes : fresh n (met ws i) (drop i ws) ≡ fresh n [] ws
 
-none-yet : (k r : ℕ) → getD (replicate k false) r false ≡ false
+pub none-yet : (k r : ℕ) → getD (replicate k false) r false ≡ false
 none-yet zero r = refl
 none-yet (suc k) zero = refl
 none-yet (suc k) (suc r) = none-yet k r
 
-pub meets-first : (n : ℕ) (ws : List ℕ) → Meets n ws (replicate 1024 false) 0
+pub meets-first : (n : ℕ) (ws : List ℕ) (seen : List Bool) → ((r : ℕ) → getD seen r false ≡ false) → Meets (length seen) n ws seen 0
 unfolding member
-meets-first n ws = record { within = omega arith; long = length-replicate 1024 false; flags = none-yet 1024; goes = refl }
+meets-first n ws seen clear = record { within = omega arith; long = refl; flags = clear; goes = refl }
 
 module _ (n : ℕ) (words : List ℕ) (p : ℕ) (room : p + n ≤ length words) where
   abbrev pub choice : List ℕ
@@ -213,7 +213,7 @@ module _ (n : ℕ) (words : List ℕ) (p : ℕ) (room : p + n ≤ length words) 
   unfolding eachOnce
   all-chosen = ap (λ b. b && fresh n [] choice) (eq-eqb (length choice) n choice-long)
 
-  module _ (seen : List Bool) (i : ℕ) (m : Meets n choice seen i) where
+  module _ {marks : ℕ} (seen : List Bool) (i : ℕ) (m : Meets marks n choice seen i) where
     fresh-head : i < n → fresh n (met choice i) (getD words (p + i) 0 ∷ drop (suc i) choice) ≡ eachOnce n choice
     fresh-head h = ap (fresh n (met choice i)) (sym (choice-head i h)) ∙ m .goes ∙ sym all-chosen
 
@@ -230,7 +230,7 @@ module _ (n : ℕ) (words : List ℕ) (p : ℕ) (room : p + n ≤ length words) 
         ∙ ap (λ b. not b && fresh n (getD words (p + i) 0 ∷ met choice i) (drop (suc i) choice)) (sym (m .flags (getD words (p + i) 0)) ∙ e))
         ∙ fresh-head h
 
-    pub choice-next : n ≤ 1024 → i < n → getD words (p + i) 0 < n → getD seen (getD words (p + i) 0) false ≡ false → Meets n choice (set seen (getD words (p + i) 0) true) (i + 1)
+    pub choice-next : n ≤ marks → i < n → getD words (p + i) 0 < n → getD seen (getD words (p + i) 0) false ≡ false → Meets marks n choice (set seen (getD words (p + i) 0) true) (i + 1)
     unfolding fresh member
     choice-next k h g e =
         record {

@@ -1,5 +1,6 @@
 // The search of a node for its cut: choice words, and best or random search over its stretch of each tried column.
 ghost use mathlib.Core.Path.{_≡_};
+ghost use mathlib.Core.Bool.{false};
 ghost use mathlib.Core.List.{List};
 ghost use Prim.Native.Nat.{ℕ, _+_, _*_, _≤_, _<_, min};
 ghost use lib.ListN.{length, getD, take, drop};
@@ -183,12 +184,11 @@ pub fn try_one(
     }
 }
 
-// Are the `features` words from `at` on a permutation of the features?
-pub fn choice_good(words: &[u32], at: usize, features: usize) -> bool
-    requires { ⌜ (features ≤ 1024) × (at + features ≤ length (now words)) ⌝ }
+// Do the `features` words from `at` on name each feature once? The marks are lent clear.
+fn each_once(words: &[u32], at: usize, features: usize, seen: &mut [bool]) -> bool
+    requires { ⌜ (features ≤ length (now seen)) × (at + features ≤ length (now words)) × ((r : ℕ) → getD (now seen) r false ≡ false) ⌝ }
     ensures { λ r. ⌜ r ≡ eachOnce features (take features (drop at (now (words .entry)))) ⌝ }
 {
-    let mut seen = [false; 1024];
     let mut i: usize = 0;
     while i < features {
         let w = words[at + i] as usize;
@@ -202,6 +202,19 @@ pub fn choice_good(words: &[u32], at: usize, features: usize) -> bool
         i += 1;
     }
     true
+}
+
+// Are the `features` words from `at` on a permutation of the features? A search of few features clears few marks.
+pub fn choice_good(words: &[u32], at: usize, features: usize) -> bool
+    requires { ⌜ (features ≤ 1024) × (at + features ≤ length (now words)) ⌝ }
+    ensures { λ r. ⌜ r ≡ eachOnce features (take features (drop at (now (words .entry)))) ⌝ }
+{
+    if features <= 64 {
+        let mut few = [false; 64];
+        return each_once(words, at, features, &mut few);
+    }
+    let mut seen = [false; 1024];
+    each_once(words, at, features, &mut seen)
 }
 
 // The first k features of the words from `at` on, tried one after the other.

@@ -13,7 +13,6 @@ use Rattle.rules.specs.declared.TreeAnswer.{TreeAnswer}
 use Rattle.rules.specs.Words.{nought, filled}
 use Rattle.rules.specs.Lent.{Columns, Work, TreeRooms, Outcome, Stack, stack, zeroColumns, zeroWork}
 use Rattle.rules.specs.Checks.{firstFailed, workEnough}
-use Rattle.rules.specs.Draws.{bad}
 use Rattle.rules.specs.Fit.{paramsOf, TreeCall, frameOf, grownTree, treeTests, treeDone, treeEnds, fitTree}
 use Rattle.laws.specs.Lists.{Every}
 use Rattle.laws.specs.Passed.{TreePassed, tree-passed, Binary64, and4}

@@ -2,38 +2,43 @@
 use borrow.Author.Needs.{needs}
 use native.Mathlib.Omega.{arith}
 use Prim.Native.Nat.{ℕ, _-_, _+_, _<_, _≤_}
-use mathlib.Core.Path.{_≡_, refl, sym, _∙_}
+use mathlib.Core.Path.{_≡_, refl, sym, ap, _∙_}
 use mathlib.Core.Bool.{Bool, true, false}
 use mathlib.Core.List.{List}
 use mathlib.Core.Logic.{⊎-elim}
 use denote.Ref.{now}
 use lib.ListN.{length, getD, set, take, length-set}
+use lib.Seq.{take-all, length-take-le}
+use Rattle.rules.specs.Words.{keep}
 use Rattle.rules.specs.Lent.{keptIn}
 use Rattle.laws.specs.Lists.{every-at}
 use Rattle.columns.specs.Columns.{KeptTo}
 use Rattle.columns.specs.Setup.{weighed-row}
-use Rattle.columns.specs.Kept.{kept-start, kept-yes, kept-no, kept-done}
+use Rattle.columns.specs.Fronts.{front-yes, front-no}
 use Rattle.columns.proofs.kept_column.Statement.{statement}
 use Rattle.columns.proofs.kept_column.Tie as tie
 
 record Keeping (p : ℕ → Bool) (l column₀ column : List ℕ) (n i : ℕ) : Type 0 where
-  kept : KeptTo p (take i l) column₀ column n
   within : i ≤ length l
   few : n ≤ i
   long : length column ≡ length column₀
+  front : take n column ≡ keep p (take i l)
 
-module _ (p : ℕ → Bool) (l column₀ column : List ℕ) (n i : ℕ) (s : Keeping p l column₀ column n i) (h : i < length l) where
-  yes-turn : length l ≤ length column₀ → p (getD l i 0) ≡ true → Keeping p l column₀ (set column n (getD l i 0)) (n + 1) (i + 1)
-  yes-turn r t =
-      record {
-        kept = kept-yes p l column₀ column n i (s .kept) h (omega (arith, s .few)) t;
-        within = omega arith;
-        few = omega (arith, s .few);
-        long = length-set column n (getD l i 0) ∙ s .long;
-      }
+module _ (p : ℕ → Bool) (l column₀ column : List ℕ) (n i : ℕ) (s : Keeping p l column₀ column n i) (r : length l ≤ length column₀) where
+  module _ (h : i < length l) where
+    abbrev next : List ℕ
+    next = set column n (getD l i 0)
 
-  no-turn : p (getD l i 0) ≡ false → Keeping p l column₀ column n (i + 1)
-  no-turn t = record { kept = kept-no p l column₀ column n i (s .kept) h t; within = omega arith; few = omega (arith, s .few); long = s .long }
+    yes-turn : p (getD l i 0) ≡ true → Keeping p l column₀ next (n + 1) (i + 1)
+    yes-turn t = record { within = omega arith; few = omega arith; long = length-set column n _ ∙ s .long; front = front-yes p l column i n 0 _ refl h (s .front) (omega arith) t }
+
+    no-turn : p (getD l i 0) ≡ false → Keeping p l column₀ next n (i + 1)
+    no-turn t = record { within = omega arith; few = omega arith; long = length-set column n _ ∙ s .long; front = front-no p l column i n 0 _ refl h (s .front) t }
+
+  done : length l ≤ i → KeptTo p l column n
+  done h =
+      let front : take n column ≡ keep p l = s .front ∙ ap (keep p) (take-all i l h) in
+      record { within = omega arith; count = sym (length-take-le n column (omega arith)) ∙ ap length front; written = front }
 
 abbrev Inv-loop : tie.InvT-loop
 Inv-loop listing weights counts column₀ n₀ i₀ column n i = Keeping (keptIn weights counts) listing column₀ column n i
@@ -42,7 +47,8 @@ abbrev μ-loop : tie.MeasureT-loop
 μ-loop listing weights counts column₀ n₀ i₀ column n i = length listing - i
 
 loop-holds : tie.Need-loop-holds Inv-loop μ-loop
-loop-holds c = record { kept = kept-start _ (now (c .before .before .before .before .args .listing)) _; within = omega arith; few = omega arith; long = refl }
+unfolding keep
+loop-holds c = record { within = omega arith; few = omega arith; long = refl; front = refl }
 
 mul-e : tie.Need-mul-e Inv-loop μ-loop
 mul-e c = search needs
@@ -53,16 +59,16 @@ shared-slice-read-e c = search needs
 cast-row : tie.Need-cast-row Inv-loop μ-loop
 cast-row c = omega (arith, c .shared-slice-known4 .given (c .before .before .loop .i))
 
-is-kept-requires : tie.Need-is-kept-requires Inv-loop μ-loop
-is-kept-requires c κs =
-    let a = c .before .before .before .before .before .before .before in
-    weighed-row _ _ _ _ (a .pre .tables) (every-at _ (now (a .args .listing)) 0 (c .before .before .loop .i) (a .pre .below) (c .before .loop-test .taken))
-
 mul-column : tie.Need-mul-column Inv-loop μ-loop
 mul-column c = search needs
 
 slice-write-column : tie.Need-slice-write-column Inv-loop μ-loop
 slice-write-column c = search needs
+
+is-kept-requires : tie.Need-is-kept-requires Inv-loop μ-loop
+is-kept-requires c κs =
+    let a = c .before .before .before .before .before .before .before in
+    weighed-row _ _ _ _ (a .pre .tables) (every-at _ (now (a .args .listing)) 0 (c .before .before .loop .i) (a .pre .below) (c .before .loop-test .taken))
 
 add-n : tie.Need-add-n Inv-loop μ-loop
 add-n c = search needs
@@ -80,15 +86,15 @@ loop-again c =
     let k = b .before .loop in
     let p = keptIn (now (a .args .weights)) (now (a .args .counts)) in
     ⊎-elim
-    (λ u. rw (u .1, u .2) (yes-turn p (now (a .args .listing)) (now (a .args .column)) (k .column) (k .n) (k .i) (k .inv) (b .loop-test .taken) (a .pre .room) (sym (c .before .is-kept .ensures) ∙ u .0 .taken)))
-    (λ u. rw (u .1, u .2) (no-turn p (now (a .args .listing)) (now (a .args .column)) (k .column) (k .n) (k .i) (k .inv) (b .loop-test .taken) (sym (c .before .is-kept .ensures) ∙ u .0 .left)))
+    (λ u. rw (u .1) (yes-turn p (now (a .args .listing)) (now (a .args .column)) (k .column) (k .n) (k .i) (k .inv) (a .pre .room) (b .loop-test .taken) (sym (c .before .is-kept .ensures) ∙ u .0 .taken)))
+    (λ u. rw (u .1) (no-turn p (now (a .args .listing)) (now (a .args .column)) (k .column) (k .n) (k .i) (k .inv) (a .pre .room) (b .loop-test .taken) (sym (c .before .is-kept .ensures) ∙ u .0 .left)))
     (c .if1 .came)
 
 same-length : tie.Need-same-length Inv-loop μ-loop
 same-length c = c .before .loop .inv .long
 
 returns : tie.Need-returns Inv-loop μ-loop
-returns c = kept-done _ _ _ _ _ _ (c .before .loop .inv .kept) (c .loop-test .left)
+returns c = done _ _ _ _ _ _ (c .before .loop .inv) (c .before .before .before .before .before .before .pre .room) (c .loop-test .left)
 
 pub kept-column-spec : {M : Type 1} → statement M
 kept-column-spec =
@@ -100,9 +106,9 @@ kept-column-spec =
     mul-e
     shared-slice-read-e
     cast-row
-    is-kept-requires
     mul-column
     slice-write-column
+    is-kept-requires
     add-n
     add-i
     loop-less

@@ -2,69 +2,108 @@
 use borrow.Author.Needs.{needs}
 use native.Mathlib.Omega.{arith}
 use Prim.Native.Nat.{ℕ, _-_, _+_, _*_, _<_, _≤_}
-use native.Mathlib.Nat.{add-zero, lt-irrefl}
+use native.Mathlib.Nat.{lt-irrefl}
+use native.Mathlib.Decide.{decLt}
 use mathlib.Core.Path.{_≡_, refl, sym, ap, _∙_, subst}
+use mathlib.Core.Bool.{Bool}
 use mathlib.Core.List.{List}
-use borrow.Rule.Slice.PartMut.{putMid}
+use borrow.Rule.Slice.PartMut.{putMid, same-len-mid}
 use denote.Ref.{now}
-use lib.ListN.{length}
+use lib.ListN.{length, take}
 use lib.Ieee.{Float}
-use Rattle.rules.specs.Words.{keep, from, stretch, front}
+use Rattle.rules.specs.Words.{keep, from, stretch}
 use Rattle.rules.specs.Lent.{listingAt, keptIn}
-use Rattle.laws.specs.Lists.{Every, length-from}
+use Rattle.laws.specs.Lists.{Every}
 use Rattle.laws.specs.Once.{once-below}
-use Rattle.columns.specs.Columns.{KeptTo, KeepAsks, KeepAllAsks}
-use Rattle.columns.specs.Stretches.{column-end, length-stretch, Going, going-start, going-turn, going-done, going-long}
-use Rattle.columns.specs.Kept.{kept-few, kept-rows, kept-keeps}
+use Rattle.columns.specs.Columns.{part, changed, KeptTo, KeepAsks, KeptAll, KeepAllAsks}
+use Rattle.columns.specs.Stretches.{column-end, length-stretch, stretch-in, changed-here, changed-before}
+use Rattle.columns.specs.Setup.{kept-few}
+use Rattle.columns.specs.Kept.{kept-rows}
 use Rattle.columns.proofs.kept_columns.Statement.{statement}
 use Rattle.columns.proofs.kept_columns.Tie as tie
 
-abbrev way : ℕ → List ℕ → List Float → List ℕ → ℕ → List ℕ → List ℕ
-way rows listings weights counts j = front (keep (keptIn weights counts) (listingAt rows listings j))
-
-record Setting (rows features : ℕ) (listings : List ℕ) (weights : List Float) (counts order₀ order : List ℕ) (n k : ℕ) : Type 0 where
-  going : Going rows 0 rows (way rows listings weights counts) features order₀ order k
-  count : 0 < k → n ≡ length (keep (keptIn weights counts) (from 0 rows))
+record Setting (rows : ℕ) (listings : List ℕ) (p : ℕ → Bool) (order₀ order : List ℕ) (n k : ℕ) : Type 0 where
+  long : length order ≡ length order₀
+  kept : 0 < k → KeptAll p rows k listings order n
 
 -- in a turn
 module _ (rows features : ℕ) (listings : List ℕ) (weights : List Float) (counts order₀ order : List ℕ) (n k : ℕ)
-    (q : KeepAllAsks rows features listings weights counts (length order₀)) (s : Setting rows features listings weights counts order₀ order n k) where
-  long : length order ≡ length order₀
-  long = going-long rows 0 rows (way rows listings weights counts) features order₀ (omega arith) (omega arith) (q .room) (kept-keeps (keptIn weights counts) rows features listings (q .once)) order k (s .going)
+    (q : KeepAllAsks rows features listings weights counts (length order₀)) (s : Setting rows listings (keptIn weights counts) order₀ order n k) (h : k < features) where
+  abbrev p : ℕ → Bool
+  p = keptIn weights counts
 
-  ends : k < features → (k * rows + rows ≤ length order₀) × (k * rows + rows ≤ length listings) × (length order ≡ length order₀)
-  ends h = (omega (arith, column-end rows features k h, q .room), omega (arith, column-end rows features k h, q .listed), long)
+  abbrev width : ℕ
+  width = k * rows + rows - k * rows
 
-  wide : k * rows + rows - k * rows ≡ rows
+  ends : (k * rows + rows ≤ length order₀) × (k * rows + rows ≤ length listings) × (length order ≡ length order₀)
+  ends = (omega (arith, column-end rows features k h, q .room), omega (arith, column-end rows features k h, q .listed), s .long)
+
+  wide : width ≡ rows
   wide = omega arith
 
-  mine : stretch (k * rows) (k * rows + rows - k * rows) listings ≡ listingAt rows listings k
+  mine : stretch (k * rows) width listings ≡ listingAt rows listings k
   unfolding listingAt
   mine = ap (λ w. stretch (k * rows) w listings) wide
 
-  part-size : (l : List ℕ) → k * rows + rows ≤ length l → length (stretch (k * rows) (k * rows + rows - k * rows) l) ≡ rows
-  part-size l h = length-stretch (k * rows) (k * rows + rows - k * rows) l (omega (arith, wide)) ∙ wide
+  part-size : (l : List ℕ) → k * rows + rows ≤ length l → length (stretch (k * rows) width l) ≡ rows
+  part-size l g = length-stretch (k * rows) width l (omega (arith, wide)) ∙ wide
 
-  asks : k < features → KeepAsks (stretch (k * rows) (k * rows + rows - k * rows) listings) weights counts (length (stretch (k * rows) (k * rows + rows - k * rows) order))
-  asks h =
+  asks : KeepAsks (stretch (k * rows) width listings) weights counts (length (stretch (k * rows) width order))
+  asks =
       record {
         tables = record { counted = refl; weighed = λ w. q .tables .weighed w ∙ sym (q .tables .counted) };
         below = subst (Every (λ i. i < length counts)) (sym mine) (subst (λ m. Every (λ i. i < m) (listingAt rows listings k)) (sym (q .tables .counted)) (once-below rows (listingAt rows listings k) (q .once k h)));
-        room = omega (arith, part-size listings (ends h .1), part-size order (omega (arith, ends h .0, ends h .2)));
+        room = omega (arith, part-size listings (ends .1), part-size order (omega (arith, ends .0, ends .2)));
       }
 
-  turn : (new : List ℕ) (r : ℕ) → k < features
-      → KeptTo (keptIn weights counts) (stretch (k * rows) (k * rows + rows - k * rows) listings) (stretch (k * rows) (k * rows + rows - k * rows) order) new r
-      → Setting rows features listings weights counts order₀ (putMid (k * rows) (k * rows + rows - k * rows) order new) r (k + 1)
-  turn new r h t =
-      record {
-        going = going-turn rows 0 rows (way rows listings weights counts) features order₀ order new k (k * rows) (k * rows + rows - k * rows) (s .going) h (sym (add-zero (k * rows))) (omega arith)
-            (t .written ∙ ap (λ l. front (keep (keptIn weights counts) l) (stretch (k * rows) (k * rows + rows - k * rows) order)) mine);
-        count = λ u. t .count ∙ ap (λ l. length (keep (keptIn weights counts) l)) mine ∙ kept-rows (keptIn weights counts) rows (listingAt rows listings k) (q .once k h);
-      }
+  -- column k was lent, and is back as `new`
+  module _ (new : List ℕ) (r : ℕ) (t : KeptTo p (stretch (k * rows) width listings) new r) (l : length new ≡ length (stretch (k * rows) width order)) where
+    abbrev next : List ℕ
+    next = putMid (k * rows) width order new
+
+    room-here : k * rows + width ≤ length order
+    room-here = omega (arith, wide, ends .0, ends .2)
+
+    as-long : length new ≡ width
+    as-long = l ∙ length-stretch (k * rows) width order room-here
+
+    count : r ≡ length (keep p (from 0 rows))
+    count = t .count ∙ ap (λ z. length (keep p z)) mine ∙ kept-rows p rows (listingAt rows listings k) (q .once k h)
+
+    few : r ≤ rows
+    few = omega (arith, count, kept-few p rows)
+
+    all : r - 0 ≡ r
+    all = omega arith
+
+    here : part rows k 0 r next ≡ keep p (listingAt rows listings k)
+    unfolding changed
+    here =
+        sym (stretch-in (k * rows) width 0 (r - 0) next (omega (arith, wide, few))) ∙ ap (take (r - 0)) (changed-here (k * rows) width (λ z. new) order room-here as-long)
+        ∙ ap (λ m. take m new) all ∙ t .written ∙ ap (keep p) mine
+
+    before : (j : ℕ) → j < k → part rows j 0 r next ≡ keep p (listingAt rows listings j)
+    unfolding changed
+    before j u =
+        let was = s .kept (omega arith) in
+        changed-before (k * rows) width (λ z. new) order room-here as-long (j * rows + 0) (r - 0) (omega (arith, column-end rows k j u, few))
+        ∙ ap (λ m. part rows j 0 m order) (count ∙ sym (was .count)) ∙ was .written j u
+
+    written : (j : ℕ) → j < k + 1 → part rows j 0 r next ≡ keep p (listingAt rows listings j)
+    written j u = go (decLt j k)
+      where
+        level : ¬ (j < k) → k ≡ j
+        level v = omega (arith, u)
+
+        go : Dec (j < k) → part rows j 0 r next ≡ keep p (listingAt rows listings j)
+        go (yes v) = before j v
+        go (no v) = subst (λ z. part rows z 0 r next ≡ keep p (listingAt rows listings z)) (level v) here
+
+    turn : Setting rows listings p order₀ next r (k + 1)
+    turn = record { long = same-len-mid (k * rows) width order new l ∙ s .long; kept = λ u. record { within = few; count = count; written = written } }
 
 abbrev Inv-loop : tie.InvT-loop
-Inv-loop listings weights counts order₀ rows features n₀ k₀ order n k = Setting rows features listings weights counts order₀ order n k
+Inv-loop listings weights counts order₀ rows features n₀ k₀ order n k = Setting rows listings (keptIn weights counts) order₀ order n k
 
 abbrev μ-loop : tie.MeasureT-loop
 μ-loop listings weights counts order₀ rows features n₀ k₀ order n k = features - k
@@ -77,7 +116,7 @@ room : (c : tie.In-loop Inv-loop μ-loop) → (c .before .loop .k * start c .arg
 room c = ends _ _ _ _ _ _ _ _ _ (start c .pre) (c .before .loop .inv) (c .loop-test .taken)
 
 loop-holds : tie.Need-loop-holds Inv-loop μ-loop
-loop-holds c = record { going = going-start _ _ _ _ _ _; count = λ u. absurd (lt-irrefl 0 u) }
+loop-holds c = record { long = refl; kept = λ u. absurd (lt-irrefl 0 u) }
 
 mul-base : tie.Need-mul-base Inv-loop μ-loop
 mul-base c = omega (arith, room c .0, room c .1, room c .2, start c .good .0 .0, start c .good .0 .1, start c .good .1 .1 .1 .0 .0, start c .good .1 .1 .1 .0 .1)
@@ -122,22 +161,16 @@ loop-again : tie.Need-loop-again Inv-loop μ-loop
 loop-again c =
     let b = c .before .before .before .before .before in
     let k = c .before .before .kept-column in
-    turn _ _ _ _ _ _ _ _ _ (start b .pre) (b .before .loop .inv) (k .last .1 .1 .1 .0) (k .result) (b .loop-test .taken) (k .ensures)
+    turn _ _ _ _ _ _ _ _ _ (start b .pre) (b .before .loop .inv) (b .loop-test .taken) (k .last .1 .1 .1 .0) (k .result) (k .ensures) (k .kept .1 .1 .1 .0)
 
 same-length : tie.Need-same-length Inv-loop μ-loop
-same-length c = long _ _ _ _ _ _ _ _ _ (c .before .before .before .before .before .before .pre) (c .before .loop .inv)
+same-length c = c .before .loop .inv .long
 
 returns : tie.Need-returns Inv-loop μ-loop
 returns c =
-    let a = c .before .before .before .before .before .before .args in
     let q = c .before .before .before .before .before .before .pre in
-    let s = c .before .loop .inv in
-    let n = s .count (omega (arith, q .some, c .loop-test .left)) in
-    record {
-      within = omega (arith, n, kept-few (keptIn (now (a .weights)) (now (a .counts))) (from 0 (a .rows)), length-from 0 (a .rows));
-      count = n;
-      written = going-done _ _ _ _ _ _ _ _ (s .going) (c .loop-test .left);
-    }
+    let s = c .before .loop .inv .kept (omega (arith, q .some, c .loop-test .left)) in
+    record { within = s .within; count = s .count; written = λ j h. s .written j (omega (arith, h, c .loop-test .left)) }
 
 pub kept-columns-spec : {M : Type 1} → statement M
 kept-columns-spec =

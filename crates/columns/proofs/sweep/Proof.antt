@@ -8,75 +8,77 @@ use mathlib.Core.Logic.{⊎-elim}
 use Prim.Native.Nat.{ℕ, _≤_, _<_, _-_, _+_}
 use denote.Ref.{now}
 use lib.ListN.{length, length-set, getD, set, take, drop}
-use lib.Seq.{take-length, length-take-le}
+use lib.Seq.{take-all, length-take-le}
 use Rattle.rules.specs.Words.{keep}
 use Rattle.laws.specs.Lists.{every-at}
 use Rattle.columns.specs.Columns.{flagged, fails, Swept}
-use Rattle.columns.specs.Fronts.{keep-yes, keep-no, front-more, front-same, rest-more, head-same}
+use Rattle.columns.specs.Fronts.{front-yes, front-no, rest-more, head-same}
 use Rattle.columns.proofs.sweep.Statement.{statement}
 use Rattle.columns.proofs.sweep.Tie as tie
 
-record Passed (col₀ scratch₀ : List ℕ) (flags : List Bool) (col scratch : List ℕ) (w f i : ℕ) : Type 0 where
+record Passed (col₀ scratch₀ : List ℕ) (flags : List Bool) (col scratch : List ℕ) (w i : ℕ) : Type 0 where
   within : i ≤ length col₀
-  sum : w + f ≡ i
+  few : w ≤ i
   long : length col ≡ length col₀
   long-s : length scratch ≡ length scratch₀
   front : take w col ≡ keep (flagged flags) (take i col₀)
-  front-s : take f scratch ≡ keep (fails (flagged flags)) (take i col₀)
+  front-s : take (i - w) scratch ≡ keep (fails (flagged flags)) (take i col₀)
   rest : drop i col ≡ drop i col₀
 
-module _ (col₀ scratch₀ : List ℕ) (flags : List Bool) (col scratch : List ℕ) (w f i : ℕ) (s : Passed col₀ scratch₀ flags col scratch w f i)
-    (h : i < length col₀) (r : length col₀ ≤ length scratch₀) where
-  same : getD col i 0 ≡ getD col₀ i 0
-  same = head-same col col₀ i 0 (s .rest)
+module _ (col₀ scratch₀ : List ℕ) (flags : List Bool) (col scratch : List ℕ) (w i : ℕ) (s : Passed col₀ scratch₀ flags col scratch w i) where
+  module _ (h : i < length col₀) (r : length col₀ ≤ length scratch₀) where
+    same : getD col i 0 ≡ getD col₀ i 0
+    same = head-same col col₀ i 0 (s .rest)
 
-  yes-turn : getD flags (getD col i 0) false ≡ true
-      → Passed col₀ scratch₀ flags (set col w (getD col i 0)) (set scratch f (getD col i 0)) (w + 1) f (i + 1)
-  yes-turn t =
-      let t₀ : getD flags (getD col₀ i 0) false ≡ true = rw same at t in
-      record {
-        within = omega arith;
-        sum = omega arith;
-        long = length-set col w _ ∙ s .long;
-        long-s = length-set scratch f _ ∙ s .long-s;
-        front = rw same (front-more col w _ _ (s .front) (omega arith) ∙ sym (keep-yes (flagged flags) col₀ i 0 h t₀));
-        front-s = front-same scratch f _ _ (s .front-s) ∙ sym (keep-no (fails (flagged flags)) col₀ i 0 h (ap not t₀));
-        rest = rest-more col w _ col₀ i (omega arith) (s .rest);
-      }
+    abbrev col′ : List ℕ
+    col′ = set col w (getD col i 0)
 
-  no-turn : getD flags (getD col i 0) false ≡ false
-      → Passed col₀ scratch₀ flags (set col w (getD col i 0)) (set scratch f (getD col i 0)) w (f + 1) (i + 1)
-  no-turn t =
-      let t₀ : getD flags (getD col₀ i 0) false ≡ false = rw same at t in
-      record {
-        within = omega arith;
-        sum = omega arith;
-        long = length-set col w _ ∙ s .long;
-        long-s = length-set scratch f _ ∙ s .long-s;
-        front = front-same col w _ _ (s .front) ∙ sym (keep-no (flagged flags) col₀ i 0 h t₀);
-        front-s = rw same (front-more scratch f _ _ (s .front-s) (omega arith) ∙ sym (keep-yes (fails (flagged flags)) col₀ i 0 h (ap not t₀)));
-        rest = rest-more col w _ col₀ i (omega arith) (s .rest);
-      }
+    abbrev scratch′ : List ℕ
+    scratch′ = set scratch (i - w) (getD col i 0)
 
--- at the end
-done : (col₀ scratch₀ : List ℕ) (flags : List Bool) (col scratch : List ℕ) (w f i : ℕ) → Passed col₀ scratch₀ flags col scratch w f i → length col₀ ≤ i
-    → Swept (flagged flags) col₀ col scratch w
-done col₀ scratch₀ flags col scratch w f i s h =
-    let e : i ≡ length col₀ = omega arith in
-    let all : take i col₀ ≡ col₀ = rw (e, take-length) in
-    let front : take w col ≡ keep (flagged flags) col₀ = rw all at (s .front) in
-    let e-f : length col₀ - w ≡ f = omega arith in
-    record { within = omega arith; count = sym (length-take-le w col (omega arith)) ∙ ap length front; passed = front; others = rw e-f (rw all at (s .front-s)) }
+    yes-turn : flagged flags (getD col i 0) ≡ true → Passed col₀ scratch₀ flags col′ scratch′ (w + 1) (i + 1)
+    yes-turn t =
+        let e : i + 1 - (w + 1) ≡ i - w = omega arith in
+        record {
+          within = omega arith;
+          few = omega arith;
+          long = length-set col w _ ∙ s .long;
+          long-s = length-set scratch (i - w) _ ∙ s .long-s;
+          front = front-yes (flagged flags) col₀ col i w 0 _ same h (s .front) (omega arith) t;
+          front-s = ap (λ n. take n scratch′) e ∙ front-no (fails (flagged flags)) col₀ scratch i (i - w) 0 _ same h (s .front-s) (ap not t);
+          rest = rest-more col col₀ w i _ (s .few) (s .rest);
+        }
+
+    no-turn : flagged flags (getD col i 0) ≡ false → Passed col₀ scratch₀ flags col′ scratch′ w (i + 1)
+    no-turn t =
+        let e : i + 1 - w ≡ i - w + 1 = omega arith in
+        record {
+          within = omega arith;
+          few = omega arith;
+          long = length-set col w _ ∙ s .long;
+          long-s = length-set scratch (i - w) _ ∙ s .long-s;
+          front = front-no (flagged flags) col₀ col i w 0 _ same h (s .front) t;
+          front-s = ap (λ n. take n scratch′) e ∙ front-yes (fails (flagged flags)) col₀ scratch i (i - w) 0 _ same h (s .front-s) (omega arith) (ap not t);
+          rest = rest-more col col₀ w i _ (s .few) (s .rest);
+        }
+
+  -- at the end
+  done : length col₀ ≤ i → Swept (flagged flags) col₀ col scratch w
+  done h =
+      let e : length col₀ ≡ i = omega arith in
+      let all : take i col₀ ≡ col₀ = take-all i col₀ h in
+      let front : take w col ≡ keep (flagged flags) col₀ = rw all at (s .front) in
+      record { within = omega arith; count = sym (length-take-le w col (omega arith)) ∙ ap length front; passed = front; others = rw e (rw all at (s .front-s)) }
 
 abbrev Inv-loop : tie.InvT-loop
-Inv-loop col₀ scratch₀ flags w₀ f₀ i₀ col scratch w f i = Passed col₀ scratch₀ flags col scratch w f i
+Inv-loop col₀ scratch₀ flags w₀ i₀ col scratch w i = Passed col₀ scratch₀ flags col scratch w i
 
 abbrev μ-loop : tie.MeasureT-loop
-μ-loop col₀ scratch₀ flags w₀ f₀ i₀ col scratch w f i = length col₀ - i
+μ-loop col₀ scratch₀ flags w₀ i₀ col scratch w i = length col₀ - i
 
 loop-holds : tie.Need-loop-holds Inv-loop μ-loop
 unfolding keep
-loop-holds c = record { within = omega arith; sum = refl; long = refl; long-s = refl; front = refl; front-s = refl; rest = refl }
+loop-holds c = record { within = omega arith; few = omega arith; long = refl; long-s = refl; front = refl; front-s = refl; rest = refl }
 
 mul-e : tie.Need-mul-e Inv-loop μ-loop
 mul-e c = search needs
@@ -94,6 +96,9 @@ shared-slice-read-t c =
     let e = head-same (at .loop .col) (now (at .before .args .col)) (at .loop .i) 0 (s .rest) in
     omega (arith, e, every-at _ (now (at .before .args .col)) 0 (at .loop .i) (at .before .pre .below) (omega arith))
 
+sub-f : tie.Need-sub-f Inv-loop μ-loop
+sub-f c = search needs
+
 mul-col : tie.Need-mul-col Inv-loop μ-loop
 mul-col c = search needs
 
@@ -109,9 +114,6 @@ slice-write-scratch c = search needs
 add-w : tie.Need-add-w Inv-loop μ-loop
 add-w c = search needs
 
-add-f : tie.Need-add-f Inv-loop μ-loop
-add-f c = search needs
-
 add-i : tie.Need-add-i Inv-loop μ-loop
 add-i c = search needs
 
@@ -124,8 +126,8 @@ loop-again c =
     let s = at .loop .inv in
     let h : at .loop .i < length (now (at .before .args .col)) = omega arith in
     ⊎-elim
-    (λ u. rw (u .1, u .2) (yes-turn _ _ _ _ _ _ _ _ s h (at .before .pre .room) (u .0 .taken)))
-    (λ u. rw (u .1, u .2) (no-turn _ _ _ _ _ _ _ _ s h (at .before .pre .room) (u .0 .left)))
+    (λ u. rw (u .1) (yes-turn _ _ _ _ _ _ _ s h (at .before .pre .room) (u .0 .taken)))
+    (λ u. rw (u .1) (no-turn _ _ _ _ _ _ _ s h (at .before .pre .room) (u .0 .left)))
     (c .if1 .came)
 
 same-length : tie.Need-same-length Inv-loop μ-loop
@@ -135,7 +137,7 @@ same-length-2 : tie.Need-same-length-2 Inv-loop μ-loop
 same-length-2 c = search needs
 
 returns : tie.Need-returns Inv-loop μ-loop
-returns c = done _ _ _ _ _ _ _ _ (c .before .loop .inv) (omega arith)
+returns c = done _ _ _ _ _ _ _ (c .before .loop .inv) (omega arith)
 
 pub sweep-spec : {M : Type 1} → statement M
 sweep-spec =
@@ -148,12 +150,12 @@ sweep-spec =
     slice-read-e
     cast-row
     shared-slice-read-t
+    sub-f
     mul-col
     slice-write-col
     mul-scratch
     slice-write-scratch
     add-w
-    add-f
     add-i
     loop-less
     loop-again

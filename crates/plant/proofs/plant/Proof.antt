@@ -7,7 +7,7 @@ use Rattle.plant.proofs.plant.Statement.{statement}
 use Rattle.plant.proofs.plant.Tie as tie
 
 set-up-requires : tie.Need-set-up-requires
-set-up-requires c κs = set-up-asks _ _ _ _ (c .before .before .before .before .before .before .before .before .before .before .before .before .before .before .before .before .before .args .cols .now) _ _ _ _ (c .before .before .before .before .before .before .before .before .before .before .before .before .before .before .before .before .before .pre)
+set-up-requires c κs = set-up-asks _ _ _ _ _ _ _ _ _ (c .before .before .before .before .before .before .before .before .before .before .before .before .before .before .before .before .before .pre)
 
 grow-tree-requires : tie.Need-grow-tree-requires
 grow-tree-requires c κs =

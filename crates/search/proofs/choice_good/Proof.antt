@@ -1,73 +1,26 @@
--- `search::choice_good` meets its contract: the loop's invariant: the words so far are fresh, and `seen` marks them. Assumes nothing.
-use native.Mathlib.Omega.{arith}
-use Prim.Native.Nat.{_+_, _-_}
-use lib.ListN.{drop, take}
-use Rattle.search.specs.Tries.{Meets, meets-first, choice-out, choice-twice, choice-next, choice-end}
+-- `search::choice_good` meets its contract: the marks are made clear, and there are as many as features or more. Assumes nothing.
+use Rattle.search.specs.Tries.{none-yet}
 use borrow.Author.Needs.{needs}
 use Rattle.search.proofs.choice_good.Statement.{statement}
 use Rattle.search.proofs.choice_good.Tie as tie
 
-abbrev Inv-loop : tie.InvT-loop
-Inv-loop words at features seen₀ i₀ seen i = Meets features (take features (drop at words)) seen i
+slice-aggregate-each-once : tie.Need-slice-aggregate-each-once
+slice-aggregate-each-once c = search needs
 
-abbrev μ-loop : tie.MeasureT-loop
-μ-loop words at features seen₀ i₀ seen i = features - i
+each-once-requires : tie.Need-each-once-requires
+each-once-requires c κs = (c .before .if1 .taken, c .before .before .before .pre .1, none-yet 64)
 
-loop-holds : tie.Need-loop-holds Inv-loop μ-loop
-loop-holds c = meets-first _ _
+returns : tie.Need-returns
+returns c = search needs
 
-add-w : tie.Need-add-w Inv-loop μ-loop
-add-w c = search needs
+slice-aggregate-each-once-2 : tie.Need-slice-aggregate-each-once-2
+slice-aggregate-each-once-2 c = search needs
 
-mul-w : tie.Need-mul-w Inv-loop μ-loop
-mul-w c = search needs
+each-once-requires-2 : tie.Need-each-once-requires-2
+each-once-requires-2 c κs = (c .before .before .before .pre .0, c .before .before .before .pre .1, none-yet 1024)
 
-shared-slice-read-w : tie.Need-shared-slice-read-w Inv-loop μ-loop
-shared-slice-read-w c = search needs
-
-cast-w : tie.Need-cast-w Inv-loop μ-loop
-cast-w c = omega (arith, c .shared-slice-known .given (c .before .before .before .args .at + c .before .before .loop .i))
-
-returns : tie.Need-returns Inv-loop μ-loop
-returns c = choice-out (c .before .before .before .before .args .features) (c .before .before .before .before .args .words .now) (c .before .before .before .before .args .at) (c .before .before .before .before .pre .1) (c .before .before .before .loop .seen) (c .before .before .before .loop .i) (c .before .before .before .loop .inv) (c .before .before .loop-test .taken) (c .if1 .taken)
-
-array-read-if2 : tie.Need-array-read-if2 Inv-loop μ-loop
-array-read-if2 c = omega (arith, c .if1 .left, c .before .before .before .before .pre .0, c .before .before .before .loop .inv .long)
-
-returns-2 : tie.Need-returns-2 Inv-loop μ-loop
-returns-2 c = choice-twice (c .before .before .before .before .before .args .features) (c .before .before .before .before .before .args .words .now) (c .before .before .before .before .before .args .at) (c .before .before .before .before .before .pre .1) (c .before .before .before .before .loop .seen) (c .before .before .before .before .loop .i) (c .before .before .before .before .loop .inv) (c .before .before .before .loop-test .taken) (c .before .if1 .left) (c .if2 .taken)
-
-array-write-seen : tie.Need-array-write-seen Inv-loop μ-loop
-array-write-seen c = omega (arith, c .before .if1 .left, c .before .before .before .before .before .pre .0, c .before .before .before .before .loop .inv .long)
-
-add-i : tie.Need-add-i Inv-loop μ-loop
-add-i c = search needs
-
-loop-less : tie.Need-loop-less Inv-loop μ-loop
-loop-less c = search needs
-
-loop-again : tie.Need-loop-again Inv-loop μ-loop
-loop-again c = choice-next (c .before .before .before .before .before .args .features) (c .before .before .before .before .before .args .words .now) (c .before .before .before .before .before .args .at) (c .before .before .before .before .before .pre .1) (c .before .before .before .before .loop .seen) (c .before .before .before .before .loop .i) (c .before .before .before .before .loop .inv) (c .before .before .before .before .before .pre .0) (c .before .before .before .loop-test .taken) (c .before .if1 .left) (c .if2 .left)
-
-returns-3 : tie.Need-returns-3 Inv-loop μ-loop
-returns-3 c = choice-end (c .before .before .args .features) (c .before .before .args .words .now) (c .before .before .args .at) (c .before .before .pre .1) (c .before .loop .seen) (c .before .loop .i) (c .before .loop .inv) (c .loop-test .left)
+returns-2 : tie.Need-returns-2
+returns-2 c = search needs
 
 pub choice-good-spec : {M : Type 1} → statement M
-choice-good-spec =
-    tie.close
-    (tie.spec
-    Inv-loop
-    μ-loop
-    loop-holds
-    add-w
-    mul-w
-    shared-slice-read-w
-    cast-w
-    returns
-    array-read-if2
-    returns-2
-    array-write-seen
-    add-i
-    loop-less
-    loop-again
-    returns-3)
+choice-good-spec = tie.close (tie.spec slice-aggregate-each-once each-once-requires returns slice-aggregate-each-once-2 each-once-requires-2 returns-2)
