@@ -12,7 +12,7 @@ use Rattle.rules.specs.declared.Cut.{Cut}
 use Rattle.rules.specs.declared.Kind.{Kind}
 use Rattle.rules.specs.declared.Kind.the-variants.{Leaf, Split}
 use Rattle.rules.specs.Lent.{Columns, Entry, leafEntry}
-use Rattle.rules.specs.Search.{Task, cut, search, same}
+use Rattle.rules.specs.Search.{Task, search, same}
 use Rattle.rules.specs.Growth.{Waiting, TreeNode, child, joins, searchable, searchIf}
 use Rattle.rules.specs.Draws.{Out, bad, ok, bind, Tapes, tape}
 use Rattle.rules.specs.Words.{nought}

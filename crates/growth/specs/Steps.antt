@@ -11,7 +11,9 @@ use lib.Seq.{getD-set-same, getD-set-other}
 use lib.Ieee.{Float}
 use Rattle.rules.specs.declared.Params.{Params}
 use Rattle.rules.specs.declared.Cut.{Cut}
-use Rattle.rules.specs.Search.{Task, Found, cut, search}
+use Rattle.rules.specs.declared.Held.{Held}
+use Rattle.rules.specs.declared.Held.the-variants.{Nothing, Holds}
+use Rattle.rules.specs.Search.{Task, Found, search}
 use Rattle.rules.specs.Growth.{Waiting, joins, searchable, searchIf}
 use Rattle.rules.specs.Draws.{Out, bad, ok, bind, Tapes, tape}
 use Rattle.search.specs.declared.Asked.{Asked}
@@ -79,23 +81,23 @@ module _ (wholes : List (List ℕ)) (reals : List (List Float)) (n node level a 
       subst (λ z. PushDone wholes reals wholes reals n node level a e q d z (Refused (d .searches))) (sym h)
       (record { same = λ g W M. refl; laid = λ low l x y z. tt; most = tt; fair = λ W f. tt })
 
-  pub push-uncut : {r : Search} {k : Drawn} → r ≡ S.Uncut k → PushDone wholes reals wholes reals n node level a e q d r (Goes (record { waiting = n; drawn = k }))
+  pub push-uncut : {r : Search} {h : Held} {k : Drawn} → r ≡ S.Goes h k → h ≡ Nothing → PushDone wholes reals wholes reals n node level a e q d r (Goes (record { waiting = n; drawn = k }))
   unfolding bind joins
-  push-uncut {r} {k} h =
-      subst (λ z. PushDone wholes reals wholes reals n node level a e q d z (Goes (record { waiting = n; drawn = k }))) (sym h)
+  push-uncut {r} {h} {k} er eh =
+      subst (λ z. PushDone wholes reals wholes reals n node level a e q d z (Goes (record { waiting = n; drawn = k }))) (sym (er ∙ ap (λ z. S.Goes z k) eh))
       (record { same = λ g W M. refl; laid = λ low l x y z. laid-more wholes reals n low e (le-trans y z) l; most = omega arith; fair = λ W f. f })
 
   abbrev newWait : Cut → Wait
   newWait c =
       record { node = node; start = a; end = e; level = level; count = q .count; feature = c .feature; sum = q .totals .sum; mass = q .totals .mass; cut = c .threshold }
 
-  pub push-cut : n < length wholes → n < length reals → {r : Search} {c : Cut} {k : Drawn} → r ≡ S.Found c k → {wholes′ : List (List ℕ)} {reals′ : List (List Float)}
+  pub push-cut : n < length wholes → n < length reals → {r : Search} {h : Held} {c : Cut} {p : Float} {k : Drawn} → r ≡ S.Goes h k → h ≡ Holds c p → {wholes′ : List (List ℕ)} {reals′ : List (List Float)}
       → wholes′ ≡ set wholes n (wholesOf (newWait c)) → reals′ ≡ set reals n (realsOf (newWait c)) → PushDone wholes reals wholes′ reals′ n node level a e q d r (Goes (record { waiting = n + 1; drawn = k }))
   unfolding bind joins
-  push-cut hw hr {r} {c} {k} h {wholes′} {reals′} ew er =
-      subst (λ z. PushDone wholes reals wholes′ reals′ n node level a e q d z (Goes (record { waiting = n + 1; drawn = k }))) (sym h)
-      (subst (λ z. PushDone wholes reals z reals′ n node level a e q d (S.Found c k) (Goes (record { waiting = n + 1; drawn = k }))) (sym ew)
-      (subst (λ z. PushDone wholes reals (set wholes n (wholesOf (newWait c))) z n node level a e q d (S.Found c k) (Goes (record { waiting = n + 1; drawn = k }))) (sym er)
+  push-cut hw hr {r} {h} {c} {p} {k} eg eh {wholes′} {reals′} ew er =
+      subst (λ z. PushDone wholes reals wholes′ reals′ n node level a e q d z (Goes (record { waiting = n + 1; drawn = k }))) (sym (eg ∙ ap (λ z. S.Goes z k) eh))
+      (subst (λ z. PushDone wholes reals z reals′ n node level a e q d (S.Goes (Holds c p) k) (Goes (record { waiting = n + 1; drawn = k }))) (sym ew)
+      (subst (λ z. PushDone wholes reals (set wholes n (wholesOf (newWait c))) z n node level a e q d (S.Goes (Holds c p) k) (Goes (record { waiting = n + 1; drawn = k }))) (sym er)
       (record {
         same = λ g W M. ap (λ z. ok (z, drawsAt W M k)) (sym (stack-new g wholes reals n (newWait c) hw hr));
         laid = λ low l x y z. laid-new wholes reals n low (newWait c) hw hr l x y z;

@@ -11,6 +11,7 @@ ghost use Rattle.search.specs.Flat.{bare};
 ghost use Rattle.growth.specs.Rooms.{LongAll, PushDone, ChildAsks, ChildDone, cutOf, wroteSides, BothAsks, BothDone, SidesAsks, SidesDone};
 use columns::Sides;
 use rules::Cut;
+use rules::Held;
 use rules::Params;
 use search::Asked;
 use search::Drawn;
@@ -69,13 +70,15 @@ pub fn push_found(
     requires { ⌜ (n < length (now wholes)) × (n < length (now reals)) ⌝ }
     ensures { λ s. ⌜ PushDone (now (wholes .entry)) (now (reals .entry)) (now (wholes .exit)) (now (reals .exit)) n node level from to a d r s ⌝ }
 {
-    match r {
-        Search::Refused => Step::Refused(d.searches),
-        Search::Uncut(e) => Step::Goes(Stand {
+    let Search::Goes(h, e) = r else {
+        return Step::Refused(d.searches);
+    };
+    match h {
+        Held::Nothing => Step::Goes(Stand {
             waiting: n,
             drawn: e,
         }),
-        Search::Found(c, e) => {
+        Held::Holds(c, _) => {
             let t = a.totals;
             let w = Wait {
                 node,
