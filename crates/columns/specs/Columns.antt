@@ -2,7 +2,7 @@
 use Prim.Native.Nat.{ℕ, zero, suc, _+_, _-_, _*_, _<_, _≤_}
 use mathlib.Core.Path.{_≡_}
 use mathlib.Core.Bool.{Bool, false, not}
-use mathlib.Core.List.{List, [], _++_, map}
+use mathlib.Core.List.{List, [], _∷_, _++_, map}
 use lib.ListN.{length, getD, take, drop}
 use lib.Dec.{T, leb}
 use lib.Ieee.{Float}
@@ -84,6 +84,11 @@ fails p r = not (p r)
 -- those that pass, then the others, each in their order
 abbrev pub parted : (ℕ → Bool) → List ℕ → List ℕ
 parted p l = keep p l ++ keep (fails p) l
+
+-- those that pass stand before those that do not
+abbrev pub Cleft : (ℕ → Bool) → List ℕ → Type 0
+Cleft p [] = Unit {0}
+Cleft p (r ∷ l) = (p r ≡ false → Every (λ k. p k ≡ false) l) × Cleft p l
 
 -- after one pass over a stretch: those that pass at its front, the others at the front of the scratch
 pub record Swept (p : ℕ → Bool) (before col scratch : List ℕ) (r : ℕ) : Type 0 where

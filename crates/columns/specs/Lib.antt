@@ -12,3 +12,4 @@ pub mod Setup
 pub mod Kept
 pub mod Pass
 pub mod Halves
+pub mod Cleft

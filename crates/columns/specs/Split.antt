@@ -13,7 +13,7 @@ use Rattle.rules.specs.Fit.{elementIn}
 use Rattle.laws.specs.Lists.{Every}
 use Rattle.columns.specs.declared.Side.{Side}
 use Rattle.columns.specs.declared.Sides.{Sides}
-use Rattle.columns.specs.Columns.{part, flagged, Counted}
+use Rattle.columns.specs.Columns.{part, flagged, Cleft, Counted}
 
 -- the tables of a fit, by their lengths
 pub record Shaped (rows features : ℕ) (values targets weights : List Float) (counts : List ℕ) : Type 0 where
@@ -93,6 +93,7 @@ pub record SplitAsks (rows features a e : ℕ) (values targets weights : List Fl
   pub below : (k : ℕ) → k < features → Every (λ r. r < rows) (part rows k a e cols)
   pub alike : (k : ℕ) → k < features → Alike (part rows (c .feature) a e cols) (part rows k a e cols)
   pub count : tally (map (elementIn features values targets weights counts) (part rows (c .feature) a e cols)) < 4294967296
+  pub cleft : Cleft (goes (elementIn features values targets weights counts) c) (part rows (c .feature) a e cols)
 
 -- the sides, and each row's flag
 pub record SplitDone (rows a e : ℕ) (el : ℕ → Element) (c : Cut) (cols : List ℕ) (flags : List Bool) (s : Sides) : Type 0 where
