@@ -15,7 +15,7 @@ use Rattle.rules.specs.Search.{Element, tally}
 use Rattle.rules.specs.Fit.{elementIn}
 use Rattle.laws.specs.Lists.{Every, every-imp, every-append, every-keep, total-keep, length-total}
 use Rattle.columns.specs.declared.Sides.{Sides}
-use Rattle.columns.specs.Columns.{part, changed, inColumns, flagged, fails, parted, partedColumns, ColumnsAsk}
+use Rattle.columns.specs.Columns.{part, changed, inColumns, flagged, fails, parted, partedColumns, Cleft, ColumnsAsk}
 use Rattle.columns.specs.Split.{Alike, goes, sidesOf, marked, PassAsks, PassDone, SplitAsks, SplitDone}
 use Rattle.columns.specs.Fronts.{keep-both, parted-long}
 use Rattle.columns.specs.Stretches.{column-end, Keeps, part-in, part-join, part-long, part-every, in-long, in-later, in-beside, in-here}
@@ -159,6 +159,7 @@ module _ (rows features a e : ℕ) (values targets weights : List Float) (counts
         short = omega (arith, ap length lent-is, part-long rows features (c .feature) a e cols (q .long) (q .known) (q .order) (q .high), q .high, q .few);
         count = subst (λ l. tally (map (elementIn features values targets weights counts) l) < 4294967296) (sym lent-is) (q .count);
         room = q .flagRoom;
+        cleft = subst (Cleft (goes (elementIn features values targets weights counts) c)) (sym lent-is) (q .cleft);
       }
 
   pub split-done : (f f′ : List Bool) (s : Sides) → length f ≡ flags → PassDone (elementIn features values targets weights counts) c lent f f′ s

@@ -10,6 +10,6 @@ pub mod Fronts
 pub mod Stretches
 pub mod Setup
 pub mod Kept
+pub mod Cleft
 pub mod Pass
 pub mod Halves
-pub mod Cleft

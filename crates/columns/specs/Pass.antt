@@ -1,24 +1,28 @@
--- The split pass by its turns: each row joins its side, and the sides of the rows passed with those to come are the whole. Assumes nothing.
-use Prim.Native.Nat.{ℕ, suc, _+_, _*_, _<_, _≤_}
-use native.Mathlib.Nat.{add-assoc, zero-add, add-zero, suc-mul, mul-le-mul-right}
+-- The split pass: the front that goes true, each side row by row, and both together. Assumes nothing.
+use Prim.Native.Nat.{ℕ, _+_, _-_, _*_, _<_, _≤_}
+use native.Mathlib.Nat.{zero-add, suc-mul, mul-le-mul-right}
 use native.Mathlib.Numerals.{add-one}
 use native.Mathlib.Omega.{arith}
 use mathlib.Core.Path.{_≡_, refl, sym, ap, _∙_, subst}
+use mathlib.Core.Logic.{_⊎_, inl, inr}
 use mathlib.Core.Bool.{Bool, true, false, not}
-use mathlib.Core.List.{List, _∷_, map}
-use lib.ListN.{length, getD, set, drop, drop-of-length-le, length-set}
-use lib.Seq.{drop-cons, getD-take, getD-drop}
+use mathlib.Core.List.{List, [], _∷_, _++_, map, map-append}
+use lib.ListN.{length, getD, set, take, drop, drop-of-length-le, take-append-drop, length-take, length-drop, length-set}
+use lib.Seq.{drop-cons, take-suc, take-all, getD-take, getD-drop}
 use lib.Ieee.{Float, nan, le}
 use Rattle.rules.specs.declared.Totals.{Totals}
 use Rattle.rules.specs.declared.Cut.{Cut}
-use Rattle.rules.specs.Words.{keep, putIf, total}
+use Rattle.rules.specs.Words.{keep, total}
 use Rattle.rules.specs.Lent.{valuesAt, cell}
 use Rattle.rules.specs.Totals.{empty, takeIn}
-use Rattle.rules.specs.Search.{Element, at, totals, tally, goesTrue, trueSide, falseSide}
+use Rattle.rules.specs.Search.{Element, Column, at, totals, tally, goesTrue, trueSide, falseSide}
 use Rattle.rules.specs.Fit.{elementIn}
+use Rattle.laws.specs.Lists.{Every, every-imp, every-append, every-take, every-drop, keep-map, total-append}
 use Rattle.columns.specs.declared.Side.{Side}
-use Rattle.columns.specs.declared.Sides.{Sides}
-use Rattle.columns.specs.Split.{CellAsks, joined, none, sided, SidedAsks, goes, marked, PassDone}
+use Rattle.columns.specs.declared.Gathered.{Gathered}
+use Rattle.columns.specs.Columns.{bare, fails, Cleft}
+use Rattle.columns.specs.Split.{CellAsks, joined, goes, sideOn, marked, tested, FrontDone, GatherAsks, GatherDone, PassAsks, PassDone}
+use Rattle.columns.specs.Cleft.{cleft-rest, front-keeps}
 
 -- ---- a row's value
 
@@ -37,137 +41,168 @@ pub cell-goes : (features : ℕ) (values targets weights : List Float) (counts :
 unfolding goesTrue at elementIn cell
 cell-goes features values targets weights counts c i = refl
 
--- ---- one row
+-- ---- the front that goes true
 
-pub sided-yes : (t : Bool) (s : Sides) (y m : Float) (k : ℕ) → t ≡ true → {u : Totals} {v : Side} → u ≡ takeIn (s .all) y m → v ≡ joined (s .yes) y m k
-    → _≡_ {A = Sides} (record { yes = v; no = s .no; all = u; rows = s .rows + 1 }) (sided t s y m k)
-unfolding sided
-sided-yes t s y m k e eu ev = (λ i. record { yes = ev i; no = s .no; all = eu i; rows = s .rows + 1 }) ∙ ap (λ b. sided b s y m k) (sym e)
+pub front-turn : (p : ℕ → Bool) (l : List ℕ) (i : ℕ) → i < length l → p (getD l i 0) ≡ true → Every (λ r. p r ≡ true) (take i l) → Every (λ r. p r ≡ true) (take (i + 1) l)
+front-turn p l i h t e =
+    subst (Every (λ r. p r ≡ true)) (sym (ap (λ n. take n l) (add-one i) ∙ take-suc l i 0 h)) (every-append _ (take i l) (getD l i 0 ∷ []) e (t, tt))
 
-pub sided-no : (t : Bool) (s : Sides) (y m : Float) (k : ℕ) → t ≡ false → {u : Totals} {v : Side} → u ≡ takeIn (s .all) y m → v ≡ joined (s .no) y m k
-    → _≡_ {A = Sides} (record { yes = s .yes; no = v; all = u; rows = s .rows }) (sided t s y m k)
-unfolding sided
-sided-no t s y m k e eu ev = (λ i. record { yes = s .yes; no = ev i; all = eu i; rows = s .rows }) ∙ ap (λ b. sided b s y m k) (sym e)
+-- ---- one side, row by row
 
--- counts and rows of a step
-sided-room : (t : Bool) (s : Sides) (y m : Float) (k : ℕ)
-    → (sided t s y m k .yes .count + sided t s y m k .no .count ≡ s .yes .count + s .no .count + k) × (sided t s y m k .rows ≤ s .rows + 1)
-unfolding sided joined
-sided-room true s y m k = (omega arith, omega arith)
-sided-room false s y m k = (omega arith, omega arith)
-
--- ---- the rows from a place on
-
-module _ (el : ℕ → Element) (c : Cut) where
-  -- with the rows of l onto what stands
-  abbrev onto : Sides → List ℕ → Sides
-  onto s l =
-      record {
-        yes = record { totals = totals (s .yes .totals) (trueSide c (map el l)); count = s .yes .count + tally (trueSide c (map el l)) };
-        no = record { totals = totals (s .no .totals) (falseSide c (map el l)); count = s .no .count + tally (falseSide c (map el l)) };
-        all = totals (s .all) (map el l);
-        rows = s .rows + length (keep (goes el c) l);
-      }
-
-  -- the head's side by its test
-  headed : Bool → Sides → ℕ → List ℕ → Sides
-  headed b s x l =
-      record {
-        yes = record { totals = totals (s .yes .totals) (putIf b (el x) (trueSide c (map el l))); count = s .yes .count + tally (putIf b (el x) (trueSide c (map el l))) };
-        no = record { totals = totals (s .no .totals) (putIf (not b) (el x) (falseSide c (map el l))); count = s .no .count + tally (putIf (not b) (el x) (falseSide c (map el l))) };
-        all = totals (takeIn (s .all) (el x .target) (el x .mass)) (map el l);
-        rows = s .rows + length (putIf b x (keep (goes el c) l));
-      }
-
-  headed-onto : (b : Bool) (s : Sides) (x : ℕ) (l : List ℕ) → onto (sided b s (el x .target) (el x .mass) (el x .count)) l ≡ headed b s x l
-  unfolding headed sided joined putIf total totals
-  headed-onto true s x l =
-      λ i.
-      record {
-        yes = record { totals = totals (takeIn (s .yes .totals) (el x .target) (el x .mass)) (trueSide c (map el l)); count = add-assoc (s .yes .count) (el x .count) (tally (trueSide c (map el l))) i };
-        no = record { totals = totals (s .no .totals) (falseSide c (map el l)); count = s .no .count + tally (falseSide c (map el l)) };
-        all = totals (takeIn (s .all) (el x .target) (el x .mass)) (map el l);
-        rows = more (s .rows) (length (keep (goes el c) l)) i;
-      }
-    where
-      more : (a n : ℕ) → a + 1 + n ≡ a + suc n
-      more a n = omega arith
-  headed-onto false s x l =
-      λ i.
-      record {
-        yes = record { totals = totals (s .yes .totals) (trueSide c (map el l)); count = s .yes .count + tally (trueSide c (map el l)) };
-        no = record { totals = totals (takeIn (s .no .totals) (el x .target) (el x .mass)) (falseSide c (map el l)); count = add-assoc (s .no .count) (el x .count) (tally (falseSide c (map el l))) i };
-        all = totals (takeIn (s .all) (el x .target) (el x .mass)) (map el l);
-        rows = s .rows + length (keep (goes el c) l);
-      }
-
-  onto-turn : (s : Sides) (x : ℕ) (l : List ℕ) → onto (sided (goes el c x) s (el x .target) (el x .mass) (el x .count)) l ≡ onto s (x ∷ l)
-  unfolding headed keep totals
-  onto-turn s x l = headed-onto (goes el c x) s x l
-
-  -- ---- the loop
-
-  pub record Passing (l : List ℕ) (before : List Bool) (s : Sides) (flags : List Bool) (i : ℕ) : Type 0 where
+module _ (el : ℕ → Element) (t : Bool) (start : Totals) (l : List ℕ) (before : List Bool) where
+  pub record Gathering (s : Side) (a : Totals) (flags : List Bool) (i : ℕ) : Type 0 where
     pub within : i ≤ length l
     pub long : length flags ≡ length before
-    pub few : s .rows ≤ i
-    pub room : s .yes .count + s .no .count + tally (map el (drop i l)) ≡ tally (map el l)
-    pub sides : onto s (drop i l) ≡ onto none l
-    pub marks : marked (goes el c) flags (drop i l) ≡ marked (goes el c) before l
+    pub room : s .count + tally (map el (drop i l)) ≡ tally (map el l)
+    pub side : totals (s .totals) (map el (drop i l)) ≡ totals empty (map el l)
+    pub all : totals a (map el (drop i l)) ≡ totals start (map el l)
+    pub marks : marked (λ k. t) flags (drop i l) ≡ marked (λ k. t) before l
 
-  pub pass-start : (l : List ℕ) (before : List Bool) → Passing l before none before 0
-  pass-start l before = record { within = omega arith; long = refl; few = omega arith; room = omega arith; sides = refl; marks = refl }
+  pub gather-start : {s : Side} → s ≡ sideOn [] → Gathering s start before 0
+  unfolding totals total
+  gather-start e =
+      record {
+        within = omega arith;
+        long = refl;
+        room = ap (λ (z : Side). z .count + tally (map el l)) e ∙ zero-add (tally (map el l));
+        side = ap (λ (z : Side). totals (z .totals) (map el l)) e;
+        all = refl;
+        marks = refl;
+      }
 
-  module _ (l : List ℕ) (before : List Bool) (s : Sides) (flags : List Bool) (i : ℕ) (q : Passing l before s flags i) (h : i < length l) where
-    x : ℕ
-    x = getD l i 0
-
-    ahead : drop i l ≡ x ∷ drop (i + 1) l
-    unfolding x
+  module _ (s : Side) (a : Totals) (flags : List Bool) (i : ℕ) (q : Gathering s a flags i) (h : i < length l) where
+    ahead : drop i l ≡ getD l i 0 ∷ drop (i + 1) l
     ahead = drop-cons l i 0 h ∙ ap (λ z. getD l i 0 ∷ drop z l) (sym (add-one i))
 
-    ahead-count : tally (map el (drop i l)) ≡ el x .count + tally (map el (drop (i + 1) l))
+    ahead-count : tally (map el (drop i l)) ≡ el (getD l i 0) .count + tally (map el (drop (i + 1) l))
     unfolding total
     ahead-count = ap (λ z. tally (map el z)) ahead
 
-    pub pass-fits : tally (map el l) < 4294967296 → length l < 4294967296 → {k : ℕ} → k ≡ el (getD l i 0) .count → SidedAsks s k
-    unfolding x
-    pass-fits small short e =
-        record { yes = omega (arith, e, q .room, ahead-count, small); no = omega (arith, e, q .room, ahead-count, small); rows = omega (arith, q .few, short) }
+    pub gather-fits : tally (map el l) < 4294967296 → {k : ℕ} → k ≡ el (getD l i 0) .count → s .count + k < 4294967296
+    gather-fits small e = omega (arith, e, q .room, ahead-count, small)
 
-    pub pass-turn : {s′ : Sides} {t : Bool} {r k : ℕ} {y m : Float} → r ≡ getD l i 0 → t ≡ goes el c (getD l i 0) → y ≡ el (getD l i 0) .target → m ≡ el (getD l i 0) .mass → k ≡ el (getD l i 0) .count
-        → s′ ≡ sided t s y m k → Passing l before s′ (set flags r t) (i + 1)
-    unfolding x marked
-    pass-turn {s′} {t} {r} {k} {y} {m} er et ey em ek es =
-        let e : s′ ≡ sided (goes el c x) s (el x .target) (el x .mass) (el x .count) = es ∙ (λ z. sided (et z) s (ey z) (em z) (ek z)) in
-        let n = sided-room (goes el c x) s (el x .target) (el x .mass) (el x .count) in
+    pub gather-turn : {r k : ℕ} {y m : Float} {s′ : Side} {a′ : Totals} → r ≡ getD l i 0 → y ≡ el (getD l i 0) .target → m ≡ el (getD l i 0) .mass → k ≡ el (getD l i 0) .count
+        → s′ ≡ joined s y m k → a′ ≡ takeIn a y m → Gathering s′ a′ (set flags r t) (i + 1)
+    unfolding totals marked joined
+    gather-turn {r} {k} {y} {m} {s′} {a′} er ey em ek es ea =
         record {
           within = omega arith;
           long = length-set flags r t ∙ q .long;
-          few = omega (arith, q .few, n .1, ap (λ (z : Sides). z .rows) e);
-          room = omega (arith, q .room, ahead-count, n .0, ap (λ (z : Sides). z .yes .count) e, ap (λ (z : Sides). z .no .count) e);
-          sides = ap (λ z. onto z (drop (i + 1) l)) e ∙ onto-turn s x (drop (i + 1) l) ∙ ap (onto s) (sym ahead) ∙ q .sides;
-          marks = (λ z. marked (goes el c) (set flags (er z) (et z)) (drop (i + 1) l)) ∙ ap (marked (goes el c) flags) (sym ahead) ∙ q .marks;
+          room = omega (arith, q .room, ahead-count, ek, ap (λ (z : Side). z .count) es);
+          side = ap (λ (z : Side). totals (z .totals) (map el (drop (i + 1) l))) es ∙ (λ z. totals (takeIn (s .totals) (ey z) (em z)) (map el (drop (i + 1) l)))
+              ∙ ap (λ z. totals (s .totals) (map el z)) (sym ahead) ∙ q .side;
+          all = ap (λ z. totals z (map el (drop (i + 1) l))) ea ∙ (λ z. totals (takeIn a (ey z) (em z)) (map el (drop (i + 1) l)))
+              ∙ ap (λ z. totals a (map el z)) (sym ahead) ∙ q .all;
+          marks = ap (λ z. marked (λ k. t) (set flags z t) (drop (i + 1) l)) er ∙ ap (marked (λ k. t) flags) (sym ahead) ∙ q .marks;
         }
 
-  pub pass-done : (l : List ℕ) (before : List Bool) (s : Sides) (flags : List Bool) (i : ℕ) → Passing l before s flags i → length l ≤ i → PassDone el c l before flags s
-  unfolding total totals keep marked
-  pass-done l before s flags i q h =
+  pub gather-done : (s : Side) (a : Totals) (flags : List Bool) (i : ℕ) → Gathering s a flags i → length l ≤ i → GatherDone el t start l before flags (record { side = s; all = a })
+  unfolding totals total marked
+  gather-done s a flags i q h =
+      let e = drop-of-length-le l h in
+      let n : s .count ≡ tally (map el l) = omega (arith, q .room, ap (λ z. tally (map el z)) e) in
       record {
-        within = omega (arith, q .few, q .within);
-        flags = ap (marked (goes el c) flags) (sym (drop-of-length-le l h)) ∙ q .marks;
-        sides = (λ k.
-            record {
-              yes = record { totals = s .yes .totals; count = sym (add-zero (s .yes .count)) k };
-              no = record { totals = s .no .totals; count = sym (add-zero (s .no .count)) k };
-              all = s .all;
-              rows = sym (add-zero (s .rows)) k;
-            })
-            ∙ ap (onto s) (sym (drop-of-length-le l h)) ∙ q .sides ∙ (λ k.
-            record {
-              yes = record { totals = totals empty (trueSide c (map el l)); count = zero-add (tally (trueSide c (map el l))) k };
-              no = record { totals = totals empty (falseSide c (map el l)); count = zero-add (tally (falseSide c (map el l))) k };
-              all = totals empty (map el l);
-              rows = zero-add (length (keep (goes el c) l)) k;
-            });
+        side = λ k. record { totals = (ap (λ z. totals (s .totals) (map el z)) (sym e) ∙ q .side) k; count = n k };
+        all = ap (λ z. totals a (map el z)) (sym e) ∙ q .all;
+        flags = ap (marked (λ k. t) flags) (sym e) ∙ q .marks;
       }
+
+-- ---- both sides
+
+marked-append : (p : ℕ → Bool) (flags : List Bool) (k l : List ℕ) → marked p flags (k ++ l) ≡ marked p (marked p flags k) l
+unfolding marked
+marked-append p flags [] l = refl
+marked-append p flags (r ∷ k) l = marked-append p (set flags r (p r)) k l
+
+marked-alike : (p : ℕ → Bool) (t : Bool) (flags : List Bool) (l : List ℕ) → Every (λ r. p r ≡ t) l → marked (λ k. t) flags l ≡ marked p flags l
+unfolding marked
+marked-alike p t flags [] h = refl
+marked-alike p t flags (r ∷ l) h = ap (λ z. marked (λ k. t) (set flags r z) l) (sym (h .0)) ∙ marked-alike p t (set flags r (p r)) l (h .1)
+
+totals-append : (t : Totals) (k l : Column) → totals t (k ++ l) ≡ totals (totals t k) l
+unfolding totals
+totals-append t [] l = refl
+totals-append t (e ∷ k) l = totals-append (takeIn t (e .target) (e .mass)) k l
+
+module _ (features : ℕ) (values targets weights : List Float) (counts : List ℕ) where
+  abbrev whole : ℕ → Element
+  whole = elementIn features values targets weights counts
+
+  -- totals and counts see nothing of a row's values
+  bare-totals : (t : Totals) (l : List ℕ) → totals t (map (bare targets weights counts) l) ≡ totals t (map whole l)
+  unfolding totals elementIn
+  bare-totals t [] = refl
+  bare-totals t (r ∷ l) = bare-totals (takeIn t (whole r .target) (whole r .mass)) l
+
+  pub bare-tally : (l : List ℕ) → tally (map (bare targets weights counts) l) ≡ tally (map whole l)
+  unfolding total elementIn
+  bare-tally [] = refl
+  bare-tally (r ∷ l) = ap (λ n. whole r .count + n) (bare-tally l)
+
+  bare-side : (l : List ℕ) → sideOn (map (bare targets weights counts) l) ≡ sideOn (map whole l)
+  bare-side l = λ i. record { totals = bare-totals empty l i; count = bare-tally l i }
+
+  module _ (c : Cut) (l : List ℕ) (n : ℕ) (w : Cleft (goes whole c) l) (d : FrontDone (tested features values c) l n) where
+    passes : Every (λ r. goes whole c r ≡ true) (take n l)
+    passes = every-imp _ _ (λ r h. sym (cell-goes features values targets weights counts c r) ∙ h) (take n l) (d .passed)
+
+    fail : Every (λ r. goes whole c r ≡ false) (drop n l)
+    fail = cleft-rest (goes whole c) l n w (λ h. sym (cell-goes features values targets weights counts c (getD l n 0)) ∙ d .stop h)
+
+    pub pass-done : (before between after : List Bool) (y f : Gathered) {k₁ k₂ : List ℕ} {t : Totals} → k₁ ≡ take n l → k₂ ≡ drop n l → t ≡ empty
+        → GatherDone (bare targets weights counts) true t k₁ before between y → GatherDone (bare targets weights counts) false (y .all) k₂ between after f
+        → PassDone whole c l before after (record { yes = y .side; no = f .side; all = f .all; rows = n })
+    pass-done before between after y f {k₁} {k₂} {t} e₁ e₂ et dy df =
+        record {
+          within = d .within;
+          sides = λ i. record { yes = first i; no = second i; all = both i; rows = many i };
+          flags = df .flags ∙ ap (marked (λ k. false) between) e₂ ∙ marked-alike (goes whole c) false between (drop n l) fail
+              ∙ ap (λ z. marked (goes whole c) z (drop n l)) (dy .flags ∙ ap (marked (λ k. true) before) e₁ ∙ marked-alike (goes whole c) true before (take n l) passes)
+              ∙ sym (marked-append (goes whole c) before (take n l) (drop n l)) ∙ ap (marked (goes whole c) before) (take-append-drop n l);
+        }
+      where
+        halves : (keep (goes whole c) l ≡ take n l) × (keep (fails (goes whole c)) l ≡ drop n l)
+        halves = front-keeps (goes whole c) l n passes fail
+
+        first : y .side ≡ sideOn (trueSide c (map whole l))
+        first = dy .side ∙ ap (λ z. sideOn (map (bare targets weights counts) z)) (e₁ ∙ sym (halves .0)) ∙ bare-side (keep (goes whole c) l) ∙ ap sideOn (sym (keep-map (goesTrue c) whole l))
+
+        second : f .side ≡ sideOn (falseSide c (map whole l))
+        second = df .side ∙ ap (λ z. sideOn (map (bare targets weights counts) z)) (e₂ ∙ sym (halves .1)) ∙ bare-side (keep (fails (goes whole c)) l)
+            ∙ ap sideOn (sym (keep-map (λ e. not (goesTrue c e)) whole l))
+
+        both : f .all ≡ totals empty (map whole l)
+        both = df .all ∙ (λ i. totals (dy .all i) (map (bare targets weights counts) (e₂ i))) ∙ (λ i. totals (totals (et i) (map (bare targets weights counts) (e₁ i))) (map (bare targets weights counts) (drop n l)))
+            ∙ sym (totals-append empty (map (bare targets weights counts) (take n l)) (map (bare targets weights counts) (drop n l)))
+            ∙ ap (totals empty) (sym (map-append (bare targets weights counts) (take n l) (drop n l)) ∙ ap (map (bare targets weights counts)) (take-append-drop n l))
+            ∙ bare-totals empty l
+
+        many : n ≡ length (keep (goes whole c) l)
+        many = sym (ap length (halves .0) ∙ (length-take n l ∙ omega (arith, d .within)))
+
+-- ---- a column lent in two
+
+pub lent-front : (l : List ℕ) (n : ℕ) → take (n - 0) l ≡ take n l
+lent-front l n = ap (λ k. take k l) (let e : n - 0 ≡ n = omega arith in e)
+
+pub lent-rest : (l : List ℕ) (n : ℕ) → take (length l - n) (drop n l) ≡ drop n l
+lent-rest l n = take-all (length l - n) (drop n l) (let h : length (drop n l) ≤ length l - n = simp (length-drop) (omega arith) in h)
+
+pub part-asks : {rows features : ℕ} {values targets weights : List Float} {counts : List ℕ} {c : Cut} {l : List ℕ} {flags : ℕ} → PassAsks rows features values targets weights counts c l flags → (n : ℕ)
+    → {k : List ℕ} → (k ≡ take n l) ⊎ (k ≡ drop n l) → GatherAsks rows targets weights counts k flags
+part-asks {rows} {features} {values} {targets} {weights} {counts} {c} {l} {flags} q n {k} h =
+    record { tables = q .shaped .tables; targeted = q .shaped .targeted; below = rows-of k h; count = omega (arith, q .count, less k h, bare-tally features values targets weights counts l); room = q .room }
+  where
+    tallied : List ℕ → ℕ
+    tallied m = tally (map (bare targets weights counts) m)
+
+    both : tallied l ≡ tallied (take n l) + tallied (drop n l)
+    both = ap tallied (sym (take-append-drop n l)) ∙ ap tally (map-append (bare targets weights counts) (take n l) (drop n l)) ∙ total-append _ (map (bare targets weights counts) (take n l)) (map (bare targets weights counts) (drop n l))
+
+    less : (k : List ℕ) → (k ≡ take n l) ⊎ (k ≡ drop n l) → tallied k ≤ tallied l
+    less k (inl e) = omega (arith, both, ap tallied e)
+    less k (inr e) = omega (arith, both, ap tallied e)
+
+    rows-of : (k : List ℕ) → (k ≡ take n l) ⊎ (k ≡ drop n l) → Every (λ r. r < rows) k
+    rows-of k (inl e) = subst (Every (λ r. r < rows)) (sym e) (every-take _ n l (q .below))
+    rows-of k (inr e) = subst (Every (λ r. r < rows)) (sym e) (every-drop _ n l (q .below))

@@ -3,17 +3,20 @@ use Prim.Native.Nat.{ℕ, _+_, _-_, _*_, _<_, _≤_}
 use mathlib.Core.Path.{_≡_}
 use mathlib.Core.Bool.{Bool, true, false}
 use mathlib.Core.List.{List, [], _∷_, map}
-use lib.ListN.{length, set}
-use lib.Ieee.{Float}
+use lib.ListN.{length, getD, set, take}
+use lib.Ieee.{Float, le}
+use Rattle.rules.specs.declared.Totals.{Totals}
 use Rattle.rules.specs.declared.Cut.{Cut}
 use Rattle.rules.specs.Words.{keep, total}
+use Rattle.rules.specs.Lent.{cell}
 use Rattle.rules.specs.Totals.{empty, takeIn}
 use Rattle.rules.specs.Search.{Element, Column, totals, tally, goesTrue, trueSide, falseSide}
 use Rattle.rules.specs.Fit.{elementIn}
 use Rattle.laws.specs.Lists.{Every}
 use Rattle.columns.specs.declared.Side.{Side}
 use Rattle.columns.specs.declared.Sides.{Sides}
-use Rattle.columns.specs.Columns.{part, flagged, Cleft, Counted}
+use Rattle.columns.specs.declared.Gathered.{Gathered}
+use Rattle.columns.specs.Columns.{part, flagged, bare, Cleft, Counted}
 
 -- the tables of a fit, by their lengths
 pub record Shaped (rows features : ℕ) (values targets weights : List Float) (counts : List ℕ) : Type 0 where
@@ -27,23 +30,9 @@ pub record CellAsks (rows features : ℕ) (values : List Float) (j i : ℕ) : Ty
   pub row : i < rows
   pub known : j < features
 
--- no row yet
-abbrev pub none : Sides
-none = record { yes = record { totals = empty; count = 0 }; no = record { totals = empty; count = 0 }; all = empty; rows = 0 }
-
 -- one row more, of target y, mass m and count k
 unfoldable pub joined : Side → Float → Float → ℕ → Side
 joined s y m k = record { totals = takeIn (s .totals) y m; count = s .count + k }
-
--- on the side that the test says
-unfoldable pub sided : Bool → Sides → Float → Float → ℕ → Sides
-sided true s y m k = record { yes = joined (s .yes) y m k; no = s .no; all = takeIn (s .all) y m; rows = s .rows + 1 }
-sided false s y m k = record { yes = s .yes; no = joined (s .no) y m k; all = takeIn (s .all) y m; rows = s .rows }
-
-pub record SidedAsks (s : Sides) (k : ℕ) : Type 0 where
-  pub yes : s .yes .count + k < 4294967296
-  pub no : s .no .count + k < 4294967296
-  pub rows : s .rows + 1 < 4294967296
 
 -- ---- over a stretch
 
@@ -63,6 +52,33 @@ unfoldable pub marked : (ℕ → Bool) → List Bool → List ℕ → List Bool
 marked p flags [] = flags
 marked p flags (r ∷ l) = marked p (set flags r (p r)) l
 
+-- the test in code
+abbrev pub tested : ℕ → List Float → Cut → ℕ → Bool
+tested features values c r = le (cell features values (c .feature) r) (c .threshold)
+
+pub record FrontAsks (rows features : ℕ) (values : List Float) (c : Cut) (col : List ℕ) : Type 0 where
+  pub wide : length values ≡ rows * features
+  pub known : c .feature < features
+  pub below : Every (λ r. r < rows) col
+
+-- n entries pass, and the next does not
+pub record FrontDone (p : ℕ → Bool) (l : List ℕ) (n : ℕ) : Type 0 where
+  pub within : n ≤ length l
+  pub passed : Every (λ r. p r ≡ true) (take n l)
+  pub stop : n < length l → p (getD l n 0) ≡ false
+
+pub record GatherAsks (rows : ℕ) (targets weights : List Float) (counts col : List ℕ) (flags : ℕ) : Type 0 where
+  pub tables : Counted rows weights counts
+  pub targeted : length targets ≡ rows
+  pub below : Every (λ r. r < rows) col
+  pub count : tally (map (bare targets weights counts) col) < 4294967296
+  pub room : rows ≤ flags
+
+pub record GatherDone (el : ℕ → Element) (t : Bool) (start : Totals) (col : List ℕ) (before after : List Bool) (r : Gathered) : Type 0 where
+  pub side : r .side ≡ sideOn (map el col)
+  pub all : r .all ≡ totals start (map el col)
+  pub flags : after ≡ marked (λ k. t) before col
+
 pub record PassAsks (rows features : ℕ) (values targets weights : List Float) (counts : List ℕ) (c : Cut) (col : List ℕ) (flags : ℕ) : Type 0 where
   pub shaped : Shaped rows features values targets weights counts
   pub known : c .feature < features
@@ -70,6 +86,7 @@ pub record PassAsks (rows features : ℕ) (values targets weights : List Float) 
   pub short : length col < 4294967296
   pub count : tally (map (elementIn features values targets weights counts) col) < 4294967296
   pub room : rows ≤ flags
+  pub cleft : Cleft (goes (elementIn features values targets weights counts) c) col
 
 pub record PassDone (el : ℕ → Element) (c : Cut) (col : List ℕ) (before after : List Bool) (s : Sides) : Type 0 where
   pub within : s .rows ≤ length col

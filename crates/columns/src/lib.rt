@@ -2,7 +2,7 @@
 ghost use mathlib.Core.Path.{_≡_};
 ghost use Prim.Native.Nat.{_+_, _≤_, _<_};
 ghost use mathlib.Core.Bool.{false};
-ghost use mathlib.Core.List.{map};
+ghost use mathlib.Core.List.{[], map};
 ghost use lib.ListN.{length, replicate};
 ghost use lib.Seq.{paste};
 ghost use Rattle.rules.specs.Words.{nought, from, keep, total, filled};
@@ -11,7 +11,7 @@ ghost use Rattle.rules.specs.Totals.{empty};
 ghost use Rattle.rules.specs.Search.{totals};
 ghost use Rattle.rules.specs.Fit.{elementIn};
 ghost use Rattle.columns.specs.Columns.{bare, RootAsks, CountAsks, KeptTo, KeepAsks, KeptAll, KeepAllAsks, flagged, partedColumns, Swept, Parted, PartAsks, ColumnsAsk};
-ghost use Rattle.columns.specs.Split.{CellAsks, joined, none, sided, SidedAsks, PassAsks, PassDone, SplitAsks, SplitDone};
+ghost use Rattle.columns.specs.Split.{CellAsks, joined, sideOn, tested, FrontAsks, FrontDone, GatherAsks, GatherDone, PassAsks, PassDone, SplitAsks, SplitDone};
 use rules::Cut;
 use rules::Totals;
 
@@ -27,6 +27,12 @@ pub struct Sides {
     pub no: Side,
     pub all: Totals,
     pub rows: u32,
+}
+
+// A side, and what the whole is with it.
+pub struct Gathered {
+    pub side: Side,
+    pub all: Totals,
 }
 
 // ---- rooms filled with zero, the whole of each
@@ -256,49 +262,60 @@ fn join(s: Side, y: f64, m: f64, k: u32) -> Side
     }
 }
 
-fn no_sides() -> Sides
-    ensures { λ r. ⌜ r ≡ none ⌝ }
+fn no_side() -> Side
+    ensures { λ r. ⌜ r ≡ sideOn [] ⌝ }
 {
-    let t = criterion::no_rows();
-    let side = Side {
-        totals: t,
-        count: 0,
-    };
-    Sides {
-        yes: side,
-        no: side,
-        all: t,
-        rows: 0,
-    }
+    let totals = criterion::no_rows();
+    Side { totals, count: 0 }
 }
 
-fn side_with(t: bool, s: Sides, y: f64, m: f64, k: u32) -> Sides
-    requires { ⌜ SidedAsks s k ⌝ }
-    ensures { λ r. ⌜ r ≡ sided t s y m k ⌝ }
+// How many rows at the front of a column go to the true side.
+fn true_rows(values: &[f64], col: &[u32], rows: usize, features: usize, cut: Cut) -> usize
+    requires { ⌜ FrontAsks rows features (now values) cut (now col) ⌝ }
+    ensures { λ r. ⌜ FrontDone (tested features (now (values .entry)) cut) (now (col .entry)) r ⌝ }
 {
-    let yes = s.yes;
-    let no = s.no;
-    let all = s.all;
-    let more = criterion::take_in(all, y, m);
-    if t {
-        let next = join(yes, y, m, k);
-        return Sides {
-            yes: next,
-            no,
-            all: more,
-            rows: s.rows + 1,
-        };
+    let j = wide(cut.feature);
+    let mut i: usize = 0;
+    while i < col.len() {
+        let x = value_at(values, rows, features, j, wide(col[i]));
+        if x <= cut.threshold {
+            i += 1;
+        } else {
+            return i;
+        }
     }
-    let next = join(no, y, m, k);
-    Sides {
-        yes,
-        no: next,
-        all: more,
-        rows: s.rows,
-    }
+    i
 }
 
-// Along the split column's stretch: each row gets its flag, and its side and the whole take it in.
+// The rows of a column on one side, all flagged t; and the whole, which had `start`, with them.
+fn gather(
+    targets: &[f64],
+    weights: &[f64],
+    counts: &[u32],
+    col: &[u32],
+    flags: &mut [bool],
+    rows: usize,
+    t: bool,
+    start: Totals,
+) -> Gathered
+    requires { ⌜ GatherAsks rows (now targets) (now weights) (now counts) (now col) (length (now flags)) ⌝ }
+    ensures { λ r. ⌜ GatherDone (bare (now (targets .entry)) (now (weights .entry)) (now (counts .entry))) t start (now (col .entry)) (now (flags .entry)) (now (flags .exit)) r ⌝ }
+{
+    let mut side = no_side();
+    let mut all = start;
+    let mut i: usize = 0;
+    while i < col.len() {
+        let row = wide(col[i]);
+        let m = criterion::mass_of(weights, counts, row);
+        side = join(side, targets[row], m, counts[row]);
+        all = criterion::take_in(all, targets[row], m);
+        flags[row] = t;
+        i += 1;
+    }
+    Gathered { side, all }
+}
+
+// Along the split column's stretch, in which the true side stands first: each row gets its flag, and its side and the whole take it in.
 pub fn split_pass(
     values: &[f64],
     targets: &[f64],
@@ -313,19 +330,38 @@ pub fn split_pass(
     requires { ⌜ PassAsks rows features (now values) (now targets) (now weights) (now counts) cut (now col) (length (now flags)) ⌝ }
     ensures { λ r. ⌜ PassDone (elementIn features (now (values .entry)) (now (targets .entry)) (now (weights .entry)) (now (counts .entry))) cut (now (col .entry)) (now (flags .entry)) (now (flags .exit)) r ⌝ }
 {
-    let j = wide(cut.feature);
-    let mut s = no_sides();
-    let mut i: usize = 0;
-    while i < col.len() {
-        let row = wide(col[i]);
-        let x = value_at(values, rows, features, j, row);
-        let t = x <= cut.threshold;
-        let m = criterion::mass_of(weights, counts, row);
-        s = side_with(t, s, targets[row], m, counts[row]);
-        flags[row] = t;
-        i += 1;
+    let n = true_rows(values, col, rows, features, cut);
+    let none = criterion::no_rows();
+    let front = gather(
+        targets,
+        weights,
+        counts,
+        &col[0..n],
+        flags,
+        rows,
+        true,
+        none,
+    );
+    let yes = front.side;
+    let t = front.all;
+    let rest = gather(
+        targets,
+        weights,
+        counts,
+        &col[n..col.len()],
+        flags,
+        rows,
+        false,
+        t,
+    );
+    let no = rest.side;
+    let all = rest.all;
+    Sides {
+        yes,
+        no,
+        all,
+        rows: n as u32,
     }
-    s
 }
 
 // The pass of a node whose rows lie from `start` to `end` of every column.
