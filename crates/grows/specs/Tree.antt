@@ -4,7 +4,7 @@ use native.Mathlib.Nat.{le-refl}
 use native.Mathlib.Omega.{arith}
 use mathlib.Core.Path.{_≡_, refl, sym, ap, _∙_, subst}
 use mathlib.Core.Bool.{_&&_}
-use mathlib.Core.List.{List, [], _∷_, _++_}
+use mathlib.Core.List.{List, [], _∷_, _++_, append-nil}
 use lib.ListN.{length}
 use lib.Dec.{ltb}
 use lib.Ieee.{Float, nan}
@@ -124,10 +124,6 @@ start-none g P W M wholes reals kept q h =
 
 -- ---- the start handed to the loop
 
-app-nil : {A : Type 0} (xs : List A) → xs ++ [] ≡ xs
-app-nil [] = refl
-app-nil (x ∷ xs) = ap (λ z. x ∷ z) (app-nil xs)
-
 root-nodes : (c c′ : Columns) (task : Task) → LongAll 1 c → c′ ≡ putRow 0 (leafRow (task .totals)) c → NodesIn c (leafOf task ∷ []) c′
 unfolding putRow leafOf
 root-nodes c c′ task l e =
@@ -151,7 +147,7 @@ module _ (g : Ground) (P : Params) (W : List ℕ) (M : List Float) (top kept : �
   goes-same : (m : Out (List Waiting × Tapes)) → bind m go ≡ bind (bind m (λ o. ok (put o))) go
   unfolding bind
   goes-same (bad n) = refl
-  goes-same (ok o) = ap (λ z. growAll P (search (tape (P .features)) P) z (record { nodes = leafOf (rootTask g kept q) ∷ []; depth = 0; left = o .1 })) (sym (app-nil (o .0)))
+  goes-same (ok o) = ap (λ z. growAll P (search (tape (P .features)) P) z (record { nodes = leafOf (rootTask g kept q) ∷ []; depth = 0; left = o .1 })) (sym (append-nil (o .0)))
 
   from-start : fromRoot P (search (tape (P .features)) P) (rootTask g kept q) (drawsAt W M unused) ≡ bind (meantStep g W M wholes′ reals′ r) go
   unfolding fromRoot
@@ -168,7 +164,7 @@ module _ (g : Ground) (P : Params) (W : List ℕ) (M : List Float) (top kept : �
     started : (Q : List Waiting → Type 0) → Then (startAsk g P W M kept q) (λ o. Q (o .0)) → Q (stackOf g wholes′ reals′ (s .waiting))
     started Q t =
         subst (λ o. Then o (λ z. Q (z .0))) (d .same ∙ ap (meantStep g W M wholes′ reals′) e)
-        (then-bind (startAsk g P W M kept q) (λ o. ok (put o)) (λ z. Q (z .0)) (then-after (startAsk g P W M kept q) _ _ t (λ o x. subst Q (sym (app-nil (o .0))) x)))
+        (then-bind (startAsk g P W M kept q) (λ o. ok (put o)) (λ z. Q (z .0)) (then-after (startAsk g P W M kept q) _ _ t (λ o x. subst Q (sym (append-nil (o .0))) x)))
 
     pub tree-asks : {sc fl : ℕ} (c : Columns) → g .rows ≤ sc → g .rows ≤ fl → LongAll top c → length wholes′ ≡ rw → length reals′ ≡ rr → GrowAsks g P W top sc fl c wholes′ reals′ at₁
     tree-asks c hs hf hc lw lr =
