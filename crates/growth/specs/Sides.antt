@@ -32,7 +32,7 @@ use Rattle.growth.specs.declared.Step.the-variants.{Goes}
 use Rattle.growth.specs.Rooms.{Ground, cutOf, askedOf, nodeTask, waitingOf, stackOf, BelowTo, searchTwo, Taken, BothAsks, BothDone, SidesDone}
 use Rattle.growth.specs.Steps.{laid-more}
 use Rattle.growth.specs.Both.{onto, chain}
-use Rattle.growth.specs.Frames.{withCols, column-at, task-of, frame, good-alike, good-room, good-asks, part-short, ones-map, rows-of}
+use Rattle.growth.specs.Frames.{withCols, column-at, task-of, frame, good-alike, good-room, good-cleft, good-asks, part-short, ones-map, rows-of}
 
 abbrev pub asked : Side → Asked
 asked s = record { totals = s .totals; count = s .count }
@@ -90,6 +90,7 @@ module _ (g : Ground) (P : Params) (W : List ℕ) (sc : ℕ) (flags : List Bool)
         below = λ k h. part-every (λ r. r < g .rows) (g .rows) k 0 (w .end) (w .start) (w .end) (g .cols) (omega arith) (le-refl (w .end)) (q .order) (q .below k h);
         alike = λ k h. good-alike g P (q .same) (w .start) (w .end) (askedOf w) (q .ripe .good) (w .feature) k known h;
         count = lt-of-le-of-lt (good-room g P (q .same) (w .start) (w .end) (askedOf w) (q .ripe .good) (w .feature) known) m;
+        cleft = good-cleft g P (q .same) (w .start) (w .end) (askedOf w) (q .ripe .good) (cutOf w) known;
       }
 
   pub taken-parts : w .count < 4294967296 → {a e : ℕ} → a ≡ w .start → e ≡ w .end → ColumnsAsk (g .rows) (g .features) a e (g .cols) sc (length flags)
