@@ -19,10 +19,11 @@ use Rattle.laws.specs.Lists.{keep-map}
 use Rattle.laws.specs.Cuts.{Good, side-good}
 use Rattle.columns.specs.declared.Side.{Side}
 use Rattle.columns.specs.declared.Sides.{Sides}
-use Rattle.columns.specs.Columns.{flagged, partedColumns, ColumnsAsk}
-use Rattle.columns.specs.Split.{SplitAsks, SplitDone}
+use Rattle.columns.specs.Columns.{flagged, parted, partedColumns, ColumnsAsk}
+use Rattle.columns.specs.Cleft.{cleft-parted}
+use Rattle.columns.specs.Split.{goes, SplitAsks, SplitDone}
 use Rattle.columns.specs.Stretches.{part-every}
-use Rattle.columns.specs.Halves.{split-long, columns-ask, split-beside, split-every, true-part, false-part}
+use Rattle.columns.specs.Halves.{marked-parted, split-long, columns-ask, split-beside, split-every, true-part, false-part}
 use Rattle.search.specs.declared.Asked.{Asked}
 use Rattle.search.specs.Flat.{elementOf, part, bare, sideOn, drawsAt}
 use Rattle.growth.specs.declared.Wait.{Wait}
@@ -93,12 +94,19 @@ module _ (g : Ground) (P : Params) (W : List ℕ) (sc : ℕ) (flags : List Bool)
         cleft = good-cleft g P (q .same) (w .start) (w .end) (askedOf w) (q .ripe .good) (cutOf w) known;
       }
 
-  pub taken-parts : w .count < 4294967296 → {a e : ℕ} → a ≡ w .start → e ≡ w .end → ColumnsAsk (g .rows) (g .features) a e (g .cols) sc (length flags)
-  taken-parts m ea ee =
-      ends-at (λ u v. ColumnsAsk (g .rows) (g .features) u v (g .cols) sc (length flags)) ea ee
-      (columns-ask (g .rows) (g .features) (w .start) (w .end) (g .tables .x) (g .tables .y) (g .tables .weights) (g .tables .counts) (cutOf w) (g .cols) sc (length flags) (taken-splits m) (q .scratch-room))
-
   module _ (h : Sides) (d : SplitDone (g .rows) (w .start) (w .end) el (cutOf w) (g .cols) flags h) where
+    -- what the partition asks: the split column is parted by the flags as it stands
+    pub taken-parts : w .count < 4294967296 → {a e k : ℕ} → a ≡ w .start → e ≡ w .end → k ≡ w .feature
+        → ColumnsAsk (g .rows) (g .features) a e (g .cols) sc (length flags) × (parted (flagged flags) (part (g .rows) (g .cols) a e k) ≡ part (g .rows) (g .cols) a e k)
+    taken-parts m {a} {e} {k} ea ee ek = (
+      ends-at (λ u v. ColumnsAsk (g .rows) (g .features) u v (g .cols) sc (length flags)) ea ee
+          (columns-ask (g .rows) (g .features) (w .start) (w .end) (g .tables .x) (g .tables .y) (g .tables .weights) (g .tables .counts) (cutOf w) (g .cols) sc (length flags) (taken-splits m) (q .scratch-room)),
+      ap (parted (flagged flags)) there ∙ marked-parted (goes el (cutOf w)) flags rows-of-split rows-of-split (λ f. refl) (d .marks) ∙ cleft-parted (goes el (cutOf w)) rows-of-split (taken-splits m .cleft) ∙ sym there,
+    )
+      where
+        there : part (g .rows) (g .cols) a e k ≡ rows-of-split
+        there i = part (g .rows) (g .cols) (ea i) (ee i) (ek i)
+
     yes-side : asked (h .yes) ≡ sideOn (trueSide (cutOf w) (map el rows-of-split))
     yes-side = ap (λ (z : Sides). asked (z .yes)) (d .sides)
 
