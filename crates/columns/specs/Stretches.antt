@@ -36,6 +36,10 @@ stretch-in a n b m l h =
 
 -- ---- what a change of n entries from a on leaves
 
+changed-not : (a n : ℕ) (g : List ℕ → List ℕ) (l : List ℕ) → g (stretch a n l) ≡ stretch a n l → changed a n g l ≡ l
+unfolding changed
+changed-not a n g l e = ap (λ z. take a l ++ (z ++ drop n (drop a l))) e ∙ ap (λ z. take a l ++ z) (take-append-drop n (drop a l)) ∙ take-append-drop a l
+
 module _ (a n : ℕ) (g : List ℕ → List ℕ) (l : List ℕ) (h : a + n ≤ length l) (y : length (g (stretch a n l)) ≡ n) where
   before-long : length (take a l) ≡ a
   before-long = length-take-le a l (omega arith)
@@ -232,3 +236,14 @@ module _ (rows a e : ℕ) (g : ℕ → List ℕ → List ℕ) (n : ℕ) (cols₀
 
     pub going-rest : part rows k a e cols ≡ part rows k a e cols₀
     going-rest = ap (part rows k a e) (s .so) ∙ in-later rows a e g cols₀ order high k shorter (λ j h. y j (lt-of-lt-of-le h (s .within))) k a e (omega arith) order high
+
+    -- column k would stay as it is, and was passed over
+    pub going-past : k < n → g k (part rows k a e cols₀) ≡ part rows k a e cols₀ → Going rows a e g n cols₀ cols (k + 1)
+    unfolding inColumns
+    going-past h same =
+        record {
+          within = omega arith;
+          so =
+              sym (changed-not (k * rows + a) (e - a) (g k) cols (ap (g k) going-rest ∙ same ∙ sym going-rest))
+              ∙ ap (changed (k * rows + a) (e - a) (g k)) (s .so) ∙ ap (λ z. inColumns rows a e g z cols₀) (sym (add-one k));
+        }

@@ -10,7 +10,7 @@ ghost use Rattle.rules.specs.Lent.{countIn, keptIn, cell};
 ghost use Rattle.rules.specs.Totals.{empty};
 ghost use Rattle.rules.specs.Search.{totals};
 ghost use Rattle.rules.specs.Fit.{elementIn};
-ghost use Rattle.columns.specs.Columns.{bare, RootAsks, CountAsks, KeptTo, KeepAsks, KeptAll, KeepAllAsks, flagged, partedColumns, Swept, Parted, PartAsks, ColumnsAsk};
+ghost use Rattle.columns.specs.Columns.{bare, RootAsks, CountAsks, KeptTo, KeepAsks, KeptAll, KeepAllAsks, part, flagged, parted, partedColumns, Swept, Parted, PartAsks, ColumnsAsk};
 ghost use Rattle.columns.specs.Split.{CellAsks, joined, sideOn, tested, FrontAsks, FrontDone, GatherAsks, GatherDone, PassAsks, PassDone, SplitAsks, SplitDone};
 use rules::Cut;
 use rules::Totals;
@@ -210,7 +210,7 @@ pub fn stable_partition(col: &mut [u32], scratch: &mut [u32], flags: &[bool]) ->
     w
 }
 
-// The rows from `start` to `end` of every column partitioned.
+// The rows from `start` to `end` of every column partitioned. Those of the column `but` are parted as they stand, and are left so.
 pub fn partition_columns(
     cols: &mut [u32],
     rows: usize,
@@ -219,16 +219,20 @@ pub fn partition_columns(
     end: usize,
     scratch: &mut [u32],
     flags: &[bool],
+    but: usize,
 )
     requires { ⌜ ColumnsAsk rows features start end (now cols) (length (now scratch)) (length (now flags)) ⌝ }
+    requires { ⌜ parted (flagged (now flags)) (part rows but start end (now cols)) ≡ part rows but start end (now cols) ⌝ }
     ensures { λ _. ⌜ now (cols .exit) ≡ partedColumns rows start end (flagged (now (flags .entry))) features (now (cols .entry)) ⌝ }
 {
     let mut k: usize = 0;
     while k < features {
-        let base = k * rows;
-        let low = base + start;
-        let high = base + end;
-        stable_partition(&mut cols[low..high], scratch, flags);
+        if k != but {
+            let base = k * rows;
+            let low = base + start;
+            let high = base + end;
+            stable_partition(&mut cols[low..high], scratch, flags);
+        }
         k += 1;
     }
 }

@@ -3,20 +3,23 @@ use Prim.Native.Nat.{ℕ, zero, suc, _+_, _-_, _*_, _<_, _≤_}
 use native.Mathlib.Nat.{le-trans, zero-add}
 use native.Mathlib.Omega.{arith}
 use mathlib.Core.Path.{_≡_, refl, sym, ap, _∙_, subst}
-use mathlib.Core.Bool.{Bool, true}
+use mathlib.Core.Bool.{Bool, true, false, not}
 use mathlib.Core.List.{List, [], _∷_, _++_, map, map-map, append-assoc}
 use lib.ListN.{length, getD, set, length-set, length-append, length-take}
-use lib.Ieee.{Float}
+use lib.Dec.{T}
+use lib.Ieee.{Float, le}
+use Rattle.floats.specs.Order.{stays-out}
 use Rattle.rules.specs.declared.Params.{Params}
 use Rattle.rules.specs.declared.Cut.{Cut}
 use Rattle.rules.specs.Fit.{elementIn}
-use Rattle.rules.specs.Search.{Element, Column, goesTrue, tally, totals, sideOf}
+use Rattle.rules.specs.Search.{Element, Column, at, goesTrue, tally, totals, sideOf}
 use Rattle.rules.specs.Growth.{TreeNode, child}
 use Rattle.rules.specs.Words.{keep, putIf, total, from}
 use Rattle.rules.specs.Totals.{empty}
-use Rattle.laws.specs.Lists.{every-at, every-imp, map-same, keep-map, getD-from, from-below}
-use Rattle.laws.specs.Cuts.{Good}
-use Rattle.columns.specs.Split.{Alike}
+use Rattle.laws.specs.Lists.{is-false, Every, every-at, every-imp, map-same, keep-map, getD-from, from-below}
+use Rattle.laws.specs.Cuts.{Rising, Good}
+use Rattle.columns.specs.Columns.{Cleft}
+use Rattle.columns.specs.Split.{Alike, goes}
 use Rattle.columns.specs.Stretches.{part-every}
 use Rattle.search.specs.declared.Asked.{Asked}
 use Rattle.search.specs.Flat.{Tables, Shaped, elementOf, part, columnsAt, NodeAsks, sideOn}
@@ -89,6 +92,16 @@ unfolding total keep putIf elementIn
 level-sum f t g [] = refl
 level-sum f t g (x ∷ l) = ap (λ n. g x + n) (level-sum f t g l)
 
+-- where values never fall, no row goes true after one that does not
+rising-cleft : (el : ℕ → Element) (c : Cut) (l : List ℕ) → Rising (c .feature) (map el l) → Cleft (goes el c) l
+unfolding goesTrue
+rising-cleft el c [] r = tt
+rising-cleft el c (x ∷ l) r = (λ out. after l (subst (λ b. T (not b)) (sym out) tt) (r .0), rising-cleft el c l (r .1))
+  where
+    after : (l : List ℕ) → T (not (goes el c x)) → Every (λ y. T (le (at (c .feature) (el x)) (at (c .feature) y))) (map el l) → Every (λ k. goes el c k ≡ false) l
+    after [] out h = tt
+    after (y ∷ l) out h = (is-false _ (stays-out (at (c .feature) (el x)) _ _ out (h .0)), after l out (h .1))
+
 module _ (g : Ground) (P : Params) (sm : g .features ≡ P .features) (a e : ℕ) (q : Asked) (gd : Good P (nodeTask g a e q)) where
   pub good-alike : (i j : ℕ) → i < g .features → j < g .features → Alike (part (g .rows) (g .cols) a e i) (part (g .rows) (g .cols) a e j)
   good-alike i j hi hj f =
@@ -100,6 +113,11 @@ module _ (g : Ground) (P : Params) (sm : g .features ≡ P .features) (a e : ℕ
 
   pub good-room : (k : ℕ) → k < g .features → tally (map (elementOf (g .features) (g .tables)) (part (g .rows) (g .cols) a e k)) ≤ q .count
   good-room k h = let n = ap tally (column-at g a e k h) in let c = gd .sound k (subst (λ n. k < n) sm h) .counted in omega (arith, n, c)
+
+  pub good-cleft : (c : Cut) → c .feature < g .features → Cleft (goes (elementOf (g .features) (g .tables)) c) (part (g .rows) (g .cols) a e (c .feature))
+  good-cleft c h =
+      rising-cleft (elementOf (g .features) (g .tables)) c (part (g .rows) (g .cols) a e (c .feature))
+      (subst (Rising (c .feature)) (sym (column-at g a e (c .feature) h)) (gd .sound (c .feature) (subst (λ n. c .feature < n) sm h) .rising))
 
   pub good-asks : Shaped (g .rows) (g .features) (g .tables) → length (g .cols) ≡ g .features * g .rows → (n : ℕ) → e ≤ n → BelowTo g n → a ≤ e → e ≤ g .rows
       → NodeAsks (g .rows) (g .features) a e (g .tables) (g .cols) (q .count)

@@ -19,10 +19,11 @@ use Rattle.laws.specs.Lists.{keep-map}
 use Rattle.laws.specs.Cuts.{Good, side-good}
 use Rattle.columns.specs.declared.Side.{Side}
 use Rattle.columns.specs.declared.Sides.{Sides}
-use Rattle.columns.specs.Columns.{flagged, partedColumns, ColumnsAsk}
-use Rattle.columns.specs.Split.{SplitAsks, SplitDone}
+use Rattle.columns.specs.Columns.{flagged, parted, partedColumns, ColumnsAsk}
+use Rattle.columns.specs.Cleft.{cleft-parted}
+use Rattle.columns.specs.Split.{goes, SplitAsks, SplitDone}
 use Rattle.columns.specs.Stretches.{part-every}
-use Rattle.columns.specs.Halves.{split-long, columns-ask, split-beside, split-every, true-part, false-part}
+use Rattle.columns.specs.Halves.{marked-parted, split-long, columns-ask, split-beside, split-every, true-part, false-part}
 use Rattle.search.specs.declared.Asked.{Asked}
 use Rattle.search.specs.Flat.{elementOf, part, bare, sideOn, drawsAt}
 use Rattle.growth.specs.declared.Wait.{Wait}
@@ -32,7 +33,7 @@ use Rattle.growth.specs.declared.Step.the-variants.{Goes}
 use Rattle.growth.specs.Rooms.{Ground, cutOf, askedOf, nodeTask, waitingOf, stackOf, BelowTo, searchTwo, Taken, BothAsks, BothDone, SidesDone}
 use Rattle.growth.specs.Steps.{laid-more}
 use Rattle.growth.specs.Both.{onto, chain}
-use Rattle.growth.specs.Frames.{withCols, column-at, task-of, frame, good-alike, good-room, good-asks, part-short, ones-map, rows-of}
+use Rattle.growth.specs.Frames.{withCols, column-at, task-of, frame, good-alike, good-room, good-cleft, good-asks, part-short, ones-map, rows-of}
 
 abbrev pub asked : Side → Asked
 asked s = record { totals = s .totals; count = s .count }
@@ -90,14 +91,22 @@ module _ (g : Ground) (P : Params) (W : List ℕ) (sc : ℕ) (flags : List Bool)
         below = λ k h. part-every (λ r. r < g .rows) (g .rows) k 0 (w .end) (w .start) (w .end) (g .cols) (omega arith) (le-refl (w .end)) (q .order) (q .below k h);
         alike = λ k h. good-alike g P (q .same) (w .start) (w .end) (askedOf w) (q .ripe .good) (w .feature) k known h;
         count = lt-of-le-of-lt (good-room g P (q .same) (w .start) (w .end) (askedOf w) (q .ripe .good) (w .feature) known) m;
+        cleft = good-cleft g P (q .same) (w .start) (w .end) (askedOf w) (q .ripe .good) (cutOf w) known;
       }
 
-  pub taken-parts : w .count < 4294967296 → {a e : ℕ} → a ≡ w .start → e ≡ w .end → ColumnsAsk (g .rows) (g .features) a e (g .cols) sc (length flags)
-  taken-parts m ea ee =
-      ends-at (λ u v. ColumnsAsk (g .rows) (g .features) u v (g .cols) sc (length flags)) ea ee
-      (columns-ask (g .rows) (g .features) (w .start) (w .end) (g .tables .x) (g .tables .y) (g .tables .weights) (g .tables .counts) (cutOf w) (g .cols) sc (length flags) (taken-splits m) (q .scratch-room))
-
   module _ (h : Sides) (d : SplitDone (g .rows) (w .start) (w .end) el (cutOf w) (g .cols) flags h) where
+    -- what the partition asks: the split column is parted by the flags as it stands
+    pub taken-parts : w .count < 4294967296 → {a e k : ℕ} → a ≡ w .start → e ≡ w .end → k ≡ w .feature
+        → ColumnsAsk (g .rows) (g .features) a e (g .cols) sc (length flags) × (parted (flagged flags) (part (g .rows) (g .cols) a e k) ≡ part (g .rows) (g .cols) a e k)
+    taken-parts m {a} {e} {k} ea ee ek = (
+      ends-at (λ u v. ColumnsAsk (g .rows) (g .features) u v (g .cols) sc (length flags)) ea ee
+          (columns-ask (g .rows) (g .features) (w .start) (w .end) (g .tables .x) (g .tables .y) (g .tables .weights) (g .tables .counts) (cutOf w) (g .cols) sc (length flags) (taken-splits m) (q .scratch-room)),
+      ap (parted (flagged flags)) there ∙ marked-parted (goes el (cutOf w)) flags rows-of-split rows-of-split (λ f. refl) (d .marks) ∙ cleft-parted (goes el (cutOf w)) rows-of-split (taken-splits m .cleft) ∙ sym there,
+    )
+      where
+        there : part (g .rows) (g .cols) a e k ≡ rows-of-split
+        there i = part (g .rows) (g .cols) (ea i) (ee i) (ek i)
+
     yes-side : asked (h .yes) ≡ sideOn (trueSide (cutOf w) (map el rows-of-split))
     yes-side = ap (λ (z : Sides). asked (z .yes)) (d .sides)
 

@@ -334,6 +334,7 @@ pub fn search_sides(
             search::wide(w.end),
             scratch,
             flags,
+            search::wide(w.feature),
         );
         let mid = w.start + h.rows;
         return search_both(

@@ -1,8 +1,10 @@
--- `columns::partition_columns` meets its contract: after k turns the rows of the first k columns are partitioned, and column k is as it was. Assumes nothing.
+-- `columns::partition_columns` meets its contract: after k turns the rows of the first k columns are parted, and column k is as it was; the column that is passed over is parted as it stands.
+-- Assumes nothing.
 use borrow.Author.Needs.{needs}
 use native.Mathlib.Omega.{arith}
 use mathlib.Core.Path.{_≡_, refl, sym, ap, _∙_, subst}
 use mathlib.Core.Bool.{Bool}
+use mathlib.Core.Logic.{⊎-elim}
 use mathlib.Core.List.{List}
 use Prim.Native.Nat.{ℕ, _≤_, _<_, _-_, _+_, _*_}
 use denote.Ref.{now}
@@ -11,7 +13,7 @@ use Rattle.rules.specs.Words.{stretch}
 use Rattle.laws.specs.Lists.{Every}
 use Rattle.columns.specs.Columns.{part, flagged, parted, ColumnsAsk, PartAsks}
 use Rattle.columns.specs.Fronts.{parted-long}
-use Rattle.columns.specs.Stretches.{column-end, part-long, Keeps, Going, going-start, going-turn, going-done, going-long, going-rest}
+use Rattle.columns.specs.Stretches.{column-end, part-long, Keeps, Going, going-start, going-turn, going-done, going-long, going-rest, going-past}
 use Rattle.columns.proofs.partition_columns.Statement.{statement}
 use Rattle.columns.proofs.partition_columns.Tie as tie
 
@@ -27,8 +29,9 @@ module _ (rows features a e : ℕ) (flags : List Bool) (cols₀ cols : List ℕ)
   long : length cols ≡ length cols₀
   long = going-long rows a e (way flags) features cols₀ (q .order) (q .high) (q .long) (keeps flags features (e - a)) cols k s
 
-  ends : k < features → (k * rows + rows ≤ length cols₀) × (length cols ≡ length cols₀)
-  ends h = (omega (arith, column-end rows features k h, q .long), long)
+  -- the stretch lies in the columns, whose bytes fit
+  ends : k < features → length cols₀ * 4 < 9223372036854775808 → (k * rows + e ≤ length cols) × (length cols * 4 < 9223372036854775808) × (a ≤ e)
+  ends h m = (omega (arith, column-end rows features k h, q .long, q .high, long), omega (arith, long), q .order)
 
   wide : k * rows + e - (k * rows + a) ≡ e - a
   wide = omega arith
@@ -42,49 +45,55 @@ module _ (rows features a e : ℕ) (flags : List Bool) (cols₀ cols : List ℕ)
         below = subst (Every (λ r. r < length flags)) (sym same) (q .below k h);
       }
 
+  -- column k is the one that is parted as it stands
+  past : k < features → {but : ℕ} → k ≡ but → parted (flagged flags) (part rows but a e cols₀) ≡ part rows but a e cols₀ → Going rows a e (way flags) features cols₀ cols (k + 1)
+  past h is p = going-past rows a e (way flags) features cols₀ (q .order) (q .high) (q .long) (keeps flags features (e - a)) cols k s h (rw is p)
+
 abbrev Inv-loop : tie.InvT-loop
-Inv-loop cols₀ rows features start end scratch₀ flags k₀ cols scratch k = Going rows start end (way flags) features cols₀ cols k × (length scratch ≡ length scratch₀)
+Inv-loop cols₀ rows features start end scratch₀ flags but k₀ cols scratch k = Going rows start end (way flags) features cols₀ cols k × (length scratch ≡ length scratch₀)
 
 abbrev μ-loop : tie.MeasureT-loop
-μ-loop cols₀ rows features start end scratch₀ flags k₀ cols scratch k = features - k
+μ-loop cols₀ rows features start end scratch₀ flags but k₀ cols scratch k = features - k
 
 abbrev from : tie.In-loop Inv-loop μ-loop → tie.Start Inv-loop μ-loop
 from c = c .before .before .before .before .before
 
-room : (c : tie.In-loop Inv-loop μ-loop) → (c .before .loop .k * from c .args .rows + from c .args .rows ≤ length (now (from c .args .cols))) × (length (c .before .loop .cols) ≡ length (now (from c .args .cols)))
+room : (c : tie.Then1 Inv-loop μ-loop) → let b = c .before in let a = from b .args in let l = b .before .loop in
+    (l .k * a .rows + a .end ≤ length (l .cols)) × (length (l .cols) * 4 < 9223372036854775808) × (a .start ≤ a .end)
 room c =
-    let a = from c .args in
-    ends (a .rows) (a .features) (a .start) (a .end) (now (a .flags)) (now (a .cols)) _ _ (c .before .loop .k) (from c .pre) (c .before .loop .inv .0) (c .loop-test .taken)
+    let b = c .before in
+    let a = from b .args in
+    ends (a .rows) (a .features) (a .start) (a .end) (now (a .flags)) (now (a .cols)) _ _ (b .before .loop .k) (from b .pre .0) (b .before .loop .inv .0) (b .loop-test .taken) (from b .good .0 .1)
 
 loop-holds : tie.Need-loop-holds Inv-loop μ-loop
 loop-holds c = (going-start _ _ _ _ _ _, refl)
 
 mul-base : tie.Need-mul-base Inv-loop μ-loop
-mul-base c = omega (arith, room c .0, room c .1, from c .good .0 .0, from c .good .0 .1, from c .pre .order, from c .pre .high)
+mul-base c = let r = room c in search needs
 
 add-low : tie.Need-add-low Inv-loop μ-loop
-add-low c = omega (arith, room c .0, room c .1, from c .good .0 .0, from c .good .0 .1, from c .pre .order, from c .pre .high)
+add-low c = let r = room c in search needs
 
 add-high : tie.Need-add-high Inv-loop μ-loop
-add-high c = omega (arith, room c .0, room c .1, from c .good .0 .0, from c .good .0 .1, from c .pre .order, from c .pre .high)
+add-high c = let r = room c in search needs
 
 mul-stable-partition : tie.Need-mul-stable-partition Inv-loop μ-loop
-mul-stable-partition c = omega (arith, room c .0, room c .1, from c .good .0 .0, from c .good .0 .1, from c .pre .order, from c .pre .high)
+mul-stable-partition c = let r = room c in search needs
 
 sub-stable-partition : tie.Need-sub-stable-partition Inv-loop μ-loop
-sub-stable-partition c = omega (arith, room c .0, room c .1, from c .good .0 .0, from c .good .0 .1, from c .pre .order, from c .pre .high)
+sub-stable-partition c = let r = room c in search needs
 
 part-stable-partition-start : tie.Need-part-stable-partition-start Inv-loop μ-loop
-part-stable-partition-start c = omega (arith, room c .0, room c .1, from c .good .0 .0, from c .good .0 .1, from c .pre .order, from c .pre .high)
+part-stable-partition-start c = let r = room c in search needs
 
 part-stable-partition-end : tie.Need-part-stable-partition-end Inv-loop μ-loop
-part-stable-partition-end c = omega (arith, room c .0, room c .1, from c .good .0 .0, from c .good .0 .1, from c .pre .order, from c .pre .high)
+part-stable-partition-end c = let r = room c in search needs
 
 stable-partition-requires : tie.Need-stable-partition-requires Inv-loop μ-loop
 stable-partition-requires c κs =
-    let b = c .before .before in
+    let b = c .before .before .before in
     let a = from b .args in
-    asks (a .rows) (a .features) (a .start) (a .end) (now (a .flags)) (now (a .cols)) _ _ (b .before .loop .k) (from b .pre) (b .before .loop .inv .0) (b .loop-test .taken) (b .before .loop .inv .1)
+    asks (a .rows) (a .features) (a .start) (a .end) (now (a .flags)) (now (a .cols)) _ _ (b .before .loop .k) (from b .pre .0) (b .before .loop .inv .0) (b .loop-test .taken) (b .before .loop .inv .1)
 
 add-k : tie.Need-add-k Inv-loop μ-loop
 add-k c = search needs
@@ -94,18 +103,25 @@ loop-less c = search needs
 
 loop-again : tie.Need-loop-again Inv-loop μ-loop
 loop-again c =
-    let p = c .before .before .before .before .stable-partition in
-    let b = c .before .before .before .before .before .before .before in
+    let b = c .before in
     let a = from b .args in
-    let low = b .before .loop .k * a .rows + a .start in (
-      going-turn (a .rows) (a .start) (a .end) (way (now (a .flags))) (a .features) (now (a .cols)) (b .before .loop .cols) (p .last .0) (b .before .loop .k) low (b .before .loop .k * a .rows + a .end - low) (b .before .loop .inv .0) (b .loop-test .taken) refl (omega arith) (p .ensures .parts),
-      p .kept .1 .0 ∙ b .before .loop .inv .1,
-    )
+    let l = b .before .loop in
+    let low = l .k * a .rows + a .start in
+    ⊎-elim
+    (λ u. (
+      rw (u .8) (going-turn (a .rows) (a .start) (a .end) (way (now (a .flags))) (a .features) (now (a .cols)) (l .cols) (u .3 .last .0) (l .k) low (l .k * a .rows + a .end - low) (l .inv .0) (b .loop-test .taken) refl (omega arith) (u .3 .ensures .parts)),
+      ap length (u .9) ∙ u .3 .kept .1 .0 ∙ l .inv .1,
+    ))
+    (λ u. (
+      rw (u .1) (past (a .rows) (a .features) (a .start) (a .end) (now (a .flags)) (now (a .cols)) (l .cols) _ (l .k) (from b .pre .0) (l .inv .0) (b .loop-test .taken) (u .0 .left) (from b .pre .1)),
+      ap length (u .2) ∙ l .inv .1,
+    ))
+    (c .if1 .came)
 
 same-length : tie.Need-same-length Inv-loop μ-loop
 same-length c =
     let a = c .before .before .before .before .before .args in
-    long (a .rows) (a .features) (a .start) (a .end) (now (a .flags)) (now (a .cols)) _ _ (c .before .loop .k) (c .before .before .before .before .before .pre) (c .before .loop .inv .0)
+    long (a .rows) (a .features) (a .start) (a .end) (now (a .flags)) (now (a .cols)) _ _ (c .before .loop .k) (c .before .before .before .before .before .pre .0) (c .before .loop .inv .0)
 
 same-length-2 : tie.Need-same-length-2 Inv-loop μ-loop
 same-length-2 c = search needs

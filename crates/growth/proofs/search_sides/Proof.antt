@@ -11,6 +11,12 @@ use Rattle.growth.proofs.search_sides.Tie as tie
 few : (c : tie.Start) → c .args .w .count < 4294967296
 few c = c .good .1 .1 .1 .1 .1 .1 .1 .1 .1 .1 .1 .1 .1 .1 .0 .1 .1 .1 .1 .1 .1 .0 .1
 
+abbrev from : tie.After-either-searched → tie.Start
+from c = c .before .before .before .before .before .before .before .before .before .before .before .before .before .before .before
+
+abbrev from-parts : tie.After-wide3 → tie.Start
+from-parts c = from (c .before .before .before .before .before .before)
+
 add-l : tie.Need-add-l
 add-l c = search needs
 
@@ -23,18 +29,22 @@ wide-requires c κs = search needs
 wide-requires-2 : tie.Need-wide-requires-2
 wide-requires-2 c κs = search needs
 
+wide-requires-3 : tie.Need-wide-requires-3
+wide-requires-3 c κs = search needs
+
 partition-columns-requires : tie.Need-partition-columns-requires
 partition-columns-requires c κs =
-    let b = c .before .before .before .before .before .before .before .before .before .before .before .before .before .before .before .before .before .before .before .before in
-    taken-parts _ _ _ _ (now (b .args .flags)) _ _ _ _ _ (b .pre .taken) (few b) (c .before .before .wide .ensures) (c .before .wide2 .ensures)
+    let b = from-parts c in
+    taken-parts _ _ _ _ (now (b .args .flags)) _ _ _ _ _ (b .pre .taken) _ (b .pre .split) (few b) (c .before .before .before .wide .ensures) (c .before .before .wide2 .ensures) (c .wide3 .ensures)
 
 add-mid : tie.Need-add-mid
-add-mid c = let b = c .before .before .before .before .before .before .before .before .before .before .before .before .before .before .before .before .before .before .before .before .before .before .before .before .before .before .before in omega (arith, sides-fit _ _ _ _ (now (b .args .flags)) _ _ _ _ _ (b .pre .taken) _ (b .pre .split), b .pre .taken .high, b .pre .taken .small)
+add-mid c = let b = from-parts (c .before .before .before .before .before .before .before) in omega (arith, sides-fit _ _ _ _ (now (b .args .flags)) _ _ _ _ _ (b .pre .taken) _ (b .pre .split), b .pre .taken .high, b .pre .taken .small)
 
 search-both-requires : tie.Need-search-both-requires
 search-both-requires c κs =
-    let b = c .before .before .before .before .before .before .before .before .before .before .before .before .before .before .before .before .before .before .before .before .before .before .before .before .before .before .before .before .before .before in
-    both-asks _ _ _ _ (now (b .args .flags)) _ _ _ _ _ (b .pre .taken) _ (b .pre .split) (few b) _ (c .before .before .before .before .before .before .before .before .before .before .before .before .wide .ensures) (c .before .before .before .before .before .before .before .before .before .before .before .wide2 .ensures) (c .before .before .before .before .before .before .before .before .before .partition-columns .ensures)
+    let p = c .before .before .before .before .before .before .before .before .before in
+    let b = from-parts (p .before) in
+    both-asks _ _ _ _ (now (b .args .flags)) _ _ _ _ _ (b .pre .taken) _ (b .pre .split) (few b) _ (p .before .before .before .before .wide .ensures) (p .before .before .before .wide2 .ensures) (p .partition-columns .ensures)
 
 same-length : tie.Need-same-length
 same-length c = search needs
@@ -50,12 +60,13 @@ same-length-4 c = search needs
 
 returns : tie.Need-returns
 returns c =
-    let b = c .before .before .before .before .before .before .before .before .before .before .before .before .before .before .before .before .before .before .before .before .before .before .before .before .before .before .before .before .before .before .before .before .before in
-    sides-both _ _ _ _ (now (b .args .flags)) _ _ _ _ _ (b .pre .taken) _ (b .pre .split) (few b) _ (c .before .before .before .before .before .before .before .before .before .before .before .before .before .before .before .wide .ensures) (c .before .before .before .before .before .before .before .before .before .before .before .before .before .before .wide2 .ensures) (c .before .before .before .before .before .before .before .before .before .before .before .before .partition-columns .ensures) _ _ _ _ (c .before .before .search-both .ensures)
+    let p = c .before .before .before .before .before .before .before .before .before .before .before .before in
+    let b = from-parts (p .before) in
+    sides-both _ _ _ _ (now (b .args .flags)) _ _ _ _ _ (b .pre .taken) _ (b .pre .split) (few b) _ (p .before .before .before .before .wide .ensures) (p .before .before .before .wide2 .ensures) (p .partition-columns .ensures) _ _ _ _ (c .before .before .search-both .ensures)
 
 returns-2 : tie.Need-returns-2
 returns-2 c =
-    let b = c .before .before .before .before .before .before .before .before .before .before .before .before .before .before .before .before in
+    let b = from (c .before) in
     sides-skip _ _ _ _ (now (b .args .flags)) _ _ _ _ _ (b .pre .taken) _ (b .pre .split) _ (sym (c .before .either-searched .ensures) ∙ c .if1 .left)
 
 pub search-sides-spec : {M : Type 1} → statement M
@@ -66,6 +77,7 @@ search-sides-spec =
     either-searched-requires
     wide-requires
     wide-requires-2
+    wide-requires-3
     partition-columns-requires
     add-mid
     search-both-requires
