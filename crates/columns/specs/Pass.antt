@@ -18,10 +18,11 @@ use Rattle.rules.specs.Totals.{empty, takeIn}
 use Rattle.rules.specs.Search.{Element, Column, at, totals, tally, goesTrue, trueSide, falseSide}
 use Rattle.rules.specs.Fit.{elementIn}
 use Rattle.laws.specs.Lists.{Every, every-imp, every-append, every-take, every-drop, keep-map, total-append}
-use Rattle.columns.specs.declared.Side.{Side}
+use Rattle.criterion.specs.declared.Side.{Side}
+use Rattle.criterion.specs.Sides.{sideOn, joined}
 use Rattle.columns.specs.declared.Gathered.{Gathered}
 use Rattle.columns.specs.Columns.{bare, fails, Cleft}
-use Rattle.columns.specs.Split.{CellAsks, joined, goes, sideOn, marked, tested, FrontDone, GatherAsks, GatherDone, PassAsks, PassDone}
+use Rattle.columns.specs.Split.{CellAsks, goes, marked, tested, FrontDone, GatherAsks, GatherDone, PassAsks, PassDone}
 use Rattle.columns.specs.Cleft.{cleft-rest, front-keeps}
 
 -- ---- a row's value

@@ -9,11 +9,11 @@ use Rattle.rules.specs.declared.Totals.{Totals}
 use Rattle.rules.specs.declared.Cut.{Cut}
 use Rattle.rules.specs.Words.{keep, total}
 use Rattle.rules.specs.Lent.{cell}
-use Rattle.rules.specs.Totals.{empty, takeIn}
+use Rattle.rules.specs.Totals.{empty}
 use Rattle.rules.specs.Search.{Element, Column, totals, tally, goesTrue, trueSide, falseSide}
 use Rattle.rules.specs.Fit.{elementIn}
 use Rattle.laws.specs.Lists.{Every}
-use Rattle.columns.specs.declared.Side.{Side}
+use Rattle.criterion.specs.Sides.{sideOn}
 use Rattle.columns.specs.declared.Sides.{Sides}
 use Rattle.columns.specs.declared.Gathered.{Gathered}
 use Rattle.columns.specs.Columns.{part, flagged, bare, Cleft, Counted}
@@ -30,18 +30,11 @@ pub record CellAsks (rows features : ℕ) (values : List Float) (j i : ℕ) : Ty
   pub row : i < rows
   pub known : j < features
 
--- one row more, of target y, mass m and count k
-unfoldable pub joined : Side → Float → Float → ℕ → Side
-joined s y m k = record { totals = takeIn (s .totals) y m; count = s .count + k }
-
 -- ---- over a stretch
 
 -- whether row r goes to the true side
 abbrev pub goes : (ℕ → Element) → Cut → ℕ → Bool
 goes el c r = goesTrue c (el r)
-
-abbrev pub sideOn : Column → Side
-sideOn es = record { totals = totals empty es; count = tally es }
 
 abbrev pub sidesOf : (ℕ → Element) → Cut → List ℕ → Sides
 sidesOf el c l =

@@ -2,7 +2,7 @@
 ghost use mathlib.Core.Path.{_≡_};
 ghost use Prim.Native.Nat.{_+_, _≤_, _<_};
 ghost use mathlib.Core.Bool.{false};
-ghost use mathlib.Core.List.{[], map};
+ghost use mathlib.Core.List.{map};
 ghost use lib.ListN.{length, replicate};
 ghost use lib.Seq.{paste};
 ghost use Rattle.rules.specs.Words.{nought, from, keep, total, filled};
@@ -11,15 +11,10 @@ ghost use Rattle.rules.specs.Totals.{empty};
 ghost use Rattle.rules.specs.Search.{totals};
 ghost use Rattle.rules.specs.Fit.{elementIn};
 ghost use Rattle.columns.specs.Columns.{bare, RootAsks, CountAsks, KeptTo, KeepAsks, KeptAll, KeepAllAsks, part, flagged, parted, partedColumns, Swept, Parted, PartAsks, ColumnsAsk};
-ghost use Rattle.columns.specs.Split.{CellAsks, joined, sideOn, tested, FrontAsks, FrontDone, GatherAsks, GatherDone, PassAsks, PassDone, SplitAsks, SplitDone};
+ghost use Rattle.columns.specs.Split.{CellAsks, tested, FrontAsks, FrontDone, GatherAsks, GatherDone, PassAsks, PassDone, SplitAsks, SplitDone};
+use criterion::Side;
 use rules::Cut;
 use rules::Totals;
-
-// A side's totals and count.
-pub struct Side {
-    pub totals: Totals,
-    pub count: u32,
-}
 
 // The true side and the false one, the whole node's totals, and how many rows the true side has.
 pub struct Sides {
@@ -239,12 +234,6 @@ pub fn partition_columns(
 
 // ---- the split pass
 
-fn wide(x: u32) -> usize
-    ensures { λ r. ⌜ r ≡ x ⌝ }
-{
-    x as usize
-}
-
 // Row i's value of feature j.
 pub fn value_at(values: &[f64], rows: usize, features: usize, j: usize, i: usize) -> f64
     requires { ⌜ CellAsks rows features (now values) j i ⌝ }
@@ -254,34 +243,15 @@ pub fn value_at(values: &[f64], rows: usize, features: usize, j: usize, i: usize
     values[base + j]
 }
 
-fn join(s: Side, y: f64, m: f64, k: u32) -> Side
-    requires { ⌜ s .count + k < 4294967296 ⌝ }
-    ensures { λ r. ⌜ r ≡ joined s y m k ⌝ }
-{
-    let t = s.totals;
-    let more = criterion::take_in(t, y, m);
-    Side {
-        totals: more,
-        count: s.count + k,
-    }
-}
-
-fn no_side() -> Side
-    ensures { λ r. ⌜ r ≡ sideOn [] ⌝ }
-{
-    let totals = criterion::no_rows();
-    Side { totals, count: 0 }
-}
-
 // How many rows at the front of a column go to the true side.
 fn true_rows(values: &[f64], col: &[u32], rows: usize, features: usize, cut: Cut) -> usize
     requires { ⌜ FrontAsks rows features (now values) cut (now col) ⌝ }
     ensures { λ r. ⌜ FrontDone (tested features (now (values .entry)) cut) (now (col .entry)) r ⌝ }
 {
-    let j = wide(cut.feature);
+    let j = criterion::wide(cut.feature);
     let mut i: usize = 0;
     while i < col.len() {
-        let x = value_at(values, rows, features, j, wide(col[i]));
+        let x = value_at(values, rows, features, j, criterion::wide(col[i]));
         if x <= cut.threshold {
             i += 1;
         } else {
@@ -305,13 +275,13 @@ fn gather(
     requires { ⌜ GatherAsks rows (now targets) (now weights) (now counts) (now col) (length (now flags)) ⌝ }
     ensures { λ r. ⌜ GatherDone (bare (now (targets .entry)) (now (weights .entry)) (now (counts .entry))) t start (now (col .entry)) (now (flags .entry)) (now (flags .exit)) r ⌝ }
 {
-    let mut side = no_side();
+    let mut side = criterion::no_side();
     let mut all = start;
     let mut i: usize = 0;
     while i < col.len() {
-        let row = wide(col[i]);
+        let row = criterion::wide(col[i]);
         let m = criterion::mass_of(weights, counts, row);
-        side = join(side, targets[row], m, counts[row]);
+        side = criterion::join(side, targets[row], m, counts[row]);
         all = criterion::take_in(all, targets[row], m);
         flags[row] = t;
         i += 1;
@@ -385,7 +355,7 @@ pub fn split_sides(
     requires { ⌜ SplitAsks rows features start end (now values) (now targets) (now weights) (now counts) cut (now cols) (length (now flags)) ⌝ }
     ensures { λ r. ⌜ SplitDone rows start end (elementIn features (now (values .entry)) (now (targets .entry)) (now (weights .entry)) (now (counts .entry))) cut (now (cols .entry)) (now (flags .exit)) r ⌝ }
 {
-    let j = wide(cut.feature);
+    let j = criterion::wide(cut.feature);
     let base = j * rows;
     let low = base + start;
     let high = base + end;

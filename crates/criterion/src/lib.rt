@@ -1,6 +1,7 @@
 // Totals and scores, the threshold between two values, and the numbers that they are made of (criterion.rs).
 ghost use mathlib.Core.Path.{_≡_};
-ghost use Prim.Native.Nat.{_≤_};
+ghost use mathlib.Core.List.{[]};
+ghost use Prim.Native.Nat.{_+_, _<_, _≤_};
 ghost use lib.Ieee.Scale.{finite};
 ghost use Rattle.rules.specs.Words.{float};
 ghost use Rattle.rules.specs.Lent.{massIn, keptIn};
@@ -10,10 +11,17 @@ ghost use Rattle.rules.specs.Search.{better};
 ghost use Rattle.rules.specs.Forest.{triedOf};
 ghost use Rattle.rules.specs.declared.Tried.the-variants.{Unsaid};
 ghost use Rattle.criterion.specs.Bounds.{Between, Weighed};
+ghost use Rattle.criterion.specs.Sides.{sideOn, joined};
 use rules::Cut;
 use rules::Held;
 use rules::Totals;
 use rules::Tried;
+
+// The rows of a node, or of one side of a cut: their totals, and the sum of their counts.
+pub struct Side {
+    pub totals: Totals,
+    pub count: u32,
+}
 
 pub fn no_rows() -> Totals
     ensures { λ r. ⌜ r ≡ empty ⌝ }
@@ -30,6 +38,25 @@ pub fn take_in(t: Totals, y: f64, m: f64) -> Totals
     Totals {
         sum: t.sum + y * m,
         mass: t.mass + m,
+    }
+}
+
+pub fn no_side() -> Side
+    ensures { λ r. ⌜ r ≡ sideOn [] ⌝ }
+{
+    let totals = no_rows();
+    Side { totals, count: 0 }
+}
+
+pub fn join(s: Side, y: f64, m: f64, k: u32) -> Side
+    requires { ⌜ s .count + k < 4294967296 ⌝ }
+    ensures { λ r. ⌜ r ≡ joined s y m k ⌝ }
+{
+    let t = s.totals;
+    let more = take_in(t, y, m);
+    Side {
+        totals: more,
+        count: s.count + k,
     }
 }
 
@@ -164,4 +191,10 @@ pub fn tried_of(features: u32, tried: Tried) -> u32
         Tried::Unsaid => root_of(features),
         Tried::Number(n) => n,
     }
+}
+
+pub fn wide(x: u32) -> usize
+    ensures { λ r. ⌜ r ≡ x ⌝ }
+{
+    x as usize
 }

@@ -20,7 +20,7 @@ use Rattle.laws.specs.Lists.{Every, every-imp}
 use Rattle.laws.specs.Stack.{root-level}
 use Rattle.laws.specs.Room.{load, rowsOf, searchIf-load}
 use Rattle.laws.specs.Cuts.{search-fine, tape-fair, Good, Ripe}
-use Rattle.search.specs.declared.Asked.{Asked}
+use Rattle.criterion.specs.declared.Side.{Side}
 use Rattle.search.specs.declared.Drawn.{Drawn}
 use Rattle.search.specs.Flat.{Shaped, drawsAt, Fair}
 use Rattle.growth.specs.declared.Stand.{Stand}
@@ -42,10 +42,10 @@ unused = record { words = 0; thresholds = 0; searches = 0 }
 abbrev pub outset : Stand
 outset = record { waiting = 0; drawn = unused }
 
-abbrev pub rootTask : Ground → ℕ → Asked → Task
+abbrev pub rootTask : Ground → ℕ → Side → Task
 rootTask g kept q = nodeTask g 0 kept q
 
-pub record TreeAsks (g : Ground) (P : Params) (top kept : ℕ) (q : Asked) (wholes reals : ℕ) : Type 0 where
+pub record TreeAsks (g : Ground) (P : Params) (top kept : ℕ) (q : Side) (wholes reals : ℕ) : Type 0 where
   pub shape : Shaped (g .rows) (g .features) (g .tables)
   pub small : g .rows < 4294967296
   pub rows : 0 < g .rows
@@ -62,11 +62,11 @@ pub record TreeAsks (g : Ground) (P : Params) (top kept : ℕ) (q : Asked) (whol
   pub enough : 1 + 2 * (rowsOf (rootTask g kept q) - 1) ≤ top
   pub node-small : top < 4294967296
 
-abbrev pub startAsk : Ground → Params → List ℕ → List Float → ℕ → Asked → Out (List Waiting × Tapes)
+abbrev pub startAsk : Ground → Params → List ℕ → List Float → ℕ → Side → Out (List Waiting × Tapes)
 startAsk g P W M kept q =
     searchIf P (search (tape (P .features)) P) (ltb 0 (q .count) && searchable P 1 (rootTask g kept q)) 0 1 (rootTask g kept q) (drawsAt W M unused)
 
-pub record StartDone (g : Ground) (P : Params) (W : List ℕ) (M : List Float) (wholes′ : List (List ℕ)) (reals′ : List (List Float)) (kept : ℕ) (q : Asked) (r : Step) : Type 0 where
+pub record StartDone (g : Ground) (P : Params) (W : List ℕ) (M : List Float) (wholes′ : List (List ℕ)) (reals′ : List (List Float)) (kept : ℕ) (q : Side) (r : Step) : Type 0 where
   pub same : bind (startAsk g P W M kept q) (λ o. ok (o .0 ++ [], o .1)) ≡ meantStep g W M wholes′ reals′ r
   pub laid : LaidStep wholes′ reals′ kept r
   pub fair : FairStep W r
@@ -83,14 +83,14 @@ abbrev pub Answers : List ℕ → List Float → Columns → Columns → Out (St
 Answers W M c c′ o (U.Refused k) = o ≡ bad k
 Answers W M c c′ o (U.Goes at) = Grew W M c c′ o at
 
-pub record TreeDone (g : Ground) (P : Params) (W : List ℕ) (M : List Float) (c c′ : Columns) (kept : ℕ) (q : Asked) (r : Turned) : Type 0 where
+pub record TreeDone (g : Ground) (P : Params) (W : List ℕ) (M : List Float) (c c′ : Columns) (kept : ℕ) (q : Side) (r : Turned) : Type 0 where
   pub grown : Answers W M c c′ (fromRoot P (search (tape (P .features)) P) (rootTask g kept q) (record { words = W; thresholds = M; searches = 0 })) r
 
 grown-answers : (W : List ℕ) (M : List Float) (c c′ : Columns) (o : Out (State Tapes)) (t : Turned) → GrownTo W M c c′ o t → Answers W M c c′ o t
 grown-answers W M c c′ o (U.Refused k) h = h
 grown-answers W M c c′ o (U.Goes at) h = record { nodes = h .0; same = h .1; count = h .2; written = nodes-written c c′ (h .0) (h .3); fair = h .4 }
 
-module _ (g : Ground) (P : Params) (top kept : ℕ) (q : Asked) (rw rr : ℕ) (h : TreeAsks g P top kept q rw rr) where
+module _ (g : Ground) (P : Params) (top kept : ℕ) (q : Side) (rw rr : ℕ) (h : TreeAsks g P top kept q rw rr) where
   pub start-asks : (W : List ℕ) → ChildAsks g P W 0 kept q outset rw rr
   start-asks W =
       let a = h .rows in let b = h .whole-room in let d = h .real-room in
@@ -104,7 +104,7 @@ module _ (g : Ground) (P : Params) (top kept : ℕ) (q : Asked) (rw rr : ℕ) (h
         reals = omega (arith, a, d);
       }
 
-pub start-some : (g : Ground) (P : Params) (W : List ℕ) (M : List Float) (wholes : List (List ℕ)) (reals : List (List Float)) (wholes′ : List (List ℕ)) (reals′ : List (List Float)) (kept : ℕ) (q : Asked) (r : Step)
+pub start-some : (g : Ground) (P : Params) (W : List ℕ) (M : List Float) (wholes : List (List ℕ)) (reals : List (List Float)) (wholes′ : List (List ℕ)) (reals′ : List (List Float)) (kept : ℕ) (q : Side) (r : Step)
     → 0 < q .count → ChildDone g P W M wholes reals wholes′ reals′ 0 1 0 kept q outset r → StartDone g P W M wholes′ reals′ kept q r
 start-some g P W M wholes reals wholes′ reals′ kept q r h d =
     record {
@@ -113,7 +113,7 @@ start-some g P W M wholes reals wholes′ reals′ kept q r h d =
       fair = d .fair;
     }
 
-pub start-none : (g : Ground) (P : Params) (W : List ℕ) (M : List Float) (wholes : List (List ℕ)) (reals : List (List Float)) (kept : ℕ) (q : Asked) → q .count ≤ 0 → StartDone g P W M wholes reals kept q (Goes outset)
+pub start-none : (g : Ground) (P : Params) (W : List ℕ) (M : List Float) (wholes : List (List ℕ)) (reals : List (List Float)) (kept : ℕ) (q : Side) → q .count ≤ 0 → StartDone g P W M wholes reals kept q (Goes outset)
 unfolding searchIf bind
 start-none g P W M wholes reals kept q h =
     record {
@@ -136,7 +136,7 @@ root-nodes c c′ task l e =
       no = ap (λ (z : Columns). z .falseChild) e ∙ add-node (λ n. rowFor n .falseChild) [] (c .falseChild) 0 (leafOf task) (l .no);
     }
 
-module _ (g : Ground) (P : Params) (W : List ℕ) (M : List Float) (top kept : ℕ) (q : Asked) (rw rr : ℕ) (h : TreeAsks g P top kept q rw rr) (wholes′ : List (List ℕ)) (reals′ : List (List Float)) (r : Step)
+module _ (g : Ground) (P : Params) (W : List ℕ) (M : List Float) (top kept : ℕ) (q : Side) (rw rr : ℕ) (h : TreeAsks g P top kept q rw rr) (wholes′ : List (List ℕ)) (reals′ : List (List Float)) (r : Step)
     (d : StartDone g P W M wholes′ reals′ kept q r) where
   abbrev put : List Waiting × Tapes → List Waiting × Tapes
   put o = (o .0 ++ [], o .1)

@@ -14,7 +14,7 @@ use Rattle.rules.specs.Draws.{Out, bad, ok, bind, Tapes, tape}
 use Rattle.rules.specs.Totals.{valueOf, empty, score}
 use Rattle.columns.specs.declared.Sides.{Sides}
 use Rattle.columns.specs.Split.{SplitAsks, SplitDone}
-use Rattle.search.specs.declared.Asked.{Asked}
+use Rattle.criterion.specs.declared.Side.{Side}
 use Rattle.search.specs.Flat.{elementOf, drawsAt}
 use Rattle.growth.specs.declared.Wait.{Wait}
 use Rattle.growth.specs.declared.Stand.{Stand}
@@ -68,10 +68,10 @@ module _ (g : Ground) (P : Params) (W : List ℕ) (sc : ℕ) (flags : List Bool)
 
   module _ (h : Sides) (d : SplitDone (g .rows) (e .start) (e .end) (elementOf (g .features) (g .tables)) (cutOf e) (g .cols) flags h) (c′ : Columns) (wr : c′ ≡ wroteSides e h (at .nodes) c) where
     yes-totals : h .yes .totals ≡ child same w .totals
-    yes-totals = ap (λ (z : Asked). z .totals) (yes-child g P W sc flags wholes reals e (at .nodes) rest (q .taken) h d)
+    yes-totals = ap (λ (z : Side). z .totals) (yes-child g P W sc flags wholes reals e (at .nodes) rest (q .taken) h d)
 
     no-totals : h .no .totals ≡ child not w .totals
-    no-totals = ap (λ (z : Asked). z .totals) (no-child g P W sc flags wholes reals e (at .nodes) rest (q .taken) h d)
+    no-totals = ap (λ (z : Side). z .totals) (no-child g P W sc flags wholes reals e (at .nodes) rest (q .taken) h d)
 
     turn-nodes : (old : Columns) (ns : List TreeNode) → length ns ≡ at .nodes → LongAll (at .nodes + 2) old → NodesIn old ns c → NodesIn old (withChildren w ns) c′
     unfolding wroteSplit putRow withChildren splitOf splitting leafOf

@@ -6,10 +6,10 @@ ghost use Rattle.growth.specs.Rooms.{LongAll};
 ghost use Rattle.grows.specs.Places.{TurnAsks, TurnDone};
 ghost use Rattle.grows.specs.Loop.{GrowAsks, GrowDone};
 ghost use Rattle.grows.specs.Tree.{TreeAsks, StartDone, TreeDone};
+use criterion::Side;
 use growth::Stand;
 use growth::Step;
 use rules::Params;
-use search::Asked;
 use search::Drawn;
 
 // A tree that grows: how many nodes it has, its depth so far, how many nodes wait, and how far the tapes are used.
@@ -204,7 +204,7 @@ pub fn start_tree(
     most: usize,
     p: Params,
     kept: u32,
-    root: Asked,
+    root: Side,
 ) -> Step
     requires { ⌜ TreeAsks (record { rows = rows; features = features; tables = (record { x = now x; y = now y; weights = now weights; counts = now counts }); cols = now cols }) p most kept root (length (now wholes)) (length (now reals)) ⌝ }
     ensures { λ r. ⌜ StartDone (record { rows = rows; features = features; tables = (record { x = now (x .entry); y = now (y .entry); weights = now (weights .entry); counts = now (counts .entry) }); cols = now (cols .entry) }) p (now (words .entry)) (now (thresholds .entry)) (now (wholes .exit)) (now (reals .exit)) kept root r ⌝ }
@@ -266,7 +266,7 @@ pub fn grow_tree(
     most: usize,
     p: Params,
     kept: u32,
-    root: Asked,
+    root: Side,
 ) -> Turned
     requires { ⌜ TreeAsks (record { rows = rows; features = features; tables = (record { x = now x; y = now y; weights = now weights; counts = now counts }); cols = now cols }) p most kept root (length (now wholes)) (length (now reals)) ⌝ }
     requires { ⌜ (rows ≤ length (now scratch)) × (rows ≤ length (now flags)) × LongAll most (record { value = now (value); feature = now (feature); threshold = now (threshold); score = now (score); trueChild = now (yes); falseChild = now (no) }) ⌝ }

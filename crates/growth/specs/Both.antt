@@ -15,7 +15,7 @@ use Rattle.rules.specs.Growth.{Waiting, searchable, searchIf}
 use Rattle.rules.specs.Draws.{Out, bad, ok, bind, Tapes, tape}
 use Rattle.rules.specs.Words.{nought}
 use Rattle.rules.specs.Totals.{valueOf}
-use Rattle.search.specs.declared.Asked.{Asked}
+use Rattle.criterion.specs.declared.Side.{Side}
 use Rattle.search.specs.Flat.{drawsAt}
 use Rattle.growth.specs.declared.Wait.{Wait}
 use Rattle.growth.specs.declared.Stand.{Stand}
@@ -65,7 +65,7 @@ unfolding bind
 two (bad n) k ws = refl
 two (ok t) k ws = two-end (k (t .1)) (t .0) ws
 
-pub second-asks : (g : Ground) (P : Params) (W : List ℕ) (M : List Float) (wholes : List (List ℕ)) (reals : List (List Float)) (wholes′ : List (List ℕ)) (reals′ : List (List Float)) (node level a m e : ℕ) (q r : Asked) (s : Stand)
+pub second-asks : (g : Ground) (P : Params) (W : List ℕ) (M : List Float) (wholes : List (List ℕ)) (reals : List (List Float)) (wholes′ : List (List ℕ)) (reals′ : List (List Float)) (node level a m e : ℕ) (q r : Side) (s : Stand)
     (t : Stand) {step : Step} → step ≡ Goes t → BothAsks g P W node a m e q r s (length wholes) (length reals) → ChildDone g P W M wholes reals wholes′ reals′ node level a m q s step
     → length wholes′ ≡ length wholes → length reals′ ≡ length reals → ChildAsks g P W m e r t (length wholes′) (length reals′)
 second-asks g P W M wholes reals wholes′ reals′ node level a m e q r s t {step} es b d lw lr =
@@ -79,7 +79,7 @@ second-asks g P W M wholes reals wholes′ reals′ node level a m e q r s t {st
       reals = let h : t .waiting ≤ s .waiting + 1 = subst (MostStep (s .waiting + 1)) es (d .most) in let k = b .reals in omega (arith, h, k, lr);
     }
 
-module _ (g : Ground) (P : Params) (W : List ℕ) (M : List Float) (wholes : List (List ℕ)) (reals : List (List Float)) (node level a m e : ℕ) (q r : Asked) (s : Stand) where
+module _ (g : Ground) (P : Params) (W : List ℕ) (M : List Float) (wholes : List (List ℕ)) (reals : List (List Float)) (node level a m e : ℕ) (q r : Side) (s : Stand) where
   abbrev then : Tapes → Out (List Waiting × Tapes)
   then d = searchIf P (search (tape (P .features)) P) (searchable P level (nodeTask g m e r)) (suc node) level (nodeTask g m e r) d
 

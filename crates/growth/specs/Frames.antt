@@ -21,8 +21,9 @@ use Rattle.laws.specs.Cuts.{Rising, Good}
 use Rattle.columns.specs.Columns.{Cleft}
 use Rattle.columns.specs.Split.{Alike, goes}
 use Rattle.columns.specs.Stretches.{part-every}
-use Rattle.search.specs.declared.Asked.{Asked}
-use Rattle.search.specs.Flat.{Tables, Shaped, elementOf, part, columnsAt, NodeAsks, sideOn}
+use Rattle.criterion.specs.declared.Side.{Side}
+use Rattle.criterion.specs.Sides.{sideOn}
+use Rattle.search.specs.Flat.{Tables, Shaped, elementOf, part, columnsAt, NodeAsks}
 use Rattle.growth.specs.declared.Wait.{Wait}
 use Rattle.growth.specs.Rooms.{Ground, waitAt, cutOf, nodeTask, waitingOf, stackOf, Laid, BelowTo}
 use Rattle.growth.specs.Nodes.{columnOf, store-node, add-node}
@@ -55,7 +56,7 @@ column-at g a e k h = sym (getD-from mine 0 (g .features) k [] h ∙ ap mine (ze
     mine j = map (elementOf (g .features) (g .tables)) (part (g .rows) (g .cols) a e j)
 
 -- a side of a split is the definition's child
-pub task-of : (g : Ground) (e : Wait) (cols′ : List ℕ) (b : Bool → Bool) (a′ e′ : ℕ) (h : Asked) → e .feature < g .features
+pub task-of : (g : Ground) (e : Wait) (cols′ : List ℕ) (b : Bool → Bool) (a′ e′ : ℕ) (h : Side) → e .feature < g .features
     → ((k : ℕ) → k < g .features → part (g .rows) cols′ a′ e′ k ≡ keep (λ r. b (goesTrue (cutOf e) (elementOf (g .features) (g .tables) r))) (part (g .rows) (g .cols) (e .start) (e .end) k))
     → h ≡ sideOn (sideOf b (cutOf e) (map (elementOf (g .features) (g .tables)) (part (g .rows) (g .cols) (e .start) (e .end) (e .feature))))
     → nodeTask (withCols g cols′) a′ e′ h ≡ child b (waitingOf g e)
@@ -63,8 +64,8 @@ unfolding child columnsAt
 task-of g e cols′ b a′ e′ h hj hp eh = λ i.
     record {
       columns = side-columns el (cutOf e) b (g .features) (λ k. part (g .rows) (g .cols) (e .start) (e .end) k) (λ k. part (g .rows) cols′ a′ e′ k) hp i;
-      totals = (ap (λ (z : Asked). z .totals) eh ∙ ap (λ z. totals empty (sideOf b (cutOf e) z)) mine) i;
-      count = (ap (λ (z : Asked). z .count) eh ∙ ap (λ z. tally (sideOf b (cutOf e) z)) mine) i;
+      totals = (ap (λ (z : Side). z .totals) eh ∙ ap (λ z. totals empty (sideOf b (cutOf e) z)) mine) i;
+      count = (ap (λ (z : Side). z .count) eh ∙ ap (λ z. tally (sideOf b (cutOf e) z)) mine) i;
     }
   where
     el : ℕ → Element
@@ -102,7 +103,7 @@ rising-cleft el c (x ∷ l) r = (λ out. after l (subst (λ b. T (not b)) (sym o
     after [] out h = tt
     after (y ∷ l) out h = (is-false _ (stays-out (at (c .feature) (el x)) _ _ out (h .0)), after l out (h .1))
 
-module _ (g : Ground) (P : Params) (sm : g .features ≡ P .features) (a e : ℕ) (q : Asked) (gd : Good P (nodeTask g a e q)) where
+module _ (g : Ground) (P : Params) (sm : g .features ≡ P .features) (a e : ℕ) (q : Side) (gd : Good P (nodeTask g a e q)) where
   pub good-alike : (i j : ℕ) → i < g .features → j < g .features → Alike (part (g .rows) (g .cols) a e i) (part (g .rows) (g .cols) a e j)
   good-alike i j hi hj f =
       sym (level-sum (g .features) (g .tables) f (part (g .rows) (g .cols) a e i))

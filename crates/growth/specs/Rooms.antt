@@ -21,7 +21,7 @@ use Rattle.laws.specs.Lists.{Every}
 use Rattle.laws.specs.Cuts.{Ripe}
 use Rattle.columns.specs.declared.Sides.{Sides}
 use Rattle.columns.specs.Split.{SplitDone}
-use Rattle.search.specs.declared.Asked.{Asked}
+use Rattle.criterion.specs.declared.Side.{Side}
 use Rattle.search.specs.declared.Drawn.{Drawn}
 use Rattle.search.specs.declared.Search.{Search}
 use Rattle.search.specs.Flat.{Tables, Shaped, NodeAsks, elementOf, taskAt, drawsAt, Fair, FairAfter, meant, part}
@@ -66,13 +66,13 @@ waitOf w r =
 abbrev pub waitAt : List (List ℕ) → List (List Float) → ℕ → Wait
 waitAt wholes reals i = waitOf (getD wholes i []) (getD reals i [])
 
-abbrev pub askedOf : Wait → Asked
+abbrev pub askedOf : Wait → Side
 askedOf e = record { totals = record { sum = e .sum; mass = e .mass }; count = e .count }
 
 abbrev pub cutOf : Wait → Cut
 cutOf e = record { feature = e .feature; threshold = e .cut }
 
-abbrev pub nodeTask : Ground → ℕ → ℕ → Asked → Task
+abbrev pub nodeTask : Ground → ℕ → ℕ → Side → Task
 nodeTask g a e q = taskAt (g .rows) (g .features) a e (g .tables) (g .cols) q
 
 abbrev pub waitingOf : Ground → Wait → Waiting
@@ -166,13 +166,13 @@ abbrev pub FairStep : List ℕ → Step → Type 0
 FairStep W (Refused k) = Unit {0}
 FairStep W (Goes s) = Fair W (s .drawn)
 
-pub record PushDone (wholes : List (List ℕ)) (reals : List (List Float)) (wholes′ : List (List ℕ)) (reals′ : List (List Float)) (n node level a e : ℕ) (q : Asked) (d : Drawn) (r : Search) (s : Step) : Type 0 where
+pub record PushDone (wholes : List (List ℕ)) (reals : List (List Float)) (wholes′ : List (List ℕ)) (reals′ : List (List Float)) (n node level a e : ℕ) (q : Side) (d : Drawn) (r : Search) (s : Step) : Type 0 where
   pub same : (g : Ground) (W : List ℕ) (M : List Float) → bind (meant W M d r) (λ o. ok (joins node level (nodeTask g a e q) (o .0) ++ stackOf g wholes reals n, o .1)) ≡ meantStep g W M wholes′ reals′ s
   pub laid : (low : ℕ) → Laid wholes reals low n → n ≤ a → low ≤ a → a ≤ e → LaidStep wholes′ reals′ e s
   pub most : MostStep (n + 1) s
   pub fair : (W : List ℕ) → FairAfter W r → FairStep W s
 
-pub record ChildAsks (g : Ground) (P : Params) (W : List ℕ) (a e : ℕ) (q : Asked) (s : Stand) (roomWholes roomReals : ℕ) : Type 0 where
+pub record ChildAsks (g : Ground) (P : Params) (W : List ℕ) (a e : ℕ) (q : Side) (s : Stand) (roomWholes roomReals : ℕ) : Type 0 where
   pub node : NodeAsks (g .rows) (g .features) a e (g .tables) (g .cols) (q .count)
   pub same : g .features ≡ P .features
   pub few : g .features ≤ 1024
@@ -182,7 +182,7 @@ pub record ChildAsks (g : Ground) (P : Params) (W : List ℕ) (a e : ℕ) (q : A
   pub reals : s .waiting < roomReals
 
 pub record ChildDone (g : Ground) (P : Params) (W : List ℕ) (M : List Float) (wholes : List (List ℕ)) (reals : List (List Float)) (wholes′ : List (List ℕ)) (reals′ : List (List Float))
-    (node level a e : ℕ) (q : Asked) (s : Stand) (r : Step) : Type 0 where
+    (node level a e : ℕ) (q : Side) (s : Stand) (r : Step) : Type 0 where
   pub same : bind (searchIf P (search (tape (P .features)) P) (searchable P level (nodeTask g a e q)) node level (nodeTask g a e q) (drawsAt W M (s .drawn))) (λ o. ok (o .0 ++ stackOf g wholes reals (s .waiting), o .1))
       ≡ meantStep g W M wholes′ reals′ r
   pub laid : (low : ℕ) → Laid wholes reals low (s .waiting) → s .waiting ≤ a → low ≤ a → a ≤ e → LaidStep wholes′ reals′ e r
@@ -191,7 +191,7 @@ pub record ChildDone (g : Ground) (P : Params) (W : List ℕ) (M : List Float) (
 
 -- ---- both children
 
-pub record BothAsks (g : Ground) (P : Params) (W : List ℕ) (node a m e : ℕ) (q r : Asked) (s : Stand) (roomWholes roomReals : ℕ) : Type 0 where
+pub record BothAsks (g : Ground) (P : Params) (W : List ℕ) (node a m e : ℕ) (q r : Side) (s : Stand) (roomWholes roomReals : ℕ) : Type 0 where
   pub first : ChildAsks g P W a m q s roomWholes roomReals
   pub second : NodeAsks (g .rows) (g .features) m e (g .tables) (g .cols) (r .count)
   pub wholes : s .waiting + 1 < roomWholes
@@ -205,7 +205,7 @@ searchTwo P node level t f d =
     (λ a. bind (searchIf P (search (tape (P .features)) P) (searchable P level f) (suc node) level f (a .1)) (λ b. ok (b .0 ++ a .0, b .1)))
 
 pub record BothDone (g : Ground) (P : Params) (W : List ℕ) (M : List Float) (wholes : List (List ℕ)) (reals : List (List Float)) (wholes′ : List (List ℕ)) (reals′ : List (List Float))
-    (node level a m e : ℕ) (q r : Asked) (s : Stand) (t : Step) : Type 0 where
+    (node level a m e : ℕ) (q r : Side) (s : Stand) (t : Step) : Type 0 where
   pub same : bind (searchTwo P node level (nodeTask g a m q) (nodeTask g m e r) (drawsAt W M (s .drawn))) (λ o. ok (o .0 ++ stackOf g wholes reals (s .waiting), o .1)) ≡ meantStep g W M wholes′ reals′ t
   pub laid : (low : ℕ) → Laid wholes reals low (s .waiting) → s .waiting ≤ a → low ≤ a → a < m → m ≤ e → LaidStep wholes′ reals′ e t
   pub fair : FairStep W t

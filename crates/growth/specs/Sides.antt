@@ -17,15 +17,14 @@ use Rattle.rules.specs.Growth.{Waiting, child, searchable, searchIf}
 use Rattle.rules.specs.Draws.{bind, ok, tape}
 use Rattle.laws.specs.Lists.{keep-map}
 use Rattle.laws.specs.Cuts.{Good, side-good}
-use Rattle.columns.specs.declared.Side.{Side}
 use Rattle.columns.specs.declared.Sides.{Sides}
 use Rattle.columns.specs.Columns.{flagged, parted, partedColumns, ColumnsAsk}
 use Rattle.columns.specs.Cleft.{cleft-parted}
 use Rattle.columns.specs.Split.{goes, SplitAsks, SplitDone}
 use Rattle.columns.specs.Stretches.{part-every}
 use Rattle.columns.specs.Halves.{marked-parted, split-long, columns-ask, split-beside, split-every, true-part, false-part}
-use Rattle.search.specs.declared.Asked.{Asked}
-use Rattle.search.specs.Flat.{elementOf, part, bare, sideOn, drawsAt}
+use Rattle.criterion.specs.Sides.{sideOn}
+use Rattle.search.specs.Flat.{elementOf, part, bare, drawsAt}
 use Rattle.growth.specs.declared.Wait.{Wait}
 use Rattle.growth.specs.declared.Stand.{Stand}
 use Rattle.growth.specs.declared.Step.{Step}
@@ -34,9 +33,6 @@ use Rattle.growth.specs.Rooms.{Ground, cutOf, askedOf, nodeTask, waiting
 use Rattle.growth.specs.Steps.{laid-more}
 use Rattle.growth.specs.Both.{onto, chain}
 use Rattle.growth.specs.Frames.{withCols, column-at, task-of, frame, good-alike, good-room, good-cleft, good-asks, part-short, ones-map, rows-of}
-
-abbrev pub asked : Side → Asked
-asked s = record { totals = s .totals; count = s .count }
 
 -- ---- a node's ends as the code widened them
 
@@ -107,22 +103,22 @@ module _ (g : Ground) (P : Params) (W : List ℕ) (sc : ℕ) (flags : List Bool)
         there : part (g .rows) (g .cols) a e k ≡ rows-of-split
         there i = part (g .rows) (g .cols) (ea i) (ee i) (ek i)
 
-    yes-side : asked (h .yes) ≡ sideOn (trueSide (cutOf w) (map el rows-of-split))
-    yes-side = ap (λ (z : Sides). asked (z .yes)) (d .sides)
+    yes-side : h .yes ≡ sideOn (trueSide (cutOf w) (map el rows-of-split))
+    yes-side = ap (λ (z : Sides). z .yes) (d .sides)
 
-    no-side : asked (h .no) ≡ sideOn (falseSide (cutOf w) (map el rows-of-split))
-    no-side = ap (λ (z : Sides). asked (z .no)) (d .sides)
+    no-side : h .no ≡ sideOn (falseSide (cutOf w) (map el rows-of-split))
+    no-side = ap (λ (z : Sides). z .no) (d .sides)
 
     -- the children's totals and counts
-    pub yes-child : asked (h .yes) ≡ record { totals = child same top .totals; count = child same top .count }
+    pub yes-child : h .yes ≡ record { totals = child same top .totals; count = child same top .count }
     unfolding child
     yes-child = yes-side ∙ ap (λ z. sideOn (trueSide (cutOf w) z)) mine
 
-    pub no-child : asked (h .no) ≡ record { totals = child not top .totals; count = child not top .count }
+    pub no-child : h .no ≡ record { totals = child not top .totals; count = child not top .count }
     unfolding child
     no-child = no-side ∙ ap (λ z. sideOn (falseSide (cutOf w) z)) mine
 
-    pub sides-skip : (M : List Float) → (searchable P (w .level + 1) (bare (asked (h .yes))) || searchable P (w .level + 1) (bare (asked (h .no)))) ≡ false
+    pub sides-skip : (M : List Float) → (searchable P (w .level + 1) (bare (h .yes)) || searchable P (w .level + 1) (bare (h .no))) ≡ false
         → SidesDone g g P W M wholes reals wholes reals w n s (Goes s)
     unfolding searchable searchIf bind
     sides-skip M e =
@@ -137,10 +133,10 @@ module _ (g : Ground) (P : Params) (W : List ℕ) (sc : ℕ) (flags : List Bool)
         }
       where
         first : searchable P (w .level + 1) (child same top) ≡ false
-        first = sym (ap (λ z. searchable P (w .level + 1) (bare z)) yes-child) ∙ neither (searchable P (w .level + 1) (bare (asked (h .yes)))) (searchable P (w .level + 1) (bare (asked (h .no)))) e .0
+        first = sym (ap (λ z. searchable P (w .level + 1) (bare z)) yes-child) ∙ neither (searchable P (w .level + 1) (bare (h .yes))) (searchable P (w .level + 1) (bare (h .no))) e .0
 
         second : searchable P (w .level + 1) (child not top) ≡ false
-        second = sym (ap (λ z. searchable P (w .level + 1) (bare z)) no-child) ∙ neither (searchable P (w .level + 1) (bare (asked (h .yes)))) (searchable P (w .level + 1) (bare (asked (h .no)))) e .1
+        second = sym (ap (λ z. searchable P (w .level + 1) (bare z)) no-child) ∙ neither (searchable P (w .level + 1) (bare (h .yes))) (searchable P (w .level + 1) (bare (h .no))) e .1
 
     -- the sides lie within the node
     pub sides-fit : w .start + h .rows ≤ w .end
@@ -171,11 +167,11 @@ module _ (g : Ground) (P : Params) (W : List ℕ) (sc : ℕ) (flags : List Bool)
       no-part : (k : ℕ) → k < g .features → part (g .rows) cols′ mid (w .end) k ≡ keep (λ r. not (goesTrue (cutOf w) (el r))) (part (g .rows) (g .cols) (w .start) (w .end) k)
       no-part = false-part (g .rows) (g .features) (w .start) (w .end) (g .tables .x) (g .tables .y) (g .tables .weights) (g .tables .counts) (cutOf w) (g .cols) cols′ flags h (taken-splits m) d e
 
-      yes-task : nodeTask g′ (w .start) mid (asked (h .yes)) ≡ child same top
-      yes-task = task-of g w cols′ same (w .start) mid (asked (h .yes)) known yes-part yes-side
+      yes-task : nodeTask g′ (w .start) mid (h .yes) ≡ child same top
+      yes-task = task-of g w cols′ same (w .start) mid (h .yes) known yes-part yes-side
 
-      no-task : nodeTask g′ mid (w .end) (asked (h .no)) ≡ child not top
-      no-task = task-of g w cols′ not mid (w .end) (asked (h .no)) known no-part no-side
+      no-task : nodeTask g′ mid (w .end) (h .no) ≡ child not top
+      no-task = task-of g w cols′ not mid (w .end) (h .no) known no-part no-side
 
       -- a side that has rows takes up places
       filled : (b : Bool → Bool) (a z : ℕ) → part (g .rows) cols′ a z (w .feature) ≡ keep (λ r. b (goesTrue (cutOf w) (el r))) rows-of-split
@@ -192,11 +188,11 @@ module _ (g : Ground) (P : Params) (W : List ℕ) (sc : ℕ) (flags : List Bool)
       ends : mid < w .end
       ends = filled not mid (w .end) (no-part (w .feature) known) (q .ripe .fine .someFalse)
 
-      pub both-asks : BothAsks g′ P W n (w .start) mid (w .end) (asked (h .yes)) (asked (h .no)) s (length wholes) (length reals)
+      pub both-asks : BothAsks g′ P W n (w .start) mid (w .end) (h .yes) (h .no) s (length wholes) (length reals)
       both-asks =
           record {
             first = record {
-              node = good-asks g′ P (q .same) (w .start) mid (asked (h .yes)) (subst (Good P) (sym yes-task) (side-good P same top (q .ripe))) (q .shape) (long ∙ q .long) (w .end) sides-fit rows-after (omega (arith, starts)) (omega (arith, ends, q .high));
+              node = good-asks g′ P (q .same) (w .start) mid (h .yes) (subst (Good P) (sym yes-task) (side-good P same top (q .ripe))) (q .shape) (long ∙ q .long) (w .end) sides-fit rows-after (omega (arith, starts)) (omega (arith, ends, q .high));
               same = q .same;
               few = q .few;
               some = q .some;
@@ -204,7 +200,7 @@ module _ (g : Ground) (P : Params) (W : List ℕ) (sc : ℕ) (flags : List Bool)
               wholes = taken-room .0;
               reals = taken-room .1;
             };
-            second = good-asks g′ P (q .same) mid (w .end) (asked (h .no)) (subst (Good P) (sym no-task) (side-good P not top (q .ripe))) (q .shape) (long ∙ q .long) (w .end) (le-refl (w .end)) rows-after (omega (arith, ends)) (q .high);
+            second = good-asks g′ P (q .same) mid (w .end) (h .no) (subst (Good P) (sym no-task) (side-good P not top (q .ripe))) (q .shape) (long ∙ q .long) (w .end) (le-refl (w .end)) rows-after (omega (arith, ends)) (q .high);
             wholes = omega (arith, q .place, starts, ends, q .high, q .whole-room);
             reals = omega (arith, q .place, starts, ends, q .high, q .real-room);
             small = q .number;
@@ -214,7 +210,7 @@ module _ (g : Ground) (P : Params) (W : List ℕ) (sc : ℕ) (flags : List Bool)
           rows-after = below (w .end) (le-refl (w .end)) (q .high) (q .below)
 
       pub sides-both : (M : List Float) (wholes′ : List (List ℕ)) (reals′ : List (List Float)) (r : Step)
-          → BothDone g′ P W M wholes reals wholes′ reals′ n (w .level + 1) (w .start) mid (w .end) (asked (h .yes)) (asked (h .no)) s r → SidesDone g g′ P W M wholes reals wholes′ reals′ w n s r
+          → BothDone g′ P W M wholes reals wholes′ reals′ n (w .level + 1) (w .start) mid (w .end) (h .yes) (h .no) s r → SidesDone g g′ P W M wholes reals wholes′ reals′ w n s r
       sides-both M wholes′ reals′ r b =
           record {
             same = (λ i. bind (searchTwo P n (w .level + 1) (sym yes-task i) (sym no-task i) (drawsAt W M (s .drawn))) (λ o. ok (o .0 ++ sym under i, o .1))) ∙ b .same;

@@ -16,7 +16,7 @@ use Rattle.rules.specs.declared.Held.the-variants.{Nothing, Holds}
 use Rattle.rules.specs.Search.{Task, Found, search}
 use Rattle.rules.specs.Growth.{Waiting, joins, searchable, searchIf}
 use Rattle.rules.specs.Draws.{Out, bad, ok, bind, Tapes, tape}
-use Rattle.search.specs.declared.Asked.{Asked}
+use Rattle.criterion.specs.declared.Side.{Side}
 use Rattle.search.specs.declared.Drawn.{Drawn}
 use Rattle.search.specs.declared.Search.{Search}
 use Rattle.search.specs.declared.Search.the-variants as S
@@ -74,7 +74,7 @@ laid-new wholes reals n low w h k l a b c =
     (subst (λ (z : Wait). (n ≤ z .start) × (z .start ≤ z .end) × (z .end ≤ w .end) × Laid (set wholes n (wholesOf w)) (set reals n (realsOf w)) (z .start) n) (sym (wait-new wholes reals n w h k))
     (a, c, le-refl (w .end), laid-kept wholes reals n n (w .start) (wholesOf w) (realsOf w) (le-refl n) (laid-more wholes reals n low (w .start) b l)))
 
-module _ (wholes : List (List ℕ)) (reals : List (List Float)) (n node level a e : ℕ) (q : Asked) (d : Drawn) where
+module _ (wholes : List (List ℕ)) (reals : List (List Float)) (n node level a e : ℕ) (q : Side) (d : Drawn) where
   pub push-none : {r : Search} → r ≡ S.Refused → PushDone wholes reals wholes reals n node level a e q d r (Refused (d .searches))
   unfolding bind
   push-none {r} h =
@@ -115,7 +115,7 @@ bind-through (ok a) f k = refl
 pub node-at : (rows features : ℕ) (t : Tables) (cols : List ℕ) (n a e : ℕ) {a′ e′ : ℕ} → a′ ≡ a → e′ ≡ e → NodeAsks rows features a e t cols n → NodeAsks rows features a′ e′ t cols n
 node-at rows features t cols n a e {a′} {e′} ea ee h = subst (λ z. NodeAsks rows features z e′ t cols n) (sym ea) (subst (λ z. NodeAsks rows features a z t cols n) (sym ee) h)
 
-module _ (g : Ground) (P : Params) (W : List ℕ) (M : List Float) (wholes : List (List ℕ)) (reals : List (List Float)) (node level a e : ℕ) (q : Asked) (s : Stand) where
+module _ (g : Ground) (P : Params) (W : List ℕ) (M : List Float) (wholes : List (List ℕ)) (reals : List (List Float)) (node level a e : ℕ) (q : Side) (s : Stand) where
   abbrev task : Task
   task = nodeTask g a e q
 

@@ -10,10 +10,10 @@ ghost use Rattle.columns.specs.Split.{SplitAsks, SplitDone};
 ghost use Rattle.search.specs.Flat.{bare};
 ghost use Rattle.growth.specs.Rooms.{LongAll, PushDone, ChildAsks, ChildDone, cutOf, wroteSides, BothAsks, BothDone, SidesAsks, SidesDone};
 use columns::Sides;
+use criterion::Side;
 use rules::Cut;
 use rules::Held;
 use rules::Params;
-use search::Asked;
 use search::Drawn;
 use search::Search;
 
@@ -63,7 +63,7 @@ pub fn push_found(
     level: u32,
     from: u32,
     to: u32,
-    a: Asked,
+    a: Side,
     d: Drawn,
     r: Search,
 ) -> Step
@@ -101,7 +101,7 @@ pub fn push_found(
 }
 
 // Whether a node is searched: its level is below the limit, and its count reaches the least split.
-fn is_searched(p: Params, level: u32, a: Asked) -> bool
+fn is_searched(p: Params, level: u32, a: Side) -> bool
     ensures { λ r. ⌜ r ≡ searchable p level (bare a) ⌝ }
 {
     if level < p.limit {
@@ -128,7 +128,7 @@ pub fn search_child(
     level: u32,
     from: u32,
     to: u32,
-    a: Asked,
+    a: Side,
     s: Stand,
 ) -> Step
     requires { ⌜ ChildAsks (record { rows = rows; features = features; tables = (record { x = now x; y = now y; weights = now weights; counts = now counts }); cols = now cols }) p (now words) from to a s (length (now wholes)) (length (now reals)) ⌝ }
@@ -146,8 +146,8 @@ pub fn search_child(
             thresholds,
             rows,
             features,
-            search::wide(from),
-            search::wide(to),
+            criterion::wide(from),
+            criterion::wide(to),
             p,
             a,
             d,
@@ -194,8 +194,8 @@ pub fn split_node(
         flags,
         rows,
         features,
-        search::wide(w.start),
-        search::wide(w.end),
+        criterion::wide(w.start),
+        criterion::wide(w.end),
         c,
     );
     let a = s.yes;
@@ -227,8 +227,8 @@ pub fn search_both(
     from: u32,
     mid: u32,
     to: u32,
-    a: Asked,
-    b: Asked,
+    a: Side,
+    b: Side,
     s: Stand,
 ) -> Step
     requires { ⌜ BothAsks (record { rows = rows; features = features; tables = (record { x = now x; y = now y; weights = now weights; counts = now counts }); cols = now cols }) p (now words) node from mid to a b s (length (now wholes)) (length (now reals)) ⌝ }
@@ -279,7 +279,7 @@ pub fn search_both(
     }
 }
 
-fn either_searched(p: Params, level: u32, a: Asked, b: Asked) -> bool
+fn either_searched(p: Params, level: u32, a: Side, b: Side) -> bool
     ensures { λ r. ⌜ r ≡ (searchable p level (bare a) || searchable p level (bare b)) ⌝ }
 {
     if is_searched(p, level, a) {
@@ -313,28 +313,18 @@ pub fn search_sides(
     ensures { λ r. ⌜ SidesDone (record { rows = rows; features = features; tables = (record { x = now (x .entry); y = now (y .entry); weights = now (weights .entry); counts = now (counts .entry) }); cols = now (cols .entry) }) (record { rows = rows; features = features; tables = (record { x = now (x .entry); y = now (y .entry); weights = now (weights .entry); counts = now (counts .entry) }); cols = now (cols .exit) }) p (now (words .entry)) (now (thresholds .entry)) (now (wholes .entry)) (now (reals .entry)) (now (wholes .exit)) (now (reals .exit)) w n s r ⌝ }
 {
     let l = w.level + 1;
-    let yes = h.yes;
-    let no = h.no;
-    let t = yes.totals;
-    let f = no.totals;
-    let a = Asked {
-        totals: t,
-        count: yes.count,
-    };
-    let b = Asked {
-        totals: f,
-        count: no.count,
-    };
+    let a = h.yes;
+    let b = h.no;
     if either_searched(p, l, a, b) {
         columns::partition_columns(
             cols,
             rows,
             features,
-            search::wide(w.start),
-            search::wide(w.end),
+            criterion::wide(w.start),
+            criterion::wide(w.end),
             scratch,
             flags,
-            search::wide(w.feature),
+            criterion::wide(w.feature),
         );
         let mid = w.start + h.rows;
         return search_both(

@@ -110,7 +110,7 @@ pub fn write_split(
         sum: w.sum,
         mass: w.mass,
     });
-    let k = search::wide(n);
+    let k = criterion::wide(n);
     put_row(
         value,
         feature,
@@ -118,7 +118,7 @@ pub fn write_split(
         score,
         yes,
         no,
-        search::wide(w.node),
+        criterion::wide(w.node),
         Row {
             value: v,
             feature: w.feature,

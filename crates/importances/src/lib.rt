@@ -17,12 +17,6 @@ use rules::Scale;
 
 pub mod lists;
 
-fn wide(n: u32) -> usize
-    ensures { λ r. ⌜ r ≡ n ⌝ }
-{
-    n as usize
-}
-
 // ---- one tree
 
 fn is_leaf(yes: u32, no: u32) -> bool
@@ -39,7 +33,7 @@ fn add_score(feature: u32, score: f64, yes: u32, no: u32, v: &mut [f64])
     if is_leaf(yes, no) {
         return;
     }
-    let j = wide(feature);
+    let j = criterion::wide(feature);
     v[j] = v[j] + score;
 }
 
@@ -189,8 +183,8 @@ fn add_trees(
     let mut t: usize = 0;
     while t < trees {
         let next = t + 1;
-        let a = wide(starts[t]);
-        let e = wide(starts[next]);
+        let a = criterion::wide(starts[t]);
+        let e = criterion::wide(starts[next]);
         let n = e - a;
         add_tree(a, n, value, feature, threshold, score, yes, no, v, own);
         t += 1;

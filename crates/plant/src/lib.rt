@@ -4,13 +4,13 @@ ghost use Prim.Native.Nat.{_-_, _*_, _≤_, _<_, max};
 ghost use lib.ListN.{length};
 ghost use Rattle.rules.specs.Fit.{limitOf};
 ghost use Rattle.plant.specs.Plant.{frameIn, dataIn, ParamsMade, SetUpAsks, SetUp, ReportAsks, reportAt, TellAsks, told, PlantAsks, PlantDone};
+use criterion::Side;
 use grows::At;
 use grows::Turned;
 use rules::Depth;
 use rules::Params;
 use rules::Report;
 use rules::Settings;
-use search::Asked;
 
 // A tree that is grown, or the search at which a bad draw was met.
 pub enum Planted {
@@ -22,7 +22,7 @@ pub enum Planted {
 pub struct Root {
     pub kept: u32,
     pub most: usize,
-    pub asked: Asked,
+    pub asked: Side,
 }
 
 fn narrow(x: usize) -> u32
@@ -92,7 +92,7 @@ fn set_up(
     Root {
         kept: few,
         most,
-        asked: Asked { totals, count },
+        asked: Side { totals, count },
     }
 }
 

@@ -17,7 +17,8 @@ use Rattle.rules.specs.Threshold.{threshold}
 use Rattle.rules.specs.Words.{nought, from}
 use Rattle.rules.specs.Draws.{Out, bad, ok, bind, Tapes, nextThreshold, tape}
 use Rattle.rules.specs.Fit.{elementIn}
-use Rattle.search.specs.declared.Asked.{Asked}
+use Rattle.criterion.specs.declared.Side.{Side}
+use Rattle.criterion.specs.Sides.{joined}
 use Rattle.search.specs.declared.Cell.{Cell}
 use Rattle.search.specs.declared.best.Run.{Run}
 use Rattle.search.specs.declared.best.Spot.{Spot}
@@ -51,10 +52,10 @@ abbrev pub Below : ℕ → List ℕ → Type 0
 Below n l = (k : ℕ) → k < length l → getD l k 0 < n
 
 -- a task of which only totals and count are searchable
-abbrev pub bare : Asked → Task
+abbrev pub bare : Side → Task
 bare a = record { columns = []; totals = a .totals; count = a .count }
 
-unfoldable pub stepIn : Params → Asked → ℕ → Walk → Cell → Walk
+unfoldable pub stepIn : Params → Side → ℕ → Walk → Cell → Walk
 stepIn P a j w e =
     record {
       before = takeIn (w .before) (e .target) (e .mass);
@@ -63,12 +64,12 @@ stepIn P a j w e =
       best = candidateAt (eq (e .value) (w .last)) P (bare a) j (e .value) w;
     }
 
-pub step-cell : (P : Params) (a : Asked) (j : ℕ) (w : Walk) (e : Element) → stepIn P a j w (cellOf j e) ≡ step P (bare a) j w e
+pub step-cell : (P : Params) (a : Side) (j : ℕ) (w : Walk) (e : Element) → stepIn P a j w (cellOf j e) ≡ step P (bare a) j w e
 unfolding stepIn step cellOf
 step-cell P a j w e = refl
 
 -- either side of a cut would be below the least leaf
-unfoldable pub tooFew : Params → Asked → ℕ → Bool
+unfoldable pub tooFew : Params → Side → ℕ → Bool
 tooFew P a k = ltb k (P .leaf) || ltb (a .count - k) (P .leaf)
 
 abbrev pub cutBetween : ℕ → Float → Float → Cut
@@ -105,15 +106,8 @@ pub record Readable (rows features : ℕ) (x : List Float) (j : ℕ) (l : List �
   pub wide : length x ≡ rows * features
   pub one : j < features
 
-unfoldable pub joinIn : Asked → Cell → Asked
-joinIn s e = record { totals = takeIn (s .totals) (e .target) (e .mass); count = s .count + e .count }
-
-unfoldable pub sideStep : Float → Asked → Cell → Asked
-sideStep t s e = cond (le (e .value) t) (joinIn s e) s
-
--- what a side holds
-abbrev pub sideOn : Column → Asked
-sideOn es = record { totals = totals empty es; count = tally es }
+unfoldable pub sideStep : Float → Side → Cell → Side
+sideStep t s e = cond (le (e .value) t) (joined s (e .target) (e .mass) (e .count)) s
 
 -- ---- what is left of the tapes
 abbrev pub left : List ℕ → List Float → ℕ → ℕ → Tapes
@@ -134,7 +128,7 @@ part rows cols a e k = take (e - a) (drop (k * rows + a) cols)
 unfoldable pub columnsAt : (ℕ → Element) → ℕ → ℕ → List ℕ → ℕ → ℕ → List Column
 columnsAt el rows features cols a e = map (λ k. map el (part rows cols a e k)) (from 0 features)
 
-abbrev pub taskAt : ℕ → ℕ → ℕ → ℕ → Tables → List ℕ → Asked → Task
+abbrev pub taskAt : ℕ → ℕ → ℕ → ℕ → Tables → List ℕ → Side → Task
 taskAt rows features a e t cols q = record { columns = columnsAt (elementOf features t) rows features cols a e; totals = q .totals; count = q .count }
 
 -- what the search of a node asks

@@ -20,11 +20,12 @@ use Rattle.rules.specs.Words.{total, keep, putIf}
 use Rattle.rules.specs.Totals.{takeIn, less, proxy, empty}
 use Rattle.rules.specs.Lent.{valuesAt, countIn, massIn}
 use Rattle.rules.specs.Fit.{elementIn}
-use Rattle.search.specs.declared.Asked.{Asked}
+use Rattle.criterion.specs.declared.Side.{Side}
+use Rattle.criterion.specs.Sides.{sideOn, joined}
 use Rattle.search.specs.declared.Cell.{Cell}
-use Rattle.search.specs.Flat.{Tables, elementOf, cellOf, bare, stepIn, step-cell, tooFew, cutBetween, joinIn, sideStep, sideOn}
+use Rattle.search.specs.Flat.{Tables, elementOf, cellOf, bare, stepIn, step-cell, tooFew, cutBetween, sideStep}
 
-module _ (P : Params) (a : Asked) (h : Held) (t : Totals) (k : ℕ) (c : Cut) where
+module _ (P : Params) (a : Side) (h : Held) (t : Totals) (k : ℕ) (c : Cut) where
   judge-by : (b : Bool) → tooFew P a k ≡ b → judge P (bare a) h t k c ≡ cond b h (better h c (proxy t (less (a .totals) t)))
   unfolding judge tooFew
   judge-by b e = go (ltb k (P .leaf)) ∙ ap (λ z. cond z h (better h c (proxy t (less (a .totals) t)))) e
@@ -39,7 +40,7 @@ module _ (P : Params) (a : Asked) (h : Held) (t : Totals) (k : ℕ) (c : Cut) wh
   pub judge-goes : {b : Bool} {q : Float} {r : Held} → b ≡ tooFew P a k → b ≡ false → q ≡ proxy t (less (a .totals) t) → r ≡ better h c q → r ≡ judge P (bare a) h t k c
   judge-goes e d eq′ er = er ∙ ap (better h c) eq′ ∙ sym (judge-by false (sym e ∙ d))
 
-pub step-same : (P : Params) (a : Asked) (j : ℕ) (w : Walk) (e : Cell) {g : Held} {b : Totals} → g ≡ w .best → b ≡ takeIn (w .before) (e .target) (e .mass) → eq (e .value) (w .last) ≡ true
+pub step-same : (P : Params) (a : Side) (j : ℕ) (w : Walk) (e : Cell) {g : Held} {b : Totals} → g ≡ w .best → b ≡ takeIn (w .before) (e .target) (e .mass) → eq (e .value) (w .last) ≡ true
     → _≡_ {A = Walk} (record { before = b; count = w .count + e .count; last = w .last; best = g }) (stepIn P a j w e)
 unfolding stepIn candidateAt
 step-same P a j w e eg eb t = λ i.
@@ -50,7 +51,7 @@ step-same P a j w e eg eb t = λ i.
       best = (eg ∙ sym (ap (λ z. candidateAt z P (bare a) j (e .value) w) t)) i;
     }
 
-pub step-new : (P : Params) (a : Asked) (j : ℕ) (w : Walk) (e : Cell) {g : Held} {b : Totals} {h : Held} → g ≡ w .best → b ≡ takeIn (w .before) (e .target) (e .mass) → eq (e .value) (w .last) ≡ false
+pub step-new : (P : Params) (a : Side) (j : ℕ) (w : Walk) (e : Cell) {g : Held} {b : Totals} {h : Held} → g ≡ w .best → b ≡ takeIn (w .before) (e .target) (e .mass) → eq (e .value) (w .last) ≡ false
     → h ≡ judge P (bare a) g (w .before) (w .count) (cutBetween j (w .last) (e .value))
     → _≡_ {A = Walk} (record { before = b; count = w .count + e .count; last = e .value; best = h }) (stepIn P a j w e)
 unfolding stepIn candidateAt
@@ -88,7 +89,7 @@ module _ (el : ℕ → Element) (l : List ℕ) (i : ℕ) (h : i < length l) wher
   pub ahead : map el (drop i l) ≡ el (getD l i 0) ∷ map el (drop (i + 1) l)
   ahead = ap (map el) (drop-cons l i 0 h) ∙ ap (λ k. el (getD l i 0) ∷ map el (drop k l)) (sym (add-one i))
 
-  pub turn-walk : (P : Params) (a : Asked) (j : ℕ) (v : Walk) {e : Cell} {v′ : Walk} → e ≡ cellOf j (el (getD l i 0)) → v′ ≡ stepIn P a j v e
+  pub turn-walk : (P : Params) (a : Side) (j : ℕ) (v : Walk) {e : Cell} {v′ : Walk} → e ≡ cellOf j (el (getD l i 0)) → v′ ≡ stepIn P a j v e
       → walk P (bare a) j v′ (map el (drop (i + 1) l)) ≡ walk P (bare a) j v (map el (drop i l))
   unfolding walk
   turn-walk P a j v ee ev =
@@ -98,51 +99,51 @@ module _ (el : ℕ → Element) (l : List ℕ) (i : ℕ) (h : i < length l) wher
   unfolding total cellOf
   turn-fits j c n {e} ee b = omega (arith, b, ap tally ahead, ap (λ (x : Cell). x .count) ee)
 
-  pub turn-room : (P : Params) (a : Asked) (j : ℕ) (v : Walk) (n : ℕ) {e : Cell} {v′ : Walk} → e ≡ cellOf j (el (getD l i 0)) → v′ ≡ stepIn P a j v e
+  pub turn-room : (P : Params) (a : Side) (j : ℕ) (v : Walk) (n : ℕ) {e : Cell} {v′ : Walk} → e ≡ cellOf j (el (getD l i 0)) → v′ ≡ stepIn P a j v e
       → v .count + tally (map el (drop i l)) ≤ n → v′ .count + tally (map el (drop (i + 1) l)) ≤ n
   unfolding total cellOf stepIn
   turn-room P a j v n {e} {v′} ee ev b = omega (arith, b, ap tally ahead, ap (λ (x : Cell). x .count) ee, ap (λ (x : Walk). x .count) ev)
 
-pub turn-end : (el : ℕ → Element) (l : List ℕ) (i : ℕ) → length l ≤ i → (P : Params) (a : Asked) (j : ℕ) (v : Walk) → walk P (bare a) j v (map el (drop i l)) ≡ v
+pub turn-end : (el : ℕ → Element) (l : List ℕ) (i : ℕ) → length l ≤ i → (P : Params) (a : Side) (j : ℕ) (v : Walk) → walk P (bare a) j v (map el (drop i l)) ≡ v
 unfolding walk
 turn-end el l i h P a j v = ap (λ r. walk P (bare a) j v (map el r)) (drop-of-length-le l h)
 
 -- ---- the true side, gathered row by row onto what stands
 
-abbrev pub onto : Cut → Asked → Column → Asked
+abbrev pub onto : Cut → Side → Column → Side
 onto c s es = record { totals = totals (s .totals) (trueSide c es); count = s .count + tally (trueSide c es) }
 
-onto-step : (c : Cut) (s : Asked) (e : Element) (es : Column) → onto c (sideStep (c .threshold) s (cellOf (c .feature) e)) es ≡ onto c s (e ∷ es)
-unfolding sideStep cellOf keep goesTrue joinIn total totals putIf
+onto-step : (c : Cut) (s : Side) (e : Element) (es : Column) → onto c (sideStep (c .threshold) s (cellOf (c .feature) e)) es ≡ onto c s (e ∷ es)
+unfolding sideStep cellOf keep goesTrue joined total totals putIf
 onto-step c s e es = go (le (at (c .feature) e) (c .threshold))
   where
-    go : (b : Bool) → onto c (cond b (joinIn s (cellOf (c .feature) e)) s) es
+    go : (b : Bool) → onto c (cond b (joined s (e .target) (e .mass) (e .count)) s) es
         ≡ record { totals = totals (s .totals) (putIf b e (trueSide c es)); count = s .count + tally (putIf b e (trueSide c es)) }
     go true = λ i. record { totals = totals (takeIn (s .totals) (e .target) (e .mass)) (trueSide c es); count = add-assoc (s .count) (e .count) (tally (trueSide c es)) i }
     go false = refl
 
-side-most : (t : Float) (s : Asked) (e : Cell) → sideStep t s e .count ≤ s .count + e .count
-unfolding sideStep joinIn
+side-most : (t : Float) (s : Side) (e : Cell) → sideStep t s e .count ≤ s .count + e .count
+unfolding sideStep joined
 side-most t s e = go (le (e .value) t)
   where
-    go : (b : Bool) → cond b (joinIn s e) s .count ≤ s .count + e .count
+    go : (b : Bool) → cond b (joined s (e .target) (e .mass) (e .count)) s .count ≤ s .count + e .count
     go true = omega arith
     go false = omega arith
 
 module _ (el : ℕ → Element) (l : List ℕ) (i : ℕ) (h : i < length l) where
-  pub turn-side : (j : ℕ) (t : Float) (s : Asked) {e : Cell} {s′ : Asked} → e ≡ cellOf j (el (getD l i 0)) → s′ ≡ sideStep t s e
+  pub turn-side : (j : ℕ) (t : Float) (s : Side) {e : Cell} {s′ : Side} → e ≡ cellOf j (el (getD l i 0)) → s′ ≡ sideStep t s e
       → onto (record { feature = j; threshold = t }) s′ (map el (drop (i + 1) l)) ≡ onto (record { feature = j; threshold = t }) s (map el (drop i l))
   turn-side j t s ee es =
       ap (λ u. onto (record { feature = j; threshold = t }) u (map el (drop (i + 1) l))) (es ∙ ap (sideStep t s) ee)
       ∙ onto-step (record { feature = j; threshold = t }) s (el (getD l i 0)) (map el (drop (i + 1) l))
       ∙ sym (ap (onto (record { feature = j; threshold = t }) s) (ahead el l i h))
 
-  pub turn-most : (j : ℕ) (t : Float) (s : Asked) (n : ℕ) {e : Cell} {s′ : Asked} → e ≡ cellOf j (el (getD l i 0)) → s′ ≡ sideStep t s e
+  pub turn-most : (j : ℕ) (t : Float) (s : Side) (n : ℕ) {e : Cell} {s′ : Side} → e ≡ cellOf j (el (getD l i 0)) → s′ ≡ sideStep t s e
       → s .count + tally (map el (drop i l)) ≤ n → s′ .count + tally (map el (drop (i + 1) l)) ≤ n
   unfolding total cellOf
-  turn-most j t s n {e} {s′} ee es b = omega (arith, b, ap tally (ahead el l i h), ap (λ (x : Cell). x .count) ee, ap (λ (x : Asked). x .count) es, side-most t s e)
+  turn-most j t s n {e} {s′} ee es b = omega (arith, b, ap tally (ahead el l i h), ap (λ (x : Cell). x .count) ee, ap (λ (x : Side). x .count) es, side-most t s e)
 
-pub side-end : (el : ℕ → Element) (l : List ℕ) (i : ℕ) → length l ≤ i → (c : Cut) (s : Asked) → onto c s (map el (drop i l)) ≡ onto c (record { totals = empty; count = 0 }) (map el l)
+pub side-end : (el : ℕ → Element) (l : List ℕ) (i : ℕ) → length l ≤ i → (c : Cut) (s : Side) → onto c s (map el (drop i l)) ≡ onto c (record { totals = empty; count = 0 }) (map el l)
     → s ≡ sideOn (trueSide c (map el l))
 unfolding keep totals total
 side-end el l i h c s e =
@@ -161,12 +162,12 @@ value-is f t j i {v} {j′} {i′} h ev ej ei =
     ev ∙ ap (λ n. getD (t .x) (n * f + j′) nan) ei ∙ ap (λ n. getD (t .x) (i * f + n) nan) ej
     ∙ sym (getD-take f (drop (i * f) (t .x)) j nan h ∙ getD-drop (i * f) (t .x) j nan)
 
-pub best-none : (el : ℕ → Element) (l : List ℕ) → length l ≡ 0 → (P : Params) (a : Asked) (j : ℕ) (h : Held) → h ≡ bestIn P (bare a) j h (map el l)
+pub best-none : (el : ℕ → Element) (l : List ℕ) → length l ≡ 0 → (P : Params) (a : Side) (j : ℕ) (h : Held) → h ≡ bestIn P (bare a) j h (map el l)
 unfolding bestIn
 best-none el [] e P a j h = refl
 best-none el (x ∷ l) e P a j h = absurd (omega arith)
 
-pub best-walk : (el : ℕ → Element) (l : List ℕ) → (length l ≡ 0 → ⊥) → (P : Params) (a : Asked) (j : ℕ) (h : Held) {first : Float} {g : Held} {v : Walk} → first ≡ at j (el (getD l 0 0)) → g ≡ h
+pub best-walk : (el : ℕ → Element) (l : List ℕ) → (length l ≡ 0 → ⊥) → (P : Params) (a : Side) (j : ℕ) (h : Held) {first : Float} {g : Held} {v : Walk} → first ≡ at j (el (getD l 0 0)) → g ≡ h
     → v ≡ walk P (bare a) j (record { before = empty; count = 0; last = first; best = g }) (map el l) → v .best ≡ bestIn P (bare a) j h (map el l)
 unfolding bestIn
 best-walk el [] n P a j h ef eg ev = absurd (n refl)

@@ -19,8 +19,9 @@ use Rattle.rules.specs.Search.{Element, Column, Task, at, judge, candidateAt, s
 use Rattle.rules.specs.Words.{member, fresh, eachOnce}
 use Rattle.rules.specs.Totals.{takeIn, empty}
 use Rattle.rules.specs.Draws.{Out, bad, ok, bind, Tapes, tape, nextThreshold, takeThreshold, takeWords}
-use Rattle.search.specs.declared.Asked.{Asked}
-use Rattle.search.specs.Flat.{Tables, elementOf, bare, sideOn, left, meantTries, drawAt, part, columnsAt, taskAt, drawsAt, Fair, Searched}
+use Rattle.criterion.specs.declared.Side.{Side}
+use Rattle.criterion.specs.Sides.{sideOn}
+use Rattle.search.specs.Flat.{Tables, elementOf, bare, left, meantTries, drawAt, part, columnsAt, taskAt, drawsAt, Fair, Searched}
 use Rattle.search.specs.declared.Drawn.{Drawn}
 use Rattle.search.specs.declared.Search.the-variants as S
 use lib.Seq.{take-take, drop-drop}
@@ -32,7 +33,7 @@ use Rattle.rules.specs.declared.Splitter.the-variants.{Best, Random}
 
 -- ---- a threshold off the tape
 
-module _ (P : Params) (a : Asked) (j : ℕ) (h : Held) (es : Column) (W : List ℕ) (M : List Float) (s m : ℕ) (lo hi : Float) where
+module _ (P : Params) (a : Side) (j : ℕ) (h : Held) (es : Column) (W : List ℕ) (M : List Float) (s m : ℕ) (lo hi : Float) where
   abbrev goOn : Float × Tapes → Out (Tries Tapes)
   goOn q = ok (record { best = drawn P (bare a) j h es (q .0); left = q .1 })
 
@@ -55,12 +56,12 @@ module _ (P : Params) (a : Asked) (j : ℕ) (h : Held) (es : Column) (W : List �
   unfolding takeThreshold bind
   draw-high k d e = draw-by k false (ap (λ z. z && lt (getD M m nan) hi) d ∙ e)
 
-  pub draw-good : m < length M → le lo (getD M m nan) ≡ true → lt (getD M m nan) hi ≡ true → {q : Asked} {b : Held}
+  pub draw-good : m < length M → le lo (getD M m nan) ≡ true → lt (getD M m nan) hi ≡ true → {q : Side} {b : Held}
       → q ≡ sideOn (trueSide (record { feature = j; threshold = getD M m nan }) es) → b ≡ judge P (bare a) h (q .totals) (q .count) (record { feature = j; threshold = getD M m nan })
       → meantTries W M s (Goes b (m + 1)) ≡ drawAt P (bare a) j h es (left W M s m) lo hi
   unfolding takeThreshold bind drawn
   draw-good k d e {q} {b} eq′ eb =
-      ap (λ z. meantTries W M s (Goes z (m + 1))) (eb ∙ ap (λ (z : Asked). judge P (bare a) h (z .totals) (z .count) (record { feature = j; threshold = getD M m nan })) eq′)
+      ap (λ z. meantTries W M s (Goes z (m + 1))) (eb ∙ ap (λ (z : Side). judge P (bare a) h (z .totals) (z .count) (record { feature = j; threshold = getD M m nan })) eq′)
       ∙ ap (λ n. ok (record { best = drawn P (bare a) j h es (getD M m nan); left = left W M s n })) (add-one m)
       ∙ draw-by k true (ap (λ z. z && lt (getD M m nan) hi) d ∙ e)
 
@@ -76,7 +77,7 @@ unfolding randomIn
 random-none el [] e P task j r = refl
 random-none el (x ∷ l) e P task j r = absurd (omega arith)
 
-module _ (el : ℕ → Element) (P : Params) (a : Asked) (j : ℕ) (h : Held) (W : List ℕ) (M : List Float) (s m : ℕ) where
+module _ (el : ℕ → Element) (P : Params) (a : Side) (j : ℕ) (h : Held) (W : List ℕ) (M : List Float) (s m : ℕ) where
   random-by : (l : List ℕ) → (length l ≡ 0 → ⊥) → (lo hi : Float) → lo ≡ at j (el (getD l 0 0)) → hi ≡ at j (el (getD l (length l - 1) 0)) → (b : Bool) → lt lo hi ≡ b → (q : Out (Tries Tapes))
       → ((e : Element) (es : Column) → (e ∷ es) ≡ map el l → at j e ≡ lo → at j (final e es) ≡ hi → q ≡ drawIn (tape (P .features)) b P (bare a) j (record { best = h; left = left W M s m }) e es)
       → q ≡ randomIn (tape (P .features)) P (bare a) j (record { best = h; left = left W M s m }) (map el l)
@@ -107,7 +108,7 @@ module _ (el : ℕ → Element) (P : Params) (a : Asked) (j : ℕ) (h : Held) (W
 
 -- ---- of a task only the totals and the count are searchable
 
-module _ (P : Params) (a : Asked) (C : List Column) (j : ℕ) where
+module _ (P : Params) (a : Side) (C : List Column) (j : ℕ) where
   abbrev full : Task
   full = record { columns = C; totals = a .totals; count = a .count }
 
@@ -150,7 +151,7 @@ part-is rows cols a e k {k′} q h = ap (λ n. take n (drop (k′ * rows + a) co
     width : (b : ℕ) → b + e - (b + a) ≡ e - a
     width b = omega arith
 
-module _ (rows features from′ to : ℕ) (t : Tables) (cols : List ℕ) (a : Asked) (P : Params) (j : ℕ) (hj : j < features) where
+module _ (rows features from′ to : ℕ) (t : Tables) (cols : List ℕ) (a : Side) (P : Params) (j : ℕ) (hj : j < features) where
   pub column-of : part rows cols from′ to j ≡ part rows cols from′ to j → map (elementOf features t) (part rows cols from′ to j) ≡ getD (columnsAt (elementOf features t) rows features cols from′ to) j []
   unfolding columnsAt
   column-of _ = sym (getD-from (λ k. map (elementOf features t) (part rows cols from′ to k)) 0 features j [] hj ∙ ap (λ k. map (elementOf features t) (part rows cols from′ to k)) (zero-add j))

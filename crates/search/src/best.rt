@@ -7,8 +7,8 @@ ghost use lib.ListN.{length, getD};
 ghost use lib.Ieee.{lt, eq};
 ghost use Rattle.rules.specs.Search.{better, judge, walk, tally, bestIn};
 ghost use Rattle.search.specs.Flat.{Shaped, Below, elementOf, bare, stepIn, cutBetween, heldOf, walkOf, earlierOf, valueIn, runAt, cutsIn, Readable};
-use crate::Asked;
 use crate::Cell;
+use criterion::Side;
 use criterion::take_in;
 use criterion::threshold_of;
 use rules::Cut;
@@ -111,7 +111,7 @@ pub fn better_spot(s: Spot, place: usize, q: f64) -> Spot
     }
 }
 
-pub fn judge_spot(p: Params, a: Asked, s: Spot, t: Totals, k: u32, place: usize) -> Spot
+pub fn judge_spot(p: Params, a: Side, s: Spot, t: Totals, k: u32, place: usize) -> Spot
     requires { ⌜ (k ≤ a .count) × (s .place ≤ place) ⌝ }
     ensures { λ r. ⌜ (r .place ≤ place) × ((c : ℕ → Cut) → heldOf c r ≡ judge p (bare a) (heldOf c s) t k (c place)) ⌝ }
 {
@@ -122,7 +122,7 @@ pub fn judge_spot(p: Params, a: Asked, s: Spot, t: Totals, k: u32, place: usize)
     better_spot(s, place, q)
 }
 
-pub fn step_of(p: Params, a: Asked, w: Run, e: Cell, place: usize) -> Run
+pub fn step_of(p: Params, a: Side, w: Run, e: Cell, place: usize) -> Run
     requires { ⌜ (w .count + e .count ≤ a .count) × (w .spot .place ≤ place) ⌝ }
     ensures { λ r. ⌜ (r .spot .place ≤ place) × ((j : ℕ) (c : ℕ → Cut) → c place ≡ cutBetween j (w .last) (e .value) → walkOf c r ≡ stepIn p a j (walkOf c w) e) ⌝ }
 {
@@ -158,7 +158,7 @@ pub fn walk_column(
     features: usize,
     p: Params,
     j: u32,
-    a: Asked,
+    a: Side,
     w: Run,
 ) -> Run
     requires rows { ⌜ Below rows (now col) ⌝ }
@@ -177,8 +177,8 @@ pub fn walk_column(
             counts,
             rows,
             features,
-            crate::wide(j),
-            crate::wide(col[i]),
+            criterion::wide(j),
+            criterion::wide(col[i]),
         );
         i += 1;
         v = step_of(p, a, v, e, i);
@@ -191,7 +191,7 @@ fn value_here(x: &[f64], col: &[u32], rows: usize, features: usize, j: u32, i: u
     requires { ⌜ Readable rows features (now x) j (now col) × (i < length (now col)) ⌝ }
     ensures { λ r. ⌜ r ≡ valueIn features (now (x .entry)) j (getD (now (col .entry)) i 0) ⌝ }
 {
-    crate::value_of(x, features, crate::wide(j), crate::wide(col[i]))
+    crate::value_of(x, features, criterion::wide(j), criterion::wide(col[i]))
 }
 
 // A run of equals of value v, or a new one of value e.
@@ -277,7 +277,7 @@ pub fn best_in(
     features: usize,
     p: Params,
     j: u32,
-    a: Asked,
+    a: Side,
     h: Held,
 ) -> Held
     requires rows { ⌜ Below rows (now col) ⌝ }

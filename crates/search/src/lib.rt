@@ -11,6 +11,7 @@ ghost use Rattle.rules.specs.Search.{judge, tryOne, tryAll};
 ghost use Rattle.rules.specs.Totals.{less, proxy};
 ghost use Rattle.search.specs.Flat.{Shaped, elementOf, cellOf, bare, tooFew, meantTries, left, NodeAsks, taskAt, Fair, Searched};
 ghost use Rattle.rules.specs.declared.Held.the-variants.{Nothing};
+use criterion::Side;
 use criterion::better_of;
 use criterion::less_of;
 use criterion::mass_of;
@@ -23,12 +24,6 @@ use rules::Totals;
 
 pub mod best;
 pub mod random;
-
-// A node's totals and count, or a side's.
-pub struct Asked {
-    pub totals: Totals,
-    pub count: u32,
-}
 
 // What a walk along a feature learns of a row.
 pub struct Cell {
@@ -58,7 +53,7 @@ pub enum Search {
 }
 
 // Whether a true side of k, or what it leaves of a node, is below the least leaf.
-pub fn too_few(p: Params, a: Asked, k: u32) -> bool
+pub fn too_few(p: Params, a: Side, k: u32) -> bool
     requires { ⌜ k ≤ a .count ⌝ }
     ensures { λ r. ⌜ r ≡ tooFew p a k ⌝ }
 {
@@ -68,14 +63,14 @@ pub fn too_few(p: Params, a: Asked, k: u32) -> bool
     a.count - k < p.leaf
 }
 
-pub fn proxy_in(a: Asked, t: Totals) -> f64
+pub fn proxy_in(a: Side, t: Totals) -> f64
     ensures { λ r. ⌜ r ≡ proxy t (less (a .totals) t) ⌝ }
 {
     let f = less_of(a.totals, t);
     proxy_of(t, f)
 }
 
-pub fn judge_of(p: Params, a: Asked, h: Held, t: Totals, k: u32, c: Cut) -> Held
+pub fn judge_of(p: Params, a: Side, h: Held, t: Totals, k: u32, c: Cut) -> Held
     requires { ⌜ k ≤ a .count ⌝ }
     ensures { λ r. ⌜ r ≡ judge p (bare a) h t k c ⌝ }
 {
@@ -84,12 +79,6 @@ pub fn judge_of(p: Params, a: Asked, h: Held, t: Totals, k: u32, c: Cut) -> Held
     }
     let q = proxy_in(a, t);
     better_of(h, c, q)
-}
-
-pub fn wide(x: u32) -> usize
-    ensures { λ r. ⌜ r ≡ x ⌝ }
-{
-    x as usize
 }
 
 pub fn value_of(x: &[f64], features: usize, j: usize, r: usize) -> f64
@@ -138,14 +127,14 @@ pub fn try_one(
     to: usize,
     p: Params,
     j: u32,
-    a: Asked,
+    a: Side,
     h: Held,
     m: usize,
 ) -> Tried
     requires { ⌜ NodeAsks rows features from to (record { x = now x; y = now y; weights = now weights; counts = now counts }) (now cols) (a .count) × (j < features) ⌝ }
     ensures { λ r. ⌜ ((W : List ℕ) (s : ℕ) → meantTries W (now (thresholds .entry)) s r ≡ tryOne (tape (p .features)) (p .splitter) p (taskAt rows features from to (record { x = now (x .entry); y = now (y .entry); weights = now (weights .entry); counts = now (counts .entry) }) (now (cols .entry)) a) j (record { best = h; left = left W (now (thresholds .entry)) s m })) ⌝ }
 {
-    let base = wide(j) * rows;
+    let base = criterion::wide(j) * rows;
     let lo = base + from;
     let hi = base + to;
     let kind = p.splitter;
@@ -231,7 +220,7 @@ pub fn try_all(
     from: usize,
     to: usize,
     p: Params,
-    a: Asked,
+    a: Side,
     at: usize,
     k: usize,
     m: usize,
@@ -295,7 +284,7 @@ pub fn search_node(
     from: usize,
     to: usize,
     p: Params,
-    a: Asked,
+    a: Side,
     d: Drawn,
 ) -> Search
     requires { ⌜ NodeAsks rows features from to (record { x = now x; y = now y; weights = now weights; counts = now counts }) (now cols) (a .count) × (features ≡ p .features) × (features ≤ 1024) × (0 < features) × Fair (now words) d ⌝ }
@@ -306,7 +295,7 @@ pub fn search_node(
         return Search::Refused;
     }
     if choice_good(words, at, features) {
-        let k = lesser(wide(p.tried), features);
+        let k = lesser(criterion::wide(p.tried), features);
         let r = try_all(
             x,
             y,

@@ -4,37 +4,22 @@ ghost use mathlib.Core.List.{List, map};
 ghost use Prim.Native.Nat.{ℕ, _+_, _≤_, _<_};
 ghost use Rattle.rules.specs.Draws.{tape};
 ghost use Rattle.rules.specs.Search.{tally, randomIn, trueSide};
-ghost use Rattle.search.specs.Flat.{Shaped, Below, elementOf, bare, joinIn, sideStep, sideOn, meantTries, left, drawAt};
-use crate::Asked;
+ghost use Rattle.criterion.specs.Sides.{sideOn};
+ghost use Rattle.search.specs.Flat.{Shaped, Below, elementOf, bare, sideStep, meantTries, left, drawAt};
 use crate::Cell;
 use crate::Tried;
-use criterion::take_in;
+use criterion::Side;
 use rules::Cut;
 use rules::Held;
 use rules::Params;
-use rules::Totals;
 
-// One more row of a side's totals and count.
-pub fn joined(s: Asked, e: Cell) -> Asked
-    requires { ⌜ s .count + e .count < 4294967296 ⌝ }
-    ensures { λ r. ⌜ r ≡ joinIn s e ⌝ }
-{
-    let n = s.count + e.count;
-    let t = s.totals;
-    let now = take_in(t, e.target, e.mass);
-    Asked {
-        totals: now,
-        count: n,
-    }
-}
-
-// The same, where the row is on the true side of t.
-pub fn joined_if(s: Asked, e: Cell, t: f64) -> Asked
+// One more row of a side, where it is on the true side of t.
+pub fn joined_if(s: Side, e: Cell, t: f64) -> Side
     requires { ⌜ s .count + e .count < 4294967296 ⌝ }
     ensures { λ r. ⌜ r ≡ sideStep t s e ⌝ }
 {
     if e.value <= t {
-        return joined(s, e);
+        return criterion::join(s, e.target, e.mass, e.count);
     }
     s
 }
@@ -51,19 +36,13 @@ pub fn true_side(
     j: u32,
     t: f64,
     most: u32,
-) -> Asked
+) -> Side
     requires rows { ⌜ Below rows (now col) ⌝ }
     requires shape { ⌜ Shaped rows features (record { x = now x; y = now y; weights = now weights; counts = now counts }) × (j < features) ⌝ }
     requires room { ⌜ tally (map (elementOf features (record { x = now x; y = now y; weights = now weights; counts = now counts })) (now col)) ≤ most ⌝ }
     ensures { λ r. ⌜ (r ≡ sideOn (trueSide (record { feature = j; threshold = t }) (map (elementOf features (record { x = now (x .entry); y = now (y .entry); weights = now (weights .entry); counts = now (counts .entry) })) (now (col .entry))))) × (r .count ≤ most) ⌝ }
 {
-    let mut s = Asked {
-        totals: Totals {
-            sum: 0.0,
-            mass: 0.0,
-        },
-        count: 0,
-    };
+    let mut s = criterion::no_side();
     let mut i = 0;
     while i < col.len() {
         let e = crate::cell_of(
@@ -73,8 +52,8 @@ pub fn true_side(
             counts,
             rows,
             features,
-            crate::wide(j),
-            crate::wide(col[i]),
+            criterion::wide(j),
+            criterion::wide(col[i]),
         );
         s = joined_if(s, e, t);
         i += 1;
@@ -94,7 +73,7 @@ pub fn draw_in(
     features: usize,
     p: Params,
     j: u32,
-    a: Asked,
+    a: Side,
     h: Held,
     m: usize,
     lo: f64,
@@ -143,7 +122,7 @@ pub fn random_in(
     features: usize,
     p: Params,
     j: u32,
-    a: Asked,
+    a: Side,
     h: Held,
     m: usize,
 ) -> Tried
@@ -156,8 +135,8 @@ pub fn random_in(
     if n == 0 {
         return Tried::Goes(h, m);
     }
-    let lo = crate::value_of(x, features, crate::wide(j), crate::wide(col[0]));
-    let hi = crate::value_of(x, features, crate::wide(j), crate::wide(col[n - 1]));
+    let lo = crate::value_of(x, features, criterion::wide(j), criterion::wide(col[0]));
+    let hi = crate::value_of(x, features, criterion::wide(j), criterion::wide(col[n - 1]));
     if lo < hi {
         return draw_in(
             x,

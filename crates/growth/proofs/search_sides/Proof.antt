@@ -12,7 +12,7 @@ few : (c : tie.Start) → c .args .w .count < 4294967296
 few c = c .good .1 .1 .1 .1 .1 .1 .1 .1 .1 .1 .1 .1 .1 .1 .0 .1 .1 .1 .1 .1 .1 .0 .1
 
 abbrev from : tie.After-either-searched → tie.Start
-from c = c .before .before .before .before .before .before .before .before .before .before .before .before .before .before .before
+from c = c .before .before .before .before .before .before .before .before .before .before .before .before .before
 
 abbrev from-parts : tie.After-wide3 → tie.Start
 from-parts c = from (c .before .before .before .before .before .before)

@@ -4,16 +4,16 @@ use borrow.Author.Needs.{needs}
 use Rattle.search.proofs.random.joined_if.Statement.{statement}
 use Rattle.search.proofs.random.joined_if.Tie as tie
 
-joined-requires : tie.Need-joined-requires
-joined-requires c κs = search needs
+join-requires : tie.Need-join-requires
+join-requires c κs = search needs
 
 returns : tie.Need-returns
 unfolding sideStep
-returns c = simp (c .before .if1 .taken) (c .joined .ensures)
+returns c = simp (c .before .if1 .taken) (c .join .ensures)
 
 returns-2 : tie.Need-returns-2
 unfolding sideStep
 returns-2 c = simp (c .if1 .left)
 
 pub joined-if-spec : {M : Type 1} → statement M
-joined-if-spec = tie.close (tie.spec joined-requires returns returns-2)
+joined-if-spec = tie.close (tie.spec join-requires returns returns-2)

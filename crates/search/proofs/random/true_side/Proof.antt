@@ -1,11 +1,13 @@
 -- `search::random::true_side` meets its contract: the loop's invariant: the side so far, then the rest of the column, makes the whole side. Assumes nothing.
 use native.Mathlib.Omega.{arith}
-use mathlib.Core.Path.{_≡_, refl, sym, _∙_, subst}
+use mathlib.Core.Path.{_≡_, sym, ap, _∙_, subst}
 use Prim.Native.Nat.{_+_, _-_, _≤_, _<_}
 use mathlib.Core.List.{map}
 use lib.ListN.{length, getD, drop}
 use Rattle.search.specs.Flat.{elementOf}
-use Rattle.rules.specs.Search.{tally}
+use Rattle.rules.specs.Words.{total}
+use Rattle.rules.specs.Search.{tally, totals}
+use Rattle.criterion.specs.declared.Side.{Side}
 use Rattle.rules.specs.Totals.{empty}
 use Rattle.search.specs.Laws.{cell-here, turn-fits, onto, turn-side, turn-most, side-end}
 use borrow.Author.Needs.{needs}
@@ -21,8 +23,16 @@ Inv-loop x y weights counts col rows features j t most s₀ i₀ s i =
 abbrev μ-loop : tie.MeasureT-loop
 μ-loop x y weights counts col rows features j t most s₀ i₀ s i = length col - i
 
+no-side-requires : tie.Need-no-side-requires Inv-loop μ-loop
+no-side-requires c κs = search needs
+
 loop-holds : tie.Need-loop-holds Inv-loop μ-loop
-loop-holds c = (omega arith, omega (arith, c .before .before .before .before .before .pre .1 .1), refl)
+unfolding total totals
+loop-holds c =
+    let p = c .before .before .before .before .before .before .pre in
+    let a = c .before .before .before .before .before .before .args in
+    let e = c .no-side .ensures in
+    (omega arith, omega (arith, p .1 .1, ap (λ (z : Side). z .count) e), ap (λ z. onto (record { feature = a .j; threshold = a .t }) z (map (elementOf (a .features) (record { x = a .x .now; y = a .y .now; weights = a .weights .now; counts = a .counts .now })) (a .col .now))) e)
 
 wide-requires : tie.Need-wide-requires Inv-loop μ-loop
 wide-requires c κs = search needs
@@ -38,21 +48,21 @@ wide-requires-2 c κs = search needs
 
 cell-of-requires : tie.Need-cell-of-requires Inv-loop μ-loop
 cell-of-requires c κs =
-    let s = c .before .before .before .before .before .before .before .before .before .before .pre in
-    (s .1 .0 .0, subst (λ n. n < c .before .before .before .before .before .before .before .before .before .before .args .rows) (sym (c .wide2 .ensures)) (s .0 (c .before .before .before .before .loop .i) (c .before .before .before .loop-test .taken)), subst (λ n. n < c .before .before .before .before .before .before .before .before .before .before .args .features) (sym (c .before .before .wide .ensures)) (s .1 .0 .1))
+    let s = c .before .before .before .before .before .before .before .before .before .before .before .pre in
+    (s .1 .0 .0, subst (λ n. n < c .before .before .before .before .before .before .before .before .before .before .before .args .rows) (sym (c .wide2 .ensures)) (s .0 (c .before .before .before .before .loop .i) (c .before .before .before .loop-test .taken)), subst (λ n. n < c .before .before .before .before .before .before .before .before .before .before .before .args .features) (sym (c .before .before .wide .ensures)) (s .1 .0 .1))
 
 joined-if-requires : tie.Need-joined-if-requires Inv-loop μ-loop
-joined-if-requires c κs = let a = c .before .before .before .before .before .before .before .before .before .before .before .args in let l = c .before .before .before .before .before .loop in omega (arith, turn-fits (elementOf (a .features) (record { x = a .x .now; y = a .y .now; weights = a .weights .now; counts = a .counts .now })) (a .col .now) (l .i) (c .before .before .before .before .loop-test .taken) (a .j) (l .s .count) (a .most) (cell-here (a .features) (record { x = a .x .now; y = a .y .now; weights = a .weights .now; counts = a .counts .now }) (a .j) (getD (a .col .now) (l .i) 0) (c .cell-of .ensures) (c .before .before .before .wide .ensures) (c .before .wide2 .ensures)) (l .inv .1), c .before .before .before .before .before .before .before .before .before .before .before .fits .most)
+joined-if-requires c κs = let a = c .before .before .before .before .before .before .before .before .before .before .before .before .args in let l = c .before .before .before .before .before .loop in omega (arith, turn-fits (elementOf (a .features) (record { x = a .x .now; y = a .y .now; weights = a .weights .now; counts = a .counts .now })) (a .col .now) (l .i) (c .before .before .before .before .loop-test .taken) (a .j) (l .s .count) (a .most) (cell-here (a .features) (record { x = a .x .now; y = a .y .now; weights = a .weights .now; counts = a .counts .now }) (a .j) (getD (a .col .now) (l .i) 0) (c .cell-of .ensures) (c .before .before .before .wide .ensures) (c .before .wide2 .ensures)) (l .inv .1), c .before .before .before .before .before .before .before .before .before .before .before .before .fits .most)
 
 add-i : tie.Need-add-i Inv-loop μ-loop
-add-i c = omega (arith, c .before .before .before .before .before .loop-test .taken, c .before .before .before .before .before .before .before .before .before .before .before .before .good .1 .1 .1 .1 .0 .0)
+add-i c = omega (arith, c .before .before .before .before .before .loop-test .taken, c .before .before .before .before .before .before .before .before .before .before .before .before .before .good .1 .1 .1 .1 .0 .0)
 
 loop-less : tie.Need-loop-less Inv-loop μ-loop
 loop-less c = search needs
 
 loop-again : tie.Need-loop-again Inv-loop μ-loop
 loop-again c =
-    let a = c .before .before .before .before .before .before .before .before .before .before .before .before .args in
+    let a = c .before .before .before .before .before .before .before .before .before .before .before .before .before .args in
     let l = c .before .before .before .before .before .before .loop in
     let e = cell-here (a .features) (record { x = a .x .now; y = a .y .now; weights = a .weights .now; counts = a .counts .now }) (a .j) (getD (a .col .now) (l .i) 0) (c .before .cell-of .ensures) (c .before .before .before .before .wide .ensures) (c .before .before .wide2 .ensures) in (
       omega arith,
@@ -61,7 +71,7 @@ loop-again c =
     )
 
 returns : tie.Need-returns Inv-loop μ-loop
-returns c = let a = c .before .before .before .before .before .before .before .args in let l = c .before .loop in (side-end (elementOf (a .features) (record { x = a .x .now; y = a .y .now; weights = a .weights .now; counts = a .counts .now })) (a .col .now) (l .i) (c .loop-test .left) (record { feature = a .j; threshold = a .t }) (l .s) (l .inv .2), omega (arith, l .inv .1))
+returns c = let a = c .before .before .before .before .before .before .before .before .args in let l = c .before .loop in (side-end (elementOf (a .features) (record { x = a .x .now; y = a .y .now; weights = a .weights .now; counts = a .counts .now })) (a .col .now) (l .i) (c .loop-test .left) (record { feature = a .j; threshold = a .t }) (l .s) (l .inv .2), omega (arith, l .inv .1))
 
 pub true-side-spec : {M : Type 1} → statement M
 true-side-spec =
@@ -69,6 +79,7 @@ true-side-spec =
     (tie.spec
     Inv-loop
     μ-loop
+    no-side-requires
     loop-holds
     wide-requires
     mul-wide

@@ -1,9 +1,9 @@
--- `columns::no_side` meets its contract: no rows, and none counted. Assumes nothing.
+-- `criterion::no_side` meets its contract: no rows, and none counted. Assumes nothing.
 use borrow.Author.Needs.{needs}
 use Rattle.rules.specs.Words.{total}
 use Rattle.rules.specs.Search.{totals}
-use Rattle.columns.proofs.no_side.Statement.{statement}
-use Rattle.columns.proofs.no_side.Tie as tie
+use Rattle.criterion.proofs.no_side.Statement.{statement}
+use Rattle.criterion.proofs.no_side.Tie as tie
 
 no-rows-requires : tie.Need-no-rows-requires
 no-rows-requires c κs = search needs

@@ -1,9 +1,9 @@
--- `columns::join` meets its contract: the totals take the row in, and its count is added. Assumes nothing.
+-- `criterion::join` meets its contract: the totals take the row in, and its count is added. Assumes nothing.
 use borrow.Author.Needs.{needs}
 use Prim.Native.Nat.{_+_}
-use Rattle.columns.specs.Split.{joined}
-use Rattle.columns.proofs.join.Statement.{statement}
-use Rattle.columns.proofs.join.Tie as tie
+use Rattle.criterion.specs.Sides.{joined}
+use Rattle.criterion.proofs.join.Statement.{statement}
+use Rattle.criterion.proofs.join.Tie as tie
 
 take-in-requires : tie.Need-take-in-requires
 take-in-requires c κs = search needs
