@@ -1,20 +1,17 @@
--- The work columns: one a feature, each `rows` long, one after another at the front of the order room. A node's rows lie in the same stretch of each.
+-- What set-up and a partition do to the work columns, which lie at the front of the order room.
 use Prim.Native.Nat.{ℕ, zero, suc, _+_, _-_, _*_, _<_, _≤_}
 use mathlib.Core.Path.{_≡_}
 use mathlib.Core.Bool.{Bool, false, not}
-use mathlib.Core.List.{List, [], _∷_, _++_, map}
+use mathlib.Core.List.{List, [], _∷_, _++_}
 use lib.ListN.{length, getD, take, drop}
 use lib.Dec.{T, leb}
 use lib.Ieee.{Float}
 use Rattle.rules.specs.Words.{from, keep, eachOnce, stretch}
 use Rattle.rules.specs.Lent.{listingAt}
-use Rattle.rules.specs.Search.{Element, Column}
+use Rattle.rules.specs.Search.{Element}
 use Rattle.rules.specs.Fit.{elementIn}
 use Rattle.laws.specs.Lists.{Every}
-
--- the rows from place a to place e of column k
-abbrev pub part : ℕ → ℕ → ℕ → ℕ → List ℕ → List ℕ
-part rows k a e cols = stretch (k * rows + a) (e - a) cols
+use Rattle.laws.specs.Work.{part}
 
 -- n entries from place a on, changed where they lie
 unfoldable pub changed : ℕ → ℕ → (List ℕ → List ℕ) → List ℕ → List ℕ
@@ -24,10 +21,6 @@ changed a n g l = take a l ++ (g (stretch a n l) ++ drop n (drop a l))
 unfoldable pub inColumns : ℕ → ℕ → ℕ → (ℕ → List ℕ → List ℕ) → ℕ → List ℕ → List ℕ
 inColumns rows a e g zero cols = cols
 inColumns rows a e g (suc n) cols = changed (n * rows + a) (e - a) (g n) (inColumns rows a e g n cols)
-
--- what rows stand for: their elements, column by column
-unfoldable pub columnsAt : (ℕ → Element) → ℕ → ℕ → ℕ → ℕ → List ℕ → List Column
-columnsAt el rows n a e cols = map (λ k. map el (part rows k a e cols)) (from 0 n)
 
 -- ---- set-up
 

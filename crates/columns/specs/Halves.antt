@@ -14,8 +14,9 @@ use Rattle.rules.specs.Words.{keep, putIf, total, stretch}
 use Rattle.rules.specs.Search.{Element, tally}
 use Rattle.rules.specs.Fit.{elementIn}
 use Rattle.laws.specs.Lists.{Every, every-imp, every-append, every-keep, total-keep, length-total}
+use Rattle.laws.specs.Work.{part}
 use Rattle.columns.specs.declared.Sides.{Sides}
-use Rattle.columns.specs.Columns.{part, changed, inColumns, flagged, fails, parted, partedColumns, Cleft, ColumnsAsk}
+use Rattle.columns.specs.Columns.{changed, inColumns, flagged, fails, parted, partedColumns, Cleft, ColumnsAsk}
 use Rattle.columns.specs.Split.{Alike, goes, sidesOf, marked, PassAsks, PassDone, SplitAsks, SplitDone}
 use Rattle.columns.specs.Fronts.{keep-both, parted-long}
 use Rattle.columns.specs.Stretches.{column-end, Keeps, part-in, part-join, part-long, part-every, in-long, in-later, in-beside, in-here}

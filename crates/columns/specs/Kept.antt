@@ -14,7 +14,8 @@ use Rattle.rules.specs.Search.{totals}
 use Rattle.rules.specs.Fit.{elementIn, element, listing, column, root}
 use Rattle.laws.specs.Lists.{Every, every-imp, every-keep, map-same, length-total, from-below}
 use Rattle.laws.specs.Once.{once-below, once-keep}
-use Rattle.columns.specs.Columns.{part, columnsAt, bare, KeptAll}
+use Rattle.laws.specs.Work.{part, columnsAt}
+use Rattle.columns.specs.Columns.{bare, KeptAll}
 use Rattle.columns.specs.Setup.{totals-bare}
 
 -- a listing of every row once has as many kept rows as there are

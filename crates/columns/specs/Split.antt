@@ -1,5 +1,5 @@
 -- The split pass: what it makes of the rows of a stretch, and what it leaves in the flags.
-use Prim.Native.Nat.{ℕ, _+_, _-_, _*_, _<_, _≤_}
+use Prim.Native.Nat.{ℕ, _-_, _*_, _<_, _≤_}
 use mathlib.Core.Path.{_≡_}
 use mathlib.Core.Bool.{Bool, true, false}
 use mathlib.Core.List.{List, [], _∷_, map}
@@ -10,13 +10,14 @@ use Rattle.rules.specs.declared.Cut.{Cut}
 use Rattle.rules.specs.Words.{keep, total}
 use Rattle.rules.specs.Lent.{cell}
 use Rattle.rules.specs.Totals.{empty}
-use Rattle.rules.specs.Search.{Element, Column, totals, tally, goesTrue, trueSide, falseSide}
+use Rattle.rules.specs.Search.{Element, totals, tally, goesTrue, trueSide, falseSide}
 use Rattle.rules.specs.Fit.{elementIn}
 use Rattle.laws.specs.Lists.{Every}
+use Rattle.laws.specs.Work.{part}
 use Rattle.criterion.specs.Sides.{sideOn}
 use Rattle.columns.specs.declared.Sides.{Sides}
 use Rattle.columns.specs.declared.Gathered.{Gathered}
-use Rattle.columns.specs.Columns.{part, flagged, bare, Cleft, Counted}
+use Rattle.columns.specs.Columns.{flagged, bare, Cleft, Counted}
 
 -- the tables of a fit, by their lengths
 pub record Shaped (rows features : ℕ) (values targets weights : List Float) (counts : List ℕ) : Type 0 where

@@ -12,7 +12,8 @@ use lib.Seq.{take-at, drop-at, take-take, take-add, drop-drop, take-nil, length-
 use borrow.Rule.Slice.PartMut.{putMid}
 use Rattle.rules.specs.Words.{stretch}
 use Rattle.laws.specs.Lists.{Every, every-take, every-drop}
-use Rattle.columns.specs.Columns.{part, changed, inColumns}
+use Rattle.laws.specs.Work.{part}
+use Rattle.columns.specs.Columns.{changed, inColumns}
 
 -- ---- lists
 

@@ -18,12 +18,13 @@ use Rattle.rules.specs.Words.{keep, putIf, total, from}
 use Rattle.rules.specs.Totals.{empty}
 use Rattle.laws.specs.Lists.{is-false, Every, every-at, every-imp, map-same, keep-map, getD-from, from-below}
 use Rattle.laws.specs.Cuts.{Rising, Good}
+use Rattle.laws.specs.Work.{part, columnsAt}
 use Rattle.columns.specs.Columns.{Cleft}
 use Rattle.columns.specs.Split.{Alike, goes}
 use Rattle.columns.specs.Stretches.{part-every}
 use Rattle.criterion.specs.declared.Side.{Side}
 use Rattle.criterion.specs.Sides.{sideOn}
-use Rattle.search.specs.Flat.{Tables, Shaped, elementOf, part, columnsAt, NodeAsks}
+use Rattle.search.specs.Flat.{Tables, Shaped, elementOf, NodeAsks}
 use Rattle.growth.specs.declared.Wait.{Wait}
 use Rattle.growth.specs.Rooms.{Ground, waitAt, cutOf, nodeTask, waitingOf, stackOf, Laid, BelowTo}
 use Rattle.growth.specs.Nodes.{columnOf, store-node, add-node}
@@ -33,8 +34,8 @@ withCols g cols = record { rows = g .rows; features = g .features; tables = g .t
 
 -- ---- columns, one by one
 
-pub cols-alike : (el : ℕ → Element) (rows features : ℕ) (cols′ cols : List ℕ) (a e : ℕ) → ((k : ℕ) → k < features → part rows cols′ a e k ≡ part rows cols a e k)
-    → columnsAt el rows features cols′ a e ≡ columnsAt el rows features cols a e
+pub cols-alike : (el : ℕ → Element) (rows features : ℕ) (cols′ cols : List ℕ) (a e : ℕ) → ((k : ℕ) → k < features → part rows k a e cols′ ≡ part rows k a e cols)
+    → columnsAt el rows features a e cols′ ≡ columnsAt el rows features a e cols
 unfolding columnsAt
 cols-alike el rows features cols′ cols a e h =
     map-same _ _ (from 0 features) (every-imp _ _ (λ k u. ap (map el) (h k (omega arith))) (from 0 features) (from-below 0 features))
@@ -48,22 +49,22 @@ side-columns el c b n old new h =
 
 -- a node's column k
 pub column-at : (g : Ground) (a e k : ℕ) → k < g .features
-    → map (elementOf (g .features) (g .tables)) (part (g .rows) (g .cols) a e k) ≡ getD (columnsAt (elementOf (g .features) (g .tables)) (g .rows) (g .features) (g .cols) a e) k []
+    → map (elementOf (g .features) (g .tables)) (part (g .rows) k a e (g .cols)) ≡ getD (columnsAt (elementOf (g .features) (g .tables)) (g .rows) (g .features) a e (g .cols)) k []
 unfolding columnsAt
 column-at g a e k h = sym (getD-from mine 0 (g .features) k [] h ∙ ap mine (zero-add k))
   where
     mine : ℕ → Column
-    mine j = map (elementOf (g .features) (g .tables)) (part (g .rows) (g .cols) a e j)
+    mine j = map (elementOf (g .features) (g .tables)) (part (g .rows) j a e (g .cols))
 
 -- a side of a split is the definition's child
 pub task-of : (g : Ground) (e : Wait) (cols′ : List ℕ) (b : Bool → Bool) (a′ e′ : ℕ) (h : Side) → e .feature < g .features
-    → ((k : ℕ) → k < g .features → part (g .rows) cols′ a′ e′ k ≡ keep (λ r. b (goesTrue (cutOf e) (elementOf (g .features) (g .tables) r))) (part (g .rows) (g .cols) (e .start) (e .end) k))
-    → h ≡ sideOn (sideOf b (cutOf e) (map (elementOf (g .features) (g .tables)) (part (g .rows) (g .cols) (e .start) (e .end) (e .feature))))
+    → ((k : ℕ) → k < g .features → part (g .rows) k a′ e′ cols′ ≡ keep (λ r. b (goesTrue (cutOf e) (elementOf (g .features) (g .tables) r))) (part (g .rows) k (e .start) (e .end) (g .cols)))
+    → h ≡ sideOn (sideOf b (cutOf e) (map (elementOf (g .features) (g .tables)) (part (g .rows) (e .feature) (e .start) (e .end) (g .cols))))
     → nodeTask (withCols g cols′) a′ e′ h ≡ child b (waitingOf g e)
 unfolding child columnsAt
 task-of g e cols′ b a′ e′ h hj hp eh = λ i.
     record {
-      columns = side-columns el (cutOf e) b (g .features) (λ k. part (g .rows) (g .cols) (e .start) (e .end) k) (λ k. part (g .rows) cols′ a′ e′ k) hp i;
+      columns = side-columns el (cutOf e) b (g .features) (λ k. part (g .rows) k (e .start) (e .end) (g .cols)) (λ k. part (g .rows) k a′ e′ cols′) hp i;
       totals = (ap (λ (z : Side). z .totals) eh ∙ ap (λ z. totals empty (sideOf b (cutOf e) z)) mine) i;
       count = (ap (λ (z : Side). z .count) eh ∙ ap (λ z. tally (sideOf b (cutOf e) z)) mine) i;
     }
@@ -71,11 +72,11 @@ task-of g e cols′ b a′ e′ h hj hp eh = λ i.
     el : ℕ → Element
     el = elementOf (g .features) (g .tables)
 
-    mine : map el (part (g .rows) (g .cols) (e .start) (e .end) (e .feature)) ≡ getD (columnsAt el (g .rows) (g .features) (g .cols) (e .start) (e .end)) (e .feature) []
+    mine : map el (part (g .rows) (e .feature) (e .start) (e .end) (g .cols)) ≡ getD (columnsAt el (g .rows) (g .features) (e .start) (e .end) (g .cols)) (e .feature) []
     mine = column-at g (e .start) (e .end) (e .feature) hj
 
 -- what lies below the split stretch is as it was
-pub frame : (g : Ground) (cols′ : List ℕ) (a : ℕ) → ((k b f : ℕ) → b ≤ f → f ≤ a → part (g .rows) cols′ b f k ≡ part (g .rows) (g .cols) b f k)
+pub frame : (g : Ground) (cols′ : List ℕ) (a : ℕ) → ((k b f : ℕ) → b ≤ f → f ≤ a → part (g .rows) k b f cols′ ≡ part (g .rows) k b f (g .cols))
     → (wholes : List (List ℕ)) (reals : List (List Float)) (high m : ℕ) → high ≤ a → Laid wholes reals high m → stackOf (withCols g cols′) wholes reals m ≡ stackOf g wholes reals m
 frame g cols′ a beside wholes reals high zero hh l = refl
 frame g cols′ a beside wholes reals high (suc m) hh l =
@@ -104,20 +105,20 @@ rising-cleft el c (x ∷ l) r = (λ out. after l (subst (λ b. T (not b)) (sym o
     after (y ∷ l) out h = (is-false _ (stays-out (at (c .feature) (el x)) _ _ out (h .0)), after l out (h .1))
 
 module _ (g : Ground) (P : Params) (sm : g .features ≡ P .features) (a e : ℕ) (q : Side) (gd : Good P (nodeTask g a e q)) where
-  pub good-alike : (i j : ℕ) → i < g .features → j < g .features → Alike (part (g .rows) (g .cols) a e i) (part (g .rows) (g .cols) a e j)
+  pub good-alike : (i j : ℕ) → i < g .features → j < g .features → Alike (part (g .rows) i a e (g .cols)) (part (g .rows) j a e (g .cols))
   good-alike i j hi hj f =
-      sym (level-sum (g .features) (g .tables) f (part (g .rows) (g .cols) a e i))
+      sym (level-sum (g .features) (g .tables) f (part (g .rows) i a e (g .cols)))
       ∙ ap (λ z. total (λ x. f (x .row)) (keep (λ x. true) z)) (column-at g a e i hi)
       ∙ gd .level i j (subst (λ n. i < n) sm hi) (subst (λ n. j < n) sm hj) (λ x. f (x .row)) (λ x. true)
       ∙ sym (ap (λ z. total (λ x. f (x .row)) (keep (λ x. true) z)) (column-at g a e j hj))
-      ∙ level-sum (g .features) (g .tables) f (part (g .rows) (g .cols) a e j)
+      ∙ level-sum (g .features) (g .tables) f (part (g .rows) j a e (g .cols))
 
-  pub good-room : (k : ℕ) → k < g .features → tally (map (elementOf (g .features) (g .tables)) (part (g .rows) (g .cols) a e k)) ≤ q .count
+  pub good-room : (k : ℕ) → k < g .features → tally (map (elementOf (g .features) (g .tables)) (part (g .rows) k a e (g .cols))) ≤ q .count
   good-room k h = let n = ap tally (column-at g a e k h) in let c = gd .sound k (subst (λ n. k < n) sm h) .counted in omega (arith, n, c)
 
-  pub good-cleft : (c : Cut) → c .feature < g .features → Cleft (goes (elementOf (g .features) (g .tables)) c) (part (g .rows) (g .cols) a e (c .feature))
+  pub good-cleft : (c : Cut) → c .feature < g .features → Cleft (goes (elementOf (g .features) (g .tables)) c) (part (g .rows) (c .feature) a e (g .cols))
   good-cleft c h =
-      rising-cleft (elementOf (g .features) (g .tables)) c (part (g .rows) (g .cols) a e (c .feature))
+      rising-cleft (elementOf (g .features) (g .tables)) c (part (g .rows) (c .feature) a e (g .cols))
       (subst (Rising (c .feature)) (sym (column-at g a e (c .feature) h)) (gd .sound (c .feature) (subst (λ n. c .feature < n) sm h) .rising))
 
   pub good-asks : Shaped (g .rows) (g .features) (g .tables) → length (g .cols) ≡ g .features * g .rows → (n : ℕ) → e ≤ n → BelowTo g n → a ≤ e → e ≤ g .rows
@@ -128,7 +129,7 @@ module _ (g : Ground) (P : Params) (sm : g .features ≡ P .features) (a e : ℕ
         long = lg;
         order = h;
         high = k;
-        below = λ j l i u. every-at (λ r. r < g .rows) (part (g .rows) (g .cols) a e j) 0 i (part-every (λ r. r < g .rows) (g .rows) j 0 n a e (g .cols) (omega arith) en h (bl j l)) u;
+        below = λ j l i u. every-at (λ r. r < g .rows) (part (g .rows) j a e (g .cols)) 0 i (part-every (λ r. r < g .rows) (g .rows) j 0 n a e (g .cols) (omega arith) en h (bl j l)) u;
         room = good-room;
       }
 
@@ -153,7 +154,7 @@ module _ {A : Type 0} (f : TreeNode → A) where
 
 -- ---- rows of a stretch
 
-pub part-short : (rows : ℕ) (cols : List ℕ) (a e k : ℕ) → length (part rows cols a e k) ≤ e - a
+pub part-short : (rows : ℕ) (cols : List ℕ) (a e k : ℕ) → length (part rows k a e cols) ≤ e - a
 part-short rows cols a e k = simp length-take (omega arith)
 
 pub ones-map : (el : ℕ → Element) (l : List ℕ) → total (λ x. 1) (map el l) ≡ length l
@@ -167,9 +168,9 @@ some-row el p [] h = h
 some-row el p (x ∷ l) h = omega arith
 
 -- a stretch from which something is kept has rows
-pub rows-of : (rows : ℕ) (cols : List ℕ) (a e k : ℕ) (el : ℕ → Element) (p : Element → Bool) → 0 < total (λ x. 1) (keep p (map el (part rows cols a e k))) → a < e
+pub rows-of : (rows : ℕ) (cols : List ℕ) (a e k : ℕ) (el : ℕ → Element) (p : Element → Bool) → 0 < total (λ x. 1) (keep p (map el (part rows k a e cols))) → a < e
 rows-of rows cols a e k el p h =
-    let s = some-of el p (part rows cols a e k) h in
+    let s = some-of el p (part rows k a e cols) h in
     let q = part-short rows cols a e k in
     omega (arith, s, q)
   where

@@ -19,12 +19,13 @@ use Rattle.rules.specs.Words.{nought}
 use Rattle.rules.specs.Totals.{valueOf, score}
 use Rattle.laws.specs.Lists.{Every}
 use Rattle.laws.specs.Cuts.{Ripe}
+use Rattle.laws.specs.Work.{part}
 use Rattle.columns.specs.declared.Sides.{Sides}
 use Rattle.columns.specs.Split.{SplitDone}
 use Rattle.criterion.specs.declared.Side.{Side}
 use Rattle.search.specs.declared.Drawn.{Drawn}
 use Rattle.search.specs.declared.Search.{Search}
-use Rattle.search.specs.Flat.{Tables, Shaped, NodeAsks, elementOf, taskAt, drawsAt, Fair, FairAfter, meant, part}
+use Rattle.search.specs.Flat.{Tables, Shaped, NodeAsks, elementOf, taskAt, drawsAt, Fair, FairAfter, meant}
 use Rattle.growth.specs.declared.Wait.{Wait}
 use Rattle.growth.specs.declared.Row.{Row}
 use Rattle.growth.specs.declared.Stand.{Stand}
@@ -41,7 +42,7 @@ pub record Ground : Type 0 where
 
 -- the rows of the first n places of every column
 abbrev pub BelowTo : Ground → ℕ → Type 0
-BelowTo g n = (k : ℕ) → k < g .features → Every (λ r. r < g .rows) (part (g .rows) (g .cols) 0 n k)
+BelowTo g n = (k : ℕ) → k < g .features → Every (λ r. r < g .rows) (part (g .rows) k 0 n (g .cols))
 
 abbrev pub wholesOf : Wait → List ℕ
 wholesOf w = w .node ∷ w .start ∷ w .end ∷ w .level ∷ w .count ∷ w .feature ∷ []

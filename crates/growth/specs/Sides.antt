@@ -17,6 +17,7 @@ use Rattle.rules.specs.Growth.{Waiting, child, searchable, searchIf}
 use Rattle.rules.specs.Draws.{bind, ok, tape}
 use Rattle.laws.specs.Lists.{keep-map}
 use Rattle.laws.specs.Cuts.{Good, side-good}
+use Rattle.laws.specs.Work.{part}
 use Rattle.columns.specs.declared.Sides.{Sides}
 use Rattle.columns.specs.Columns.{flagged, parted, partedColumns, ColumnsAsk}
 use Rattle.columns.specs.Cleft.{cleft-parted}
@@ -24,7 +25,7 @@ use Rattle.columns.specs.Split.{goes, SplitAsks, SplitDone}
 use Rattle.columns.specs.Stretches.{part-every}
 use Rattle.columns.specs.Halves.{marked-parted, split-long, columns-ask, split-beside, split-every, true-part, false-part}
 use Rattle.criterion.specs.Sides.{sideOn}
-use Rattle.search.specs.Flat.{elementOf, part, bare, drawsAt}
+use Rattle.search.specs.Flat.{elementOf, bare, drawsAt}
 use Rattle.growth.specs.declared.Wait.{Wait}
 use Rattle.growth.specs.declared.Stand.{Stand}
 use Rattle.growth.specs.declared.Step.{Step}
@@ -60,7 +61,7 @@ module _ (g : Ground) (P : Params) (W : List ℕ) (sc : ℕ) (flags : List Bool)
   top = waitingOf g w
 
   abbrev rows-of-split : List ℕ
-  rows-of-split = part (g .rows) (g .cols) (w .start) (w .end) (w .feature)
+  rows-of-split = part (g .rows) (w .feature) (w .start) (w .end) (g .cols)
 
   known : w .feature < g .features
   known = subst (λ k. w .feature < k) (sym (q .same)) (q .ripe .fine .known)
@@ -93,15 +94,15 @@ module _ (g : Ground) (P : Params) (W : List ℕ) (sc : ℕ) (flags : List Bool)
   module _ (h : Sides) (d : SplitDone (g .rows) (w .start) (w .end) el (cutOf w) (g .cols) flags h) where
     -- what the partition asks: the split column is parted by the flags as it stands
     pub taken-parts : w .count < 4294967296 → {a e k : ℕ} → a ≡ w .start → e ≡ w .end → k ≡ w .feature
-        → ColumnsAsk (g .rows) (g .features) a e (g .cols) sc (length flags) × (parted (flagged flags) (part (g .rows) (g .cols) a e k) ≡ part (g .rows) (g .cols) a e k)
+        → ColumnsAsk (g .rows) (g .features) a e (g .cols) sc (length flags) × (parted (flagged flags) (part (g .rows) k a e (g .cols)) ≡ part (g .rows) k a e (g .cols))
     taken-parts m {a} {e} {k} ea ee ek = (
       ends-at (λ u v. ColumnsAsk (g .rows) (g .features) u v (g .cols) sc (length flags)) ea ee
           (columns-ask (g .rows) (g .features) (w .start) (w .end) (g .tables .x) (g .tables .y) (g .tables .weights) (g .tables .counts) (cutOf w) (g .cols) sc (length flags) (taken-splits m) (q .scratch-room)),
       ap (parted (flagged flags)) there ∙ marked-parted (goes el (cutOf w)) flags rows-of-split rows-of-split (λ f. refl) (d .marks) ∙ cleft-parted (goes el (cutOf w)) rows-of-split (taken-splits m .cleft) ∙ sym there,
     )
       where
-        there : part (g .rows) (g .cols) a e k ≡ rows-of-split
-        there i = part (g .rows) (g .cols) (ea i) (ee i) (ek i)
+        there : part (g .rows) k a e (g .cols) ≡ rows-of-split
+        there i = part (g .rows) (ek i) (ea i) (ee i) (g .cols)
 
     yes-side : h .yes ≡ sideOn (trueSide (cutOf w) (map el rows-of-split))
     yes-side = ap (λ (z : Sides). z .yes) (d .sides)
@@ -161,10 +162,10 @@ module _ (g : Ground) (P : Params) (W : List ℕ) (sc : ℕ) (flags : List Bool)
           split-every (g .rows) (g .features) (w .start) (w .end) (g .tables .x) (g .tables .y) (g .tables .weights) (g .tables .counts) (cutOf w) (g .cols) cols′ flags h (taken-splits m) d e
           (λ r. r < g .rows) k j l u v (b k l)
 
-      yes-part : (k : ℕ) → k < g .features → part (g .rows) cols′ (w .start) mid k ≡ keep (λ r. goesTrue (cutOf w) (el r)) (part (g .rows) (g .cols) (w .start) (w .end) k)
+      yes-part : (k : ℕ) → k < g .features → part (g .rows) k (w .start) mid cols′ ≡ keep (λ r. goesTrue (cutOf w) (el r)) (part (g .rows) k (w .start) (w .end) (g .cols))
       yes-part = true-part (g .rows) (g .features) (w .start) (w .end) (g .tables .x) (g .tables .y) (g .tables .weights) (g .tables .counts) (cutOf w) (g .cols) cols′ flags h (taken-splits m) d e
 
-      no-part : (k : ℕ) → k < g .features → part (g .rows) cols′ mid (w .end) k ≡ keep (λ r. not (goesTrue (cutOf w) (el r))) (part (g .rows) (g .cols) (w .start) (w .end) k)
+      no-part : (k : ℕ) → k < g .features → part (g .rows) k mid (w .end) cols′ ≡ keep (λ r. not (goesTrue (cutOf w) (el r))) (part (g .rows) k (w .start) (w .end) (g .cols))
       no-part = false-part (g .rows) (g .features) (w .start) (w .end) (g .tables .x) (g .tables .y) (g .tables .weights) (g .tables .counts) (cutOf w) (g .cols) cols′ flags h (taken-splits m) d e
 
       yes-task : nodeTask g′ (w .start) mid (h .yes) ≡ child same top
@@ -174,12 +175,12 @@ module _ (g : Ground) (P : Params) (W : List ℕ) (sc : ℕ) (flags : List Bool)
       no-task = task-of g w cols′ not mid (w .end) (h .no) known no-part no-side
 
       -- a side that has rows takes up places
-      filled : (b : Bool → Bool) (a z : ℕ) → part (g .rows) cols′ a z (w .feature) ≡ keep (λ r. b (goesTrue (cutOf w) (el r))) rows-of-split
+      filled : (b : Bool → Bool) (a z : ℕ) → part (g .rows) (w .feature) a z cols′ ≡ keep (λ r. b (goesTrue (cutOf w) (el r))) rows-of-split
           → 0 < total (λ x. 1) (sideOf b (cutOf w) (getD (top .task .columns) (w .feature) [])) → a < z
       filled b a z p u =
-          omega (arith, part-short (g .rows) cols′ a z (w .feature), subst (λ i. 0 < i) (ones-map el (part (g .rows) cols′ a z (w .feature))) (subst (λ l. 0 < total (λ x. 1) l) (sym elements) u))
+          omega (arith, part-short (g .rows) cols′ a z (w .feature), subst (λ i. 0 < i) (ones-map el (part (g .rows) (w .feature) a z cols′)) (subst (λ l. 0 < total (λ x. 1) l) (sym elements) u))
         where
-          elements : map el (part (g .rows) cols′ a z (w .feature)) ≡ sideOf b (cutOf w) (getD (top .task .columns) (w .feature) [])
+          elements : map el (part (g .rows) (w .feature) a z cols′) ≡ sideOf b (cutOf w) (getD (top .task .columns) (w .feature) [])
           elements = ap (map el) p ∙ sym (keep-map (λ x. b (goesTrue (cutOf w) x)) el rows-of-split) ∙ ap (sideOf b (cutOf w)) mine
 
       starts : w .start < mid
@@ -223,7 +224,7 @@ module _ (g : Ground) (P : Params) (W : List ℕ) (sc : ℕ) (flags : List Bool)
           under : stackOf g′ wholes reals (s .waiting) ≡ stackOf g wholes reals (s .waiting)
           under = frame g cols′ (w .start) beside wholes reals (w .start) (s .waiting) (le-refl (w .start)) (q .laid)
             where
-              beside : (k b f : ℕ) → b ≤ f → f ≤ w .start → part (g .rows) cols′ b f k ≡ part (g .rows) (g .cols) b f k
+              beside : (k b f : ℕ) → b ≤ f → f ≤ w .start → part (g .rows) k b f cols′ ≡ part (g .rows) k b f (g .cols)
               beside k b f o u =
                   split-beside (g .rows) (g .features) (w .start) (w .end) (g .tables .x) (g .tables .y) (g .tables .weights) (g .tables .counts) (cutOf w) (g .cols) cols′ flags h (taken-splits m) d e
                   k b f (inl u) o (omega (arith, u, q .order, q .high))

@@ -13,3 +13,4 @@ pub mod Tables
 pub mod Written
 pub mod Answered
 pub mod Tried
+pub mod Work

@@ -21,10 +21,9 @@ use Rattle.laws.specs.Lists.{Every}
 use Rattle.laws.specs.Root.{Listed, root-good, root-rows}
 use Rattle.laws.specs.Room.{rowsOf}
 use Rattle.laws.specs.Cuts.{Good}
-use Rattle.columns.specs.Columns as C
+use Rattle.laws.specs.Work.{columnsAt}
 use Rattle.columns.specs.Columns.{Counted, KeptAll, bare}
 use Rattle.columns.specs.Kept.{root-made, kept-below}
-use Rattle.search.specs.Flat as S
 use Rattle.growth.specs.Rooms.{Ground, LongAll}
 use Rattle.grows.specs.declared.At.{At}
 use Rattle.grows.specs.declared.Turned.{Turned}
@@ -181,10 +180,10 @@ module _ (features : ℕ) (F : Frame) (D : Data) (c : Columns) (cl sc fl rw rr :
     ground = record { rows = F .rows; features = features; tables = record { x = D .values; y = D .targets; weights = F .weights; counts = F .counts }; cols = cols }
 
     pub root-is : root F D ≡ rootTask ground (r .kept) (r .asked)
-    unfolding S.columnsAt C.columnsAt listing
+    unfolding listing
     root-is =
         subst (λ n. root F D ≡ record {
-          columns = C.columnsAt (elementIn n (D .values) (D .targets) (F .weights) (F .counts)) (F .rows) n 0 (r .kept) cols;
+          columns = columnsAt (elementIn n (D .values) (D .targets) (F .weights) (F .counts)) (F .rows) n 0 (r .kept) cols;
           totals = r .asked .totals;
           count = r .asked .count;
         }) (sym (h .same))

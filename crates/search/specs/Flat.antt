@@ -3,7 +3,7 @@ use Prim.Native.Nat.{ℕ, zero, suc, _+_, _-_, _*_, _<_, _≤_}
 use mathlib.Core.Path.{_≡_, refl}
 use mathlib.Core.Bool.{Bool, _||_, cond}
 use mathlib.Core.List.{List, [], map}
-use lib.ListN.{length, getD, take, drop}
+use lib.ListN.{length, getD, drop}
 use lib.Dec.{ltb}
 use lib.Ieee.{Float, nan, le, eq}
 use Rattle.rules.specs.declared.Params.{Params}
@@ -12,11 +12,12 @@ use Rattle.rules.specs.declared.Held.{Held}
 use Rattle.rules.specs.declared.Held.the-variants.{Nothing, Holds}
 use Rattle.rules.specs.declared.Walk.{Walk}
 use Rattle.rules.specs.Search.{Element, Column, Task, at, candidateAt, step, tally, totals, Tries, drawn, search, Found, found}
-use Rattle.rules.specs.Totals.{takeIn, empty}
+use Rattle.rules.specs.Totals.{takeIn}
 use Rattle.rules.specs.Threshold.{threshold}
-use Rattle.rules.specs.Words.{nought, from}
+use Rattle.rules.specs.Words.{nought}
 use Rattle.rules.specs.Draws.{Out, bad, ok, bind, Tapes, nextThreshold, tape}
 use Rattle.rules.specs.Fit.{elementIn}
+use Rattle.laws.specs.Work.{part, columnsAt}
 use Rattle.criterion.specs.declared.Side.{Side}
 use Rattle.criterion.specs.Sides.{joined}
 use Rattle.search.specs.declared.Cell.{Cell}
@@ -121,15 +122,9 @@ meantTries W M s (Goes h m) = ok (record { best = h; left = left W M s m })
 unfoldable pub drawAt : Params → Task → ℕ → Held → Column → Tapes → Float → Float → Out (Tries Tapes)
 drawAt P task j h es d lo hi = bind (nextThreshold (d .thresholds) lo hi d) (λ m. ok (record { best = drawn P task j h es (m .0); left = m .1 }))
 
--- ---- a node in the work columns, which lie one after another, each `rows` long: its rows from a to e of column k
-abbrev pub part : ℕ → List ℕ → ℕ → ℕ → ℕ → List ℕ
-part rows cols a e k = take (e - a) (drop (k * rows + a) cols)
-
-unfoldable pub columnsAt : (ℕ → Element) → ℕ → ℕ → List ℕ → ℕ → ℕ → List Column
-columnsAt el rows features cols a e = map (λ k. map el (part rows cols a e k)) (from 0 features)
-
+-- ---- a node in the work columns
 abbrev pub taskAt : ℕ → ℕ → ℕ → ℕ → Tables → List ℕ → Side → Task
-taskAt rows features a e t cols q = record { columns = columnsAt (elementOf features t) rows features cols a e; totals = q .totals; count = q .count }
+taskAt rows features a e t cols q = record { columns = columnsAt (elementOf features t) rows features a e cols; totals = q .totals; count = q .count }
 
 -- what the search of a node asks
 pub record NodeAsks (rows features a e : ℕ) (t : Tables) (cols : List ℕ) (count : ℕ) : Type 0 where
@@ -137,8 +132,8 @@ pub record NodeAsks (rows features a e : ℕ) (t : Tables) (cols : List ℕ) (co
   pub long : length cols ≡ features * rows
   pub order : a ≤ e
   pub high : e ≤ rows
-  pub below : (k : ℕ) → k < features → Below rows (part rows cols a e k)
-  pub room : (k : ℕ) → k < features → tally (map (elementOf features t) (part rows cols a e k)) ≤ count
+  pub below : (k : ℕ) → k < features → Below rows (part rows k a e cols)
+  pub room : (k : ℕ) → k < features → tally (map (elementOf features t) (part rows k a e cols)) ≤ count
 
 -- ---- the tapes from where they are used to
 abbrev pub drawsAt : List ℕ → List Float → Drawn → Tapes

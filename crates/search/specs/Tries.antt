@@ -13,7 +13,7 @@ use lib.Dec.{ltb, eqb}
 use lib.Ieee.{Float, nan, lt, le, eq}
 use Rattle.rules.specs.declared.Params.{Params}
 use Rattle.rules.specs.declared.Held.{Held}
-use Rattle.rules.specs.declared.Held.the-variants.{Nothing, Holds}
+use Rattle.rules.specs.declared.Held.the-variants.{Nothing}
 use Rattle.rules.specs.declared.Walk.{Walk}
 use Rattle.rules.specs.Search.{Element, Column, Task, at, judge, candidateAt, step, walk, bestIn, totals, trueSide, Tries, drawn, drawIn, randomIn, tryOne, tryAll, final, search, found, Found}
 use Rattle.rules.specs.Words.{member, fresh, eachOnce}
@@ -21,7 +21,7 @@ use Rattle.rules.specs.Totals.{takeIn, empty}
 use Rattle.rules.specs.Draws.{Out, bad, ok, bind, Tapes, tape, nextThreshold, takeThreshold, takeWords}
 use Rattle.criterion.specs.declared.Side.{Side}
 use Rattle.criterion.specs.Sides.{sideOn}
-use Rattle.search.specs.Flat.{Tables, elementOf, bare, left, meantTries, drawAt, part, columnsAt, taskAt, drawsAt, Fair, Searched}
+use Rattle.search.specs.Flat.{Tables, elementOf, bare, left, meantTries, drawAt, taskAt, drawsAt, Fair, Searched}
 use Rattle.search.specs.declared.Drawn.{Drawn}
 use Rattle.search.specs.declared.Search.the-variants as S
 use lib.Seq.{take-take, drop-drop}
@@ -30,6 +30,7 @@ use Rattle.search.specs.declared.Tried.the-variants.{Refused, Goes}
 use Rattle.laws.specs.Lists.{getD-from}
 use Rattle.rules.specs.declared.Splitter.{Splitter}
 use Rattle.rules.specs.declared.Splitter.the-variants.{Best, Random}
+use Rattle.laws.specs.Work.{part, columnsAt}
 
 -- ---- a threshold off the tape
 
@@ -145,32 +146,32 @@ module _ (P : Params) (a : Side) (C : List Column) (j : ℕ) where
 
 -- ---- one feature
 
-pub part-is : (rows : ℕ) (cols : List ℕ) (a e k : ℕ) {k′ : ℕ} → k′ ≡ k → a ≤ e → take (k′ * rows + e - (k′ * rows + a)) (drop (k′ * rows + a) cols) ≡ part rows cols a e k
+pub part-is : (rows : ℕ) (cols : List ℕ) (a e k : ℕ) {k′ : ℕ} → k′ ≡ k → a ≤ e → take (k′ * rows + e - (k′ * rows + a)) (drop (k′ * rows + a) cols) ≡ part rows k a e cols
 part-is rows cols a e k {k′} q h = ap (λ n. take n (drop (k′ * rows + a) cols)) (width (k′ * rows)) ∙ ap (λ n. take (e - a) (drop (n * rows + a) cols)) q
   where
     width : (b : ℕ) → b + e - (b + a) ≡ e - a
     width b = omega arith
 
 module _ (rows features from′ to : ℕ) (t : Tables) (cols : List ℕ) (a : Side) (P : Params) (j : ℕ) (hj : j < features) where
-  pub column-of : part rows cols from′ to j ≡ part rows cols from′ to j → map (elementOf features t) (part rows cols from′ to j) ≡ getD (columnsAt (elementOf features t) rows features cols from′ to) j []
+  pub column-of : part rows j from′ to cols ≡ part rows j from′ to cols → map (elementOf features t) (part rows j from′ to cols) ≡ getD (columnsAt (elementOf features t) rows features from′ to cols) j []
   unfolding columnsAt
-  column-of _ = sym (getD-from (λ k. map (elementOf features t) (part rows cols from′ to k)) 0 features j [] hj ∙ ap (λ k. map (elementOf features t) (part rows cols from′ to k)) (zero-add j))
+  column-of _ = sym (getD-from (λ k. map (elementOf features t) (part rows k from′ to cols)) 0 features j [] hj ∙ ap (λ k. map (elementOf features t) (part rows k from′ to cols)) (zero-add j))
 
-  pub try-best : (h : Held) (d : Tapes) {l : List ℕ} {b : Held} → l ≡ part rows cols from′ to j → b ≡ bestIn P (bare a) j h (map (elementOf features t) l)
+  pub try-best : (h : Held) (d : Tapes) {l : List ℕ} {b : Held} → l ≡ part rows j from′ to cols → b ≡ bestIn P (bare a) j h (map (elementOf features t) l)
       → {k : Splitter} → k ≡ Best → ok (record { best = b; left = d }) ≡ tryOne (tape (P .features)) k P (taskAt rows features from′ to t cols a) j (record { best = h; left = d })
   unfolding tryOne
   try-best h d {l} {b} el eb {k} ek =
       ap (λ z. ok (record { best = z; left = d }))
       (eb ∙ ap (λ z. bestIn P (bare a) j h (map (elementOf features t) z)) el ∙ ap (bestIn P (bare a) j h) (column-of refl)
-      ∙ best-bare P a (columnsAt (elementOf features t) rows features cols from′ to) j h (getD (columnsAt (elementOf features t) rows features cols from′ to) j []))
+      ∙ best-bare P a (columnsAt (elementOf features t) rows features from′ to cols) j h (getD (columnsAt (elementOf features t) rows features from′ to cols) j []))
       ∙ ap (λ z. tryOne (tape (P .features)) z P (taskAt rows features from′ to t cols a) j (record { best = h; left = d })) (sym ek)
 
-  pub try-random : (r : Tries Tapes) {l : List ℕ} {q : Out (Tries Tapes)} → l ≡ part rows cols from′ to j → q ≡ randomIn (tape (P .features)) P (bare a) j r (map (elementOf features t) l)
+  pub try-random : (r : Tries Tapes) {l : List ℕ} {q : Out (Tries Tapes)} → l ≡ part rows j from′ to cols → q ≡ randomIn (tape (P .features)) P (bare a) j r (map (elementOf features t) l)
       → {k : Splitter} → k ≡ Random → q ≡ tryOne (tape (P .features)) k P (taskAt rows features from′ to t cols a) j r
   unfolding tryOne
   try-random r {l} {q} el eb {k} ek =
       eb ∙ ap (λ z. randomIn (tape (P .features)) P (bare a) j r (map (elementOf features t) z)) el ∙ ap (randomIn (tape (P .features)) P (bare a) j r) (column-of refl)
-      ∙ random-bare P a (columnsAt (elementOf features t) rows features cols from′ to) j r (getD (columnsAt (elementOf features t) rows features cols from′ to) j [])
+      ∙ random-bare P a (columnsAt (elementOf features t) rows features from′ to cols) j r (getD (columnsAt (elementOf features t) rows features from′ to cols) j [])
       ∙ ap (λ z. tryOne (tape (P .features)) z P (taskAt rows features from′ to t cols a) j r) (sym ek)
 
 pub column-room : (rows features j : ℕ) {k : ℕ} → k ≡ j → j < features → k * rows + rows ≤ features * rows

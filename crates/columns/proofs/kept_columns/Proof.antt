@@ -15,7 +15,8 @@ use Rattle.rules.specs.Words.{keep, from, stretch}
 use Rattle.rules.specs.Lent.{listingAt, keptIn}
 use Rattle.laws.specs.Lists.{Every}
 use Rattle.laws.specs.Once.{once-below}
-use Rattle.columns.specs.Columns.{part, changed, KeptTo, KeepAsks, KeptAll, KeepAllAsks}
+use Rattle.laws.specs.Work.{part}
+use Rattle.columns.specs.Columns.{changed, KeptTo, KeepAsks, KeptAll, KeepAllAsks}
 use Rattle.columns.specs.Stretches.{column-end, length-stretch, stretch-in, changed-here, changed-before}
 use Rattle.columns.specs.Setup.{kept-few}
 use Rattle.columns.specs.Kept.{kept-rows}

@@ -11,7 +11,8 @@ use denote.Ref.{now}
 use lib.ListN.{length}
 use Rattle.rules.specs.Words.{stretch}
 use Rattle.laws.specs.Lists.{Every}
-use Rattle.columns.specs.Columns.{part, flagged, parted, ColumnsAsk, PartAsks}
+use Rattle.laws.specs.Work.{part}
+use Rattle.columns.specs.Columns.{flagged, parted, ColumnsAsk, PartAsks}
 use Rattle.columns.specs.Fronts.{parted-long}
 use Rattle.columns.specs.Stretches.{column-end, part-long, Keeps, Going, going-start, going-turn, going-done, going-long, going-rest, going-past}
 use Rattle.columns.proofs.partition_columns.Statement.{statement}

@@ -2,7 +2,6 @@
 use native.Mathlib.Omega.{arith}
 use Rattle.search.specs.Flat.{valueIn}
 use Rattle.search.specs.Runs.{run-last}
-use borrow.Author.Needs.{needs}
 use Rattle.search.proofs.best.run_before.Statement.{statement}
 use Rattle.search.proofs.best.run_before.Tie as tie
 
