@@ -16,8 +16,8 @@ use rules::Held;
 use rules::Params;
 use rules::Totals;
 
-// What is held, by what decides: whether there is a cut, its proxy, and its place: 0 is an earlier column's, and any other tells how many rows of this column have come
-// when the first row past the cut has. A place is chosen without a branch, which the values beside it could not be; they are read again after the column.
+// What is held, by what decides: whether there is a cut, its proxy, and its place: 0 if it is an earlier column's, else one more than the place of the first row past it.
+// A place is chosen without a branch, which the values beside it could not be; they are read again after the column.
 pub struct Spot {
     pub held: bool,
     pub proxy: f64,
@@ -62,7 +62,7 @@ pub fn earlier_of(h: Held) -> Cut
     }
 }
 
-// The same, field by field: a copy of the whole would carry the bytes between its fields from row to row, through memory.
+// What is held, field by field: a copy of the whole would carry the bytes between its fields from row to row, through memory.
 pub fn anew(s: Spot) -> Spot
     ensures { λ r. ⌜ r ≡ s ⌝ }
 {
@@ -204,7 +204,7 @@ fn run_on(v: f64, e: f64) -> f64
     e
 }
 
-// The value of the run that ends before place n, from the column's start.
+// The value of the run of equals that ends before place n, its first, from the column's start on.
 fn run_anew(x: &[f64], col: &[u32], rows: usize, features: usize, j: u32, n: usize) -> f64
     requires { ⌜ Readable rows features (now x) j (now col) × (n < length (now col)) ⌝ }
     ensures { λ r. ⌜ r ≡ runAt (valueIn features (now (x .entry)) j) (now (col .entry)) n ⌝ }
@@ -219,7 +219,7 @@ fn run_anew(x: &[f64], col: &[u32], rows: usize, features: usize, j: u32, n: usi
     v
 }
 
-// The same. Values that are equal differ only where they are zeros: else the last of the run tells.
+// The same. Values that are equal differ only where they are zeros: any other is the same as the last of its run, which is read first.
 fn run_before(x: &[f64], col: &[u32], rows: usize, features: usize, j: u32, n: usize) -> f64
     requires { ⌜ Readable rows features (now x) j (now col) × (n < length (now col)) ⌝ }
     ensures { λ r. ⌜ r ≡ runAt (valueIn features (now (x .entry)) j) (now (col .entry)) n ⌝ }
