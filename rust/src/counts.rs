@@ -3,6 +3,7 @@
 use crate::refusal::{Cause, Fault, Refusal};
 use crate::seed::SplitMix64;
 use crate::sizes;
+use std::ops::Range;
 
 /// How often each row is in each tree's bag, tree after tree. A row with 0 is left out of that tree.
 ///
@@ -96,6 +97,14 @@ impl Counts {
     #[must_use]
     pub fn numbers(&self) -> &[u32] {
         &self.numbers
+    }
+
+    /// The counts of some trees, for data of so many rows. For any other number of rows there are none, which the library refuses.
+    pub(crate) fn of_trees(&self, trees: Range<usize>, rows: usize) -> &[u32] {
+        match self.rows == rows {
+            true => &self.numbers[trees.start * rows..trees.end * rows],
+            false => &[],
+        }
     }
 
     /// One tree's counts; none of a tree that is not there.

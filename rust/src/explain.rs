@@ -41,10 +41,11 @@ fn lengths(given: &Given, trees: usize) -> Option<Fault> {
         [] => None,
         weights => length("weights", weights.len(), rows),
     };
-    let counts = given.counts.numbers().len();
+    let (counted, each) = given.counts.shape();
     length("targets", given.y.len(), rows)
         .or_else(weights)
-        .or_else(|| length("counts", counts, trees * rows))
+        .or_else(|| length("counts of a tree", each, rows))
+        .or_else(|| length("trees that are counted", counted, trees))
         .or_else(|| listings(2, given.x, given.listings))
 }
 
@@ -99,10 +100,13 @@ pub(crate) fn listings(number: u32, x: &DenseMatrix, listings: &Listings) -> Opt
     if number == 1 {
         return sizes::fault(rows, features, 1);
     }
-    length("listings", listings.features(), features).or_else(|| {
+    let first = || {
         let faults = (0..features).filter_map(|feature| listings.fault(x, feature));
         faults.map(Fault::Listing).next()
-    })
+    };
+    length("listings", listings.features(), features)
+        .or_else(first)
+        .or_else(|| length("row numbers in a listing", listings.length(), rows))
 }
 
 /// A reader refused, of a good table: its rows are too many, or have other features.

@@ -59,7 +59,7 @@ impl RandomForestRegressor {
     }
 
     /// Fits a forest with weights. As in smartcore, they decide how often a row comes up in the bags, or, without bags
-    /// (`bootstrap` false), are given to the trees.
+    /// (`bootstrap` false), are given to the trees. No weights at all is a fit without them; where all are 0, every tree is a leaf of 0.
     pub fn fit_with_weights(
         x: &DenseMatrix,
         y: &[f64],

@@ -152,7 +152,7 @@ impl Listings {
     /// Whether each feature's listing has each row once and no value falls along it: decided by the proved library.
     pub fn check(&self, x: &DenseMatrix) -> Result<(), Refusal> {
         let (rows, features) = x.shape();
-        match linked::check_listings(rows, features, x.values(), &self.numbers) {
+        match linked::check_listings(rows, features, x.values(), self.numbers(x)) {
             0 => Ok(()),
             number => Err(Refusal::of(number, explain::listings(number, x, self))),
         }
@@ -197,8 +197,17 @@ impl Listings {
         (feature < self.features).then(|| &self.numbers[start..start + self.length])
     }
 
-    pub(crate) fn numbers(&self) -> &[u32] {
-        &self.numbers
+    /// All of them for a matrix of their own shape. For any other there are none, which the library refuses: as many numbers, cut into
+    /// other columns, could pass for good listings.
+    pub(crate) fn numbers(&self, x: &DenseMatrix) -> &[u32] {
+        match x.shape() == (self.length, self.features) {
+            true => &self.numbers,
+            false => &[],
+        }
+    }
+
+    pub(crate) fn length(&self) -> usize {
+        self.length
     }
 }
 

@@ -12,7 +12,7 @@ pub enum Splitter {
     Best,
 }
 
-/// How a forest is grown. Names and defaults are smartcore's where they mean the same; see docs/SMARTCORE.md.
+/// How a forest is grown. Names are smartcore's where they mean the same; see docs/SMARTCORE.md.
 ///
 /// ```
 /// use tailboardy::RandomForestRegressorParameters;

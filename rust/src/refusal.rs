@@ -198,7 +198,9 @@ impl fmt::Display for Fault {
                 write!(f, "row {row} is {count} times in the bag of tree {tree}")
             }
             Fault::Listing(fault) => fault.fmt(f),
-            Fault::Draw { tree, search } => write!(f, "search {search} of tree {tree}"),
+            Fault::Draw { tree, search } => {
+                write!(f, "search {search} of tree {tree} met a bad draw")
+            }
             Fault::Starts { place } => write!(f, "the starts break at place {place}"),
             Fault::Node { tree, node } => write!(f, "node {node} of tree {tree} is no good split"),
         }

@@ -70,7 +70,8 @@ impl Importances {
 pub struct OutOfBagMeans(pub(crate) Vec<f64>);
 
 impl OutOfBagMeans {
-    /// A row's mean, if some tree left it out.
+    /// A row's mean, if it has one: some tree left it out, and the values of those that did have a mean (targets near the greatest
+    /// float can add up to none).
     #[must_use]
     pub fn get(&self, row: usize) -> Option<f64> {
         self.0.get(row).copied().filter(|mean| !mean.is_nan())
@@ -81,7 +82,7 @@ impl OutOfBagMeans {
         (0..self.0.len()).map(|row| self.get(row))
     }
 
-    /// The numbers themselves, NaN for a row that every tree has.
+    /// The numbers themselves, NaN for a row that has none.
     #[must_use]
     pub fn as_slice(&self) -> &[f64] {
         &self.0

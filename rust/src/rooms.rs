@@ -101,9 +101,10 @@ pub(crate) fn fit_forest(
     work: &mut Work,
 ) -> Result<Grown, Stopped> {
     let (rows, features) = given.x.shape();
-    let counted = given.counts.shape().1;
-    let own = &given.counts.numbers()[trees.start * counted..trees.end * counted];
-    let each = own.chunks(counted).map(|counts| most_nodes(given, counts));
+    let own = given.counts.of_trees(trees.clone(), rows);
+    let each = own
+        .chunks(rows.max(1))
+        .map(|counts| most_nodes(given, counts));
     let mut nodes = Nodes::zeros(each.sum());
     let mut starts = vec![0; trees.len() + 1];
     let mut reports = Reports::zeros(trees.len());
@@ -116,7 +117,7 @@ pub(crate) fn fit_forest(
         given.y,
         given.weights,
         own,
-        given.listings.numbers(),
+        given.listings.numbers(given.x),
         &draws.words,
         &draws.thresholds,
         &draws.word_cuts,
@@ -162,7 +163,11 @@ pub(crate) fn fit_tree(
     draws: &Draws,
 ) -> Result<(Nodes, Report), Stopped> {
     let shape = given.x.shape();
-    let mut nodes = Nodes::zeros(most_nodes(given, given.counts.numbers()));
+    let counts = match given.counts.shape() {
+        (1, _) => given.counts.of_trees(0..1, shape.0),
+        _ => &[],
+    };
+    let mut nodes = Nodes::zeros(most_nodes(given, counts));
     let mut work = Work::new(shape);
     let told = linked::fit_tree(
         shape.0,
@@ -171,8 +176,8 @@ pub(crate) fn fit_tree(
         given.x.values(),
         given.y,
         given.weights,
-        given.counts.numbers(),
-        given.listings.numbers(),
+        counts,
+        given.listings.numbers(given.x),
         &draws.words,
         &draws.thresholds,
         &mut nodes.value,

@@ -83,7 +83,7 @@ pub(crate) fn draw(
     let kept = |row: &&u32| given.keeps(counts, **row as usize);
     let columns: Vec<u32> = given
         .listings
-        .numbers()
+        .numbers(given.x)
         .iter()
         .filter(kept)
         .copied()

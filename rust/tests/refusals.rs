@@ -6,7 +6,7 @@ use common::Maker;
 use tailboardy::{
     Breach, Cause, Counts, DecisionTreeRegressor, DenseMatrix, Draws, Fault, Fitting, Given,
     Listings, MAX_FEATURES, MAX_ROWS, MAX_TREES, Nodes, RandomForestRegressor,
-    RandomForestRegressorParameters, Refusal,
+    RandomForestRegressorParameters, Refusal, Splitter,
 };
 
 fn parameters() -> RandomForestRegressorParameters {
@@ -111,6 +111,55 @@ fn shapes() {
     );
 }
 
+/// Counts that no tree takes are refused, and not first added up for a seeded tape.
+#[test]
+fn counts_that_would_not_add_up() {
+    let x = DenseMatrix::from_2d_array(&[[1.0], [2.0]]).unwrap();
+    let counts = Counts::new(1, 2, vec![u32::MAX; 2]).unwrap();
+    let given = Given {
+        x: &x,
+        y: &[1.0, 2.0],
+        weights: &[],
+        counts: &counts,
+        listings: &Listings::sorted(&x),
+    };
+    for splitter in [Splitter::Best, Splitter::Random] {
+        let parameters = parameters().with_splitter(splitter);
+        let draws = Draws::seeded(&given, &parameters);
+        let forest = RandomForestRegressor::fit_given(&given, &draws, &parameters);
+        refused(forest, 4, "row 0 is 4294967295 times in the bag of tree 0");
+    }
+}
+
+/// As many numbers as are asked, cut into other columns or trees.
+#[test]
+fn shapes_that_are_turned() {
+    let x = DenseMatrix::new(3, 2, vec![0.0; 6]).unwrap();
+    let turned = Listings::from_columns(&[[0, 1], [2, 0], [1, 2]]).unwrap();
+    refused(turned.check(&x), 2, "listings: 3, where 2 are asked");
+    let x = DenseMatrix::new(6, 1, vec![0.0; 6]).unwrap();
+    let listings = Listings::sorted(&x);
+    let given = |counts: &Counts| {
+        let given = Given {
+            x: &x,
+            y: &[0.0; 6],
+            weights: &[],
+            counts,
+            listings: &listings,
+        };
+        let draws = Draws::seeded(&given, &parameters());
+        let tree = DecisionTreeRegressor::fit_given(&given, &draws, &Default::default());
+        let forest = RandomForestRegressor::fit_given(&given, &draws, &parameters());
+        (tree.map(|_| ()), forest.map(|_| ()))
+    };
+    let (tree, forest) = given(&Counts::ones(2, 3).unwrap());
+    refused(tree, 2, "counts of a tree: 3, where 6 are asked");
+    refused(forest, 2, "counts of a tree: 3, where 6 are asked");
+    let (tree, forest) = given(&Counts::ones(2, 6).unwrap());
+    refused(tree, 2, "trees that are counted: 2, where 1 are asked");
+    assert!(forest.is_ok());
+}
+
 #[test]
 fn lent_lengths() {
     let x = DenseMatrix::from_2d_array(&[[1.0], [2.0]]).unwrap();
@@ -142,14 +191,14 @@ fn lent_lengths() {
     refused(
         fit(&Counts::ones(2, 3).unwrap(), &draws),
         2,
-        "counts: 6, where 4 are asked",
+        "counts of a tree: 3, where 2 are asked",
     );
     let tree = DecisionTreeRegressor::fit_given(
         &given(&x, &listings, &counts),
         &draws,
         &Default::default(),
     );
-    refused(tree, 2, "counts: 4, where 2 are asked");
+    refused(tree, 2, "trees that are counted: 2, where 1 are asked");
 }
 
 #[test]

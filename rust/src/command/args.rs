@@ -2,7 +2,7 @@
 
 use crate::{Output, Stop, csv, record};
 use std::fmt::Write;
-use tailboardy::{RandomForestRegressorParameters, Splitter};
+use tailboardy::{MAX_TREES, RandomForestRegressorParameters, Splitter};
 
 /// An option: what it is called, what follows it (nothing: a flag), and what it does.
 struct Choice {
@@ -101,7 +101,8 @@ pub const COMMANDS: [Command; 3] = [
         files: &["SHOW.csv"],
         about: "says whether a show, and its listing, is fit to use, and what is wrong where it is not",
         more: "A listing is a table with a column for each feature, named as in the show. Its cells are row numbers, counted\n\
-               from 0, in the order in which the feature's values never fall. Without --features its columns are the features.",
+               from 0, in the order in which the feature's values never fall. Without --target and --features its columns are\n\
+               the features.",
         groups: &[COLUMNS],
         run: crate::check::run,
     },
@@ -118,8 +119,9 @@ pub const COMMANDS: [Command; 3] = [
         files: &["OLD.csv", "NEW.csv"],
         about: "fits a forest on the old show and writes a correction for each fixture of the new one",
         more: "Written are the new show's columns, or with --id those alone, and a column NAME_correction, NAME being the target.\n\
-               Without --features both shows' common columns of numbers are the features. What the forest is like goes to\n\
-               standard error.",
+               Without --features both shows' common columns of numbers are the features; columns of numbers that only the old\n\
+               show has are passed over, unless the new one has others in their place. What the forest is like goes to standard\n\
+               error.",
         groups: &[COLUMNS, GROWTH, OUT],
         run: crate::fit::correct,
     },
@@ -166,6 +168,9 @@ impl Command {
                         return Err(self.bad(&format!("{name} is said twice")));
                     }
                     said.push((name, value));
+                }
+                option if option.len() > 1 && option.starts_with('-') => {
+                    return Err(self.bad(&format!("there is no option {option}")));
                 }
                 _ => files.push(word.clone()),
             }
@@ -238,6 +243,13 @@ impl Args {
         self.get(name).map(read).transpose()
     }
 
+    fn trees(&self) -> Result<Option<usize>, Stop> {
+        match self.number("--n-trees", MAX_TREES as u64)? {
+            Some(0) => Err(Stop::Usage("--n-trees 0: a forest has a tree".into())),
+            trees => Ok(trees),
+        }
+    }
+
     /// How the forest is to be grown.
     pub fn parameters(&self) -> Result<RandomForestRegressorParameters, Stop> {
         let plain = RandomForestRegressorParameters::default();
@@ -252,7 +264,7 @@ impl Args {
         };
         let count = u64::from(u32::MAX);
         Ok(RandomForestRegressorParameters {
-            n_trees: self.number("--n-trees", count)?.unwrap_or(plain.n_trees),
+            n_trees: self.trees()?.unwrap_or(plain.n_trees),
             m: self.number("--m", count)?,
             max_depth: self.number("--max-depth", u16::MAX.into())?,
             min_samples_leaf: self

@@ -14,8 +14,8 @@ pub fn run(args: &Args) -> Result<Output, Stop> {
     let csv = Csv::read(&args.files[0])?;
     roles.ids_in(&csv)?;
     let listed = args.get("--listing").map(Csv::read).transpose()?;
-    let features = match (&roles.features, &listed) {
-        (None, Some(listed)) => listed.names().to_vec(),
+    let features = match (&roles.features, &roles.target, &listed) {
+        (None, None, Some(listed)) => roles.listed(listed)?,
         _ => roles.features(&csv, None)?,
     };
     let show = Show::new(csv, &roles, features)?;

@@ -3,6 +3,7 @@
 use crate::Stop;
 use crate::number::quoted;
 use crate::record::{Cells, Reader};
+use std::collections::HashSet;
 use std::fs::File;
 use std::io::{BufRead, BufReader};
 
@@ -120,12 +121,13 @@ pub fn name(text: &str) -> String {
 /// All names, each once.
 fn names(head: &Cells) -> Result<Vec<String>, String> {
     let mut names: Vec<String> = Vec::new();
+    let mut met = HashSet::new();
     for at in 0..head.len() {
         let name = name(head.get(at));
         if name.is_empty() {
             return Err(format!("column {} has no name", at + 1));
         }
-        if names.contains(&name) {
+        if !met.insert(name.clone()) {
             return Err(format!("two columns have the name {}", quoted(&name)));
         }
         names.push(name);

@@ -3,7 +3,7 @@
 use crate::args::Args;
 use crate::csv::Csv;
 use crate::listing::Listing;
-use crate::output::{Output, same_file};
+use crate::output::{Output, place_for, same_file};
 use crate::progress::Progress;
 use crate::show::{Roles, Show, matrix};
 use crate::{Stop, number, record, report};
@@ -45,9 +45,12 @@ pub fn fit(args: &Args) -> Result<Output, Stop> {
 pub fn correct(args: &Args) -> Result<Output, Stop> {
     let task = Task::new(args)?;
     let out = args.get("--out");
-    if out.is_some_and(|out| args.files.iter().any(|file| same_file(file, out))) {
+    let listing = args.get("--listing");
+    let mut read = args.files.iter().map(String::as_str).chain(listing);
+    if out.is_some_and(|out| read.any(|file| same_file(file, out))) {
         return Err(Stop::Usage("--out names a file that is read".into()));
     }
+    out.map_or(Ok(()), place_for)?;
     let (old, new) = (Csv::read(&args.files[0])?, Csv::read(&args.files[1])?);
     let features = task.roles.features(&old, Some(&new))?;
     let lacking = task.roles.lacking(&old, &new).join(", ");
@@ -61,8 +64,7 @@ pub fn correct(args: &Args) -> Result<Output, Stop> {
     let means = means.map_err(|refusal| Stop::refused(new.file(), &refusal.to_string()))?;
     if let Some(row) = means.iter().position(|mean| !mean.is_finite()) {
         let place = format!("{}, line {}", new.file(), new.line(row));
-        let why =
-            "its correction is no number: there are targets so large that their sums overflow, in";
+        let why = "its correction is no number: there are targets or weights so large that their sums overflow, in";
         return Err(Stop::refused(&place, &format!("{why} {}", show.csv.file())));
     }
     let mut text = String::new();

@@ -1,6 +1,7 @@
 //! What a run writes, once all of it is known.
 
 use crate::Stop;
+use crate::number::quoted;
 use std::fs::{self, File};
 use std::io::{self, Write};
 use std::path::{Path, PathBuf};
@@ -22,8 +23,8 @@ impl Output {
         }
     }
 
+    /// What goes beside the text is told once that stands. Who reads standard output may leave before the end.
     pub fn write(self) -> Result<(), Stop> {
-        say(&self.beside);
         let written = match &self.file {
             Some(file) => write_file(Path::new(file), self.text.as_bytes()),
             None => {
@@ -32,8 +33,27 @@ impl Output {
                     .and_then(|()| out.flush())
             }
         };
-        let name = self.file.as_deref().unwrap_or("standard output");
-        written.map_err(|error| Stop::refused(name, &error.to_string()))
+        match (written, self.file.as_deref()) {
+            (Err(error), None) if error.kind() == io::ErrorKind::BrokenPipe => (),
+            (Err(error), file) => {
+                let name = file.unwrap_or("standard output");
+                return Err(Stop::refused(name, &error.to_string()));
+            }
+            (Ok(()), _) => (),
+        }
+        say(&self.beside);
+        Ok(())
+    }
+}
+
+/// Whether a file could stand there: known before anything is done for it.
+pub fn place_for(file: &str) -> Result<(), Stop> {
+    let path = Path::new(file);
+    let folder = path.parent().filter(|_| !path.is_dir());
+    match folder {
+        None => Err(Stop::refused(&quoted(file), "it is no name of a file")),
+        Some(folder) if folder.as_os_str().is_empty() || folder.is_dir() => Ok(()),
+        Some(_) => Err(Stop::refused(file, "there is no such folder")),
     }
 }
 

@@ -79,7 +79,7 @@ impl<R: BufRead> Reader<R> {
     }
 
     /// Adds the cells of the next record, which may go over several lines. Tells the line in which it begins, or none at the end;
-    /// an empty line is a record of one empty cell.
+    /// an empty line is a record of one empty cell, as one of two quotes is.
     pub fn record(&mut self, cells: &mut Cells) -> Result<Option<usize>, Wrong> {
         let begin = self.line + 1;
         let mut at = At::Start;
@@ -114,7 +114,8 @@ impl<R: BufRead> Reader<R> {
                 return Ok((cells, lines));
             };
             let is = cells.ends.len() - ends;
-            if is == 1 && cells.text.len() == text {
+            let bare = self.bytes.iter().all(|byte| b"\r\n".contains(byte));
+            if is == 1 && cells.text.len() == text && bare {
                 cells.ends.truncate(ends);
                 gap = gap.or(Some(line));
             } else if let Some(line) = gap {

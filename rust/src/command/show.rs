@@ -68,13 +68,54 @@ impl Roles {
         if let Some(said) = &self.features {
             return Ok(said.clone());
         }
-        let both = |name: &&String| next.is_none_or(|next| next.find(name).is_some());
-        let features: Vec<String> = self.measured(show).filter(both).cloned().collect();
-        if features.is_empty() {
+        let measured: Vec<String> = self.measured(show).cloned().collect();
+        if measured.is_empty() {
             let why = "there is no column of numbers to go by, beside target and weight";
             return Err(Stop::refused(show.file(), why));
         }
-        Ok(features)
+        match next {
+            Some(next) => self.common(show, next, measured),
+            None => Ok(measured),
+        }
+    }
+
+    /// Those of a show's measurements that the next one has too. A measurement that only one of them has under its name, or has as
+    /// numbers, may be the other's by another name or in another form: nothing is left out then.
+    fn common(&self, show: &Csv, next: &Csv, measured: Vec<String>) -> Result<Vec<String>, Stop> {
+        let (both, lacking): (Vec<String>, Vec<String>) =
+            measured.into_iter().partition(|it| next.find(it).is_some());
+        let own = self.measured(next).filter(|it| !both.contains(it));
+        for name in own {
+            let Some(column) = show.find(name) else {
+                if let Some(lacks) = lacking.first() {
+                    let why = format!(
+                        "there is no column {}, which {} has, and no {} there; name the columns to go by with --features",
+                        quoted(lacks),
+                        show.file(),
+                        quoted(name)
+                    );
+                    return Err(Stop::refused(&format!("{}, line 1", next.file()), &why));
+                }
+                continue;
+            };
+            read(show, 0, column)?;
+        }
+        if both.is_empty() {
+            let why = format!("it has no column of numbers that {} has", show.file());
+            return Err(Stop::refused(&format!("{}, line 1", next.file()), &why));
+        }
+        Ok(both)
+    }
+
+    /// The columns of a listing, where no target tells which columns of the show are features.
+    pub fn listed(&self, listing: &Csv) -> Result<Vec<String>, Stop> {
+        match listing.names().iter().find(|name| self.is_other(name)) {
+            Some(name) => Err(Stop::refused(
+                &format!("{}, line 1", listing.file()),
+                &format!("the column {} is said to be no feature", quoted(name)),
+            )),
+            None => Ok(listing.names().to_vec()),
+        }
     }
 
     /// What could have been a feature, had the next show measured it.

@@ -91,7 +91,7 @@ fn old_shows() {
     let bytes = b"x,pan\n\xe9,1\n";
     corrected(bytes, "x\n1\n", &[], "OLD, line 2: it is not text in UTF-8");
     let huge = "x,pan\n1,1e308\n2,1e308\n3,1e308\n";
-    let why = "NEW, line 2: its correction is no number: there are targets so large that their sums overflow, in OLD";
+    let why = "NEW, line 2: its correction is no number: there are targets or weights so large that their sums overflow, in OLD";
     corrected(huge, "x\n1\n", &[], why);
 }
 
@@ -110,6 +110,44 @@ fn shows_that_are_too_large() {
     corrected(format!("{names},pan\n{cells},1\n"), new, &[], why);
 }
 
+/// A measurement that one show has by another name, or in another form, is not passed over.
+#[test]
+fn shows_that_measure_otherwise() {
+    let old = "trim,x,pan\n7,1,1\n8,2,2\n";
+    let why = "NEW, line 1: there is no column \"trim\", which OLD has, and no \"Trim\" there; name the columns to go by with --features";
+    corrected(old, "Trim,x\n7,1\n", &[], why);
+    let feet = "trim,x,pan\n7m,1,1\n8m,2,2\n";
+    let why = "OLD, line 2, column trim: \"7m\" is not a number";
+    corrected(feet, "trim,x\n7,1\n", &[], why);
+}
+
+/// A listing that a fit would refuse is not fit to use; without a target its own columns are the features.
+#[test]
+fn listings_of_other_columns() {
+    let folder = Folder::new("listed");
+    let show = folder.write("show.csv", GOOD);
+    let only = folder.write("only.csv", "x\n0\n1\n2\n");
+    let check = |more: &[&str]| run(&[&["check", &show, "--listing", &only], more].concat());
+    assert_eq!(check(&[]).status, Some(0));
+    let line = format!("tailboardy: {only}, line 1:");
+    let told = check(&["--target", "pan"]);
+    assert_eq!(
+        (told.status, told.err),
+        (
+            Some(1),
+            format!("{line} there is no column \"z\"; there are \"x\"\n")
+        )
+    );
+    let told = check(&["--weight", "x"]);
+    assert_eq!(
+        (told.status, told.err),
+        (
+            Some(1),
+            format!("{line} the column \"x\" is said to be no feature\n")
+        )
+    );
+}
+
 const NEW_SHOWS: &[[&str; 2]] = &[
     ["", "NEW: it is empty"],
     [
@@ -125,11 +163,19 @@ const NEW_SHOWS: &[[&str; 2]] = &[
         "NEW, line 2: its cells are 1, and the columns 2",
     ],
     [
-        "q\n1\n",
-        "OLD: there is no column of numbers to go by, beside target and weight",
+        "q\nlow\n",
+        "NEW, line 1: it has no column of numbers that OLD has",
     ],
     [
-        "x,pan_correction\n1,2\n",
+        "x\n1\n\"\"\n",
+        "NEW, line 3, column x: the cell is empty; a number is asked",
+    ],
+    [
+        "x,z\n1,2\n\"\"\n",
+        "NEW, line 3: its cells are 1, and the columns 2",
+    ],
+    [
+        "x,z,pan_correction\n1,5,2\n",
         "NEW, line 1: there is a column pan_correction already; name the columns to write with --id",
     ],
 ];
@@ -171,12 +217,6 @@ const NAMED: &[[&str; 3]] = &[
         "--listing",
         "/nowhere",
         "/nowhere: No such file or directory (os error 2)",
-    ],
-    [
-        "--n-trees",
-        "1025",
-        "OLD: refusal 1 (sizes): 1025 trees, where 1 to 1024 are taken; \
-         rows go from 1 to 65,535, features and trees from 1 to 1,024",
     ],
 ];
 

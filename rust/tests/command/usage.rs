@@ -63,12 +63,21 @@ const SENSELESS: &[[&str; 2]] = &[
     ],
     [
         "fit a --target p --n-trees many",
-        "--n-trees many: a whole number up to 4294967295 is asked",
+        "--n-trees many: a whole number up to 1024 is asked",
     ],
     [
         "fit a --target p --n-trees -1",
-        "--n-trees -1: a whole number up to 4294967295 is asked",
+        "--n-trees -1: a whole number up to 1024 is asked",
     ],
+    [
+        "fit a --target p --n-trees 0",
+        "--n-trees 0: a forest has a tree",
+    ],
+    [
+        "fit a --target p --n-trees 1025",
+        "--n-trees 1025: a whole number up to 1024 is asked",
+    ],
+    ["fit a --target p -o x", "there is no option -o"],
     [
         "fit a --target p --max-depth 65536",
         "--max-depth 65536: a whole number up to 65535 is asked",
@@ -105,9 +114,32 @@ fn words_that_make_no_sense_are_told() {
 #[test]
 fn a_show_is_not_written_over() {
     let (old, new) = (show("old-house.csv"), show("new-house.csv"));
-    let told = run(&["correct", &old, &new, "--target", "pan", "--out", &new]);
-    assert_eq!(told.status, Some(2));
-    assert_eq!(told.err, "tailboardy: --out names a file that is read\n");
+    let listing = show("old-house-listing.csv");
+    for read in [&old, &new, &listing] {
+        let words = ["correct", &old, &new, "--target", "pan"];
+        let told = run(&[&words[..], &["--listing", &listing, "--out", read]].concat());
+        assert_eq!(told.status, Some(2));
+        assert_eq!(told.err, "tailboardy: --out names a file that is read\n");
+    }
+}
+
+#[test]
+fn no_place_for_a_file_is_told_before_a_fit() {
+    let (old, new) = (show("old-house.csv"), show("new-house.csv"));
+    for (out, why) in [
+        (
+            "no-folder/x.csv",
+            "no-folder/x.csv: there is no such folder",
+        ),
+        (".", "\".\": it is no name of a file"),
+        ("", "\"\": it is no name of a file"),
+    ] {
+        let told = run(&["correct", &old, &new, "--target", "pan", "--out", out]);
+        assert_eq!(
+            (told.status, told.err),
+            (Some(1), format!("tailboardy: {why}\n"))
+        );
+    }
 }
 
 #[test]
@@ -128,7 +160,7 @@ fn what_cannot_be_written_is_told() {
     assert_eq!(told.status, Some(1));
     assert!(
         told.err
-            .contains("tailboardy: /nowhere/out.csv: No such file"),
+            .contains("tailboardy: /nowhere/out.csv: there is no such folder"),
         "{}",
         told.err
     );
