@@ -15,7 +15,7 @@ use Rattle.rules.specs.OutOfBag.{outOfBagMeans}
 use Rattle.laws.specs.Passed.{Binary64}
 use Rattle.demands.specs.LeftOut.{Alike, over, Unrefused, demand3}
 use Rattle.demands.specs.OutOfBag.{retarget, ButOne, SameMean, own-target}
-use Rattle.demands.specs.Walks.{tableOf}
+use Rattle.demands.specs.Walks.{tableAfter}
 
 module _ {W : Type 0} (K : Waits W) where
   -- ---- demand 3: two calls that fit one tree, alike but for rows that the tree leaves out
@@ -41,13 +41,13 @@ module _ {W : Type 0} (K : Waits W) where
 
   -- read with the call's own counts and features
   abbrev Read : ForestCall → ForestRooms W → List Float → Outcome Reply (List Float) → Type 0
-  Read C R out m = m ≡ outOfBagMeans (C .shape) (C .given .inputs .values) (C .given .counts) (tableOf C R) out
+  Read C R out m = m ≡ outOfBagMeans (C .shape) (C .given .inputs .values) (C .given .counts) (tableAfter C R) out
 
   pub calls-mean : (C : ForestCall) (ys : List Float) (i : ℕ) → i < C .shape .rows → ButOne i (C .given .inputs .targets) ys → Binary64 (C .given .inputs .values) → (R R′ : ForestRooms W)
       → (x y : Outcome ForestAnswer (ForestRooms W)) → x ≡ fitForest K C R → y ≡ fitForest K (retarget C ys) R′ → x .answer ≡ ForestAnswer.Grown → y .answer ≡ ForestAnswer.Grown
       → (out out′ : List Float) → length out ≡ C .shape .rows → length out′ ≡ C .shape .rows
       → (m m′ : Outcome Reply (List Float)) → Read C (x .rooms) out m → Read (retarget C ys) (y .rooms) out′ m′ → SameMean i m m′
   calls-mean C ys i b but held R R′ x y met met′ h h′ out out′ o o′ m m′ r r′ =
-      subst (λ m. SameMean i m m′) (sym (r ∙ (λ k. outOfBagMeans (C .shape) (C .given .inputs .values) (C .given .counts) (tableOf C (met k .rooms)) out)))
-      (subst (SameMean i _) (sym (r′ ∙ (λ k. outOfBagMeans (C .shape) (C .given .inputs .values) (C .given .counts) (tableOf (retarget C ys) (met′ k .rooms)) out′)))
+      subst (λ m. SameMean i m m′) (sym (r ∙ (λ k. outOfBagMeans (C .shape) (C .given .inputs .values) (C .given .counts) (tableAfter C (met k .rooms)) out)))
+      (subst (SameMean i _) (sym (r′ ∙ (λ k. outOfBagMeans (C .shape) (C .given .inputs .values) (C .given .counts) (tableAfter (retarget C ys) (met′ k .rooms)) out′)))
       (own-target W K C ys i b but held R R′ (ap (λ (o : Outcome ForestAnswer (ForestRooms W)). o .answer) (sym met) ∙ h) (ap (λ (o : Outcome ForestAnswer (ForestRooms W)). o .answer) (sym met′) ∙ h′) out out′ o o′))

@@ -18,7 +18,7 @@ use Rattle.rules.specs.Words.{every, along, alongFrom, front}
 use Rattle.rules.specs.Lent.{Columns, Entry, Waits, TreeRooms, ForestRooms, shortest, entriesAt, writeEntries}
 use Rattle.rules.specs.Draws.{ok}
 use Rattle.rules.specs.Fit.{Tree, fit, entries, paramsOf, TreeCall, frameOf, fitTree}
-use Rattle.rules.specs.Table.{isLeaf, goodFrom, goodTree, ForestTable, startsGood, treesOf, goodForest}
+use Rattle.rules.specs.Table.{isLeaf, goodFrom, goodTree, ForestTable, tableOf, startsGood, treesOf, goodForest}
 use Rattle.rules.specs.Reading.{noEntry, walked}
 use Rattle.rules.specs.Forest.{ForestCall, frameAt, startsFrom, forestEntries, fitForest}
 use Rattle.laws.specs.Lists.{Every, every-imp}
@@ -44,13 +44,13 @@ TreeGood =
     → T (goodTree (C .shape .features) (entriesAt (fitTree K C R .rooms .nodes) 0 (r .nodes)))
 
 -- a forest's is its nodes and starts
-abbrev pub tableOf : {W : Type 0} → ForestCall → ForestRooms W → ForestTable
-tableOf C R = record { trees = C .trees; nodes = R .nodes; starts = R .starts }
+abbrev pub tableAfter : {W : Type 0} → ForestCall → ForestRooms W → ForestTable
+tableAfter C R = tableOf (C .trees) (R .starts) (R .nodes)
 
 abbrev pub ForestGood : Type 1
 ForestGood =
     (W : Type 0) (K : Waits W) (C : ForestCall) (R : ForestRooms W) → Binary64 (C .given .inputs .values) → fitForest K C R .answer ≡ ForestAnswer.Grown
-    → T (goodForest (C .shape .features) (tableOf C (fitForest K C R .rooms)))
+    → T (goodForest (C .shape .features) (tableAfter C (fitForest K C R .rooms)))
 
 -- ---- walks
 
@@ -147,7 +147,7 @@ written-good features trees c starts ts n e room =
 pub forest-good : ForestGood
 unfolding frameAt paramsOf
 forest-good W K C R held h =
-    subst (λ (r : ForestRooms W). T (goodForest (C .shape .features) (tableOf C r))) (sym (a .after))
+    subst (λ (r : ForestRooms W). T (goodForest (C .shape .features) (tableAfter C r))) (sym (a .after))
     (written-good (C .shape .features) (C .trees) (R .nodes) (R .starts) (a .trees) (trees-length K C R a)
     (trees-each K C R a (λ (t : Tree). T (goodTree (C .shape .features) (entries (t .nodes)))) held (λ t l. fit-good (frameAt C t) (C .given .inputs) l))
     (forest-room K C R a held))
