@@ -73,7 +73,7 @@ OwnTarget =
 
 -- ---- the means are over the same trees
 
-ok-same : (t u : Tree) → _≡_ {A = Out Tree} (ok t) (ok u) → t ≡ u
+pub ok-same : (t u : Tree) → _≡_ {A = Out Tree} (ok t) (ok u) → t ≡ u
 ok-same t u h = ap (from-ok t) h
   where
     from-ok : Tree → Out Tree → Tree
