@@ -1,6 +1,8 @@
 pub mod LeftOut
 pub mod Walks
 pub mod OutOfBag
+pub mod Parts
+pub mod ItsTrees
 pub mod Numbers
 pub mod OneOutcome
 pub mod Filled

@@ -5,7 +5,7 @@ use native.Mathlib.Nat.{zero-add, add-zero}
 use native.Mathlib.Omega.{arith}
 use mathlib.Core.Path.{_≡_, sym, ap, _∙_, subst}
 use mathlib.Core.Bool.{true, _&&_}
-use mathlib.Core.List.{List, [], _∷_, _++_, append-nil}
+use mathlib.Core.List.{List, [], _∷_, _++_}
 use lib.ListN.{length, getD, take, length-append}
 use lib.Seq.{take-at}
 use lib.Dec.{T, leb, ltb, eqb, lt→ltb, le→leb, ltb→lt, eqb-refl}
@@ -21,13 +21,13 @@ use Rattle.rules.specs.Fit.{Tree, fit, entries, paramsOf, TreeCall, frameOf, fi
 use Rattle.rules.specs.Table.{isLeaf, goodFrom, goodTree, ForestTable, startsGood, treesOf, goodForest}
 use Rattle.rules.specs.Reading.{noEntry, walked}
 use Rattle.rules.specs.Forest.{ForestCall, frameAt, startsFrom, forestEntries, fitForest}
-use Rattle.laws.specs.Lists.{Every, every-imp}
+use Rattle.laws.specs.Lists.{Every, all-pass, every-imp, every-map}
 use Rattle.laws.specs.Outs.{then-of}
 use Rattle.laws.specs.Root.{fit-reported}
 use Rattle.laws.specs.Passed.{Binary64}
 use Rattle.laws.specs.Tables.{length-entries, fit-good}
 use Rattle.laws.specs.Tables as Tables
-use Rattle.laws.specs.Written.{entries-written, tables, first-start, tableLeft, trees-written, starts-length, shortest-stays}
+use Rattle.laws.specs.Written.{tree-written, tables, first-start, tableLeft, trees-written, starts-length, shortest-stays}
 use Rattle.laws.specs.Answered.{TreeAnswered, tree-answered, tree-listed, ForestAnswered, forest-answered, trees-length, trees-each, forest-room}
 
 -- ---- the statements
@@ -74,10 +74,7 @@ tree-good W K C R r held h =
     a = tree-answered K C R r h
 
     table : entriesAt (fitTree K C R .rooms .nodes) 0 (r .nodes) ≡ entries (a .tree .nodes)
-    table =
-        (λ i. entriesAt (a .after i .nodes) 0 (sym (a .reported) i .nodes))
-        ∙ ap (λ m. entriesAt (writeEntries (entries (a .tree .nodes)) (R .nodes)) 0 m) (reported-nodes C (a .tree) (a .grew) ∙ sym (length-entries (a .tree .nodes)))
-        ∙ entries-written (entries (a .tree .nodes)) (R .nodes) (entries (a .tree .nodes)) [] [] (sym (append-nil (entries (a .tree .nodes))))
+    table = (λ i. entriesAt (a .after i .nodes) 0 (sym (a .reported) i .nodes)) ∙ tree-written (a .tree) (R .nodes) (reported-nodes C (a .tree) (a .grew))
 
 -- ---- a forest
 
@@ -110,11 +107,6 @@ last-start a (t ∷ ts) x d =
     sum : (a n m k t : ℕ) → m ≡ n → t ≡ m + k → a + n + k ≡ a + t
     sum a n m k t h₁ h₂ = omega arith
 
-every-table : (features : ℕ) (ts : List Tree) → Every (λ (t : Tree). T (goodTree features (entries (t .nodes)))) ts → T (every (goodTree features) (tables ts))
-unfolding every
-every-table features [] e = tt
-every-table features (t ∷ ts) e = and-i (goodTree features (entries (t .nodes))) (every (goodTree features) (tables ts)) (e .0) (every-table features ts (e .1))
-
 -- a good tree has a node
 good-some : (features : ℕ) (t : Tree) → T (goodTree features (entries (t .nodes))) → 0 < length (t .nodes)
 unfolding goodTree
@@ -136,7 +128,7 @@ written-good features trees c starts ts n e room =
     (le→leb (getD s trees (suc top)) top
     (subst (λ m. m ≤ top) (sym (ap (λ k. getD s k (suc top)) (sym n) ∙ last-start 0 ts _ (suc top) ∙ zero-add (length (forestEntries ts))))
     (subst (λ m. length (forestEntries ts) ≤ m) (sym (shortest-stays (forestEntries ts) c room)) room)))))
-    (subst (λ l. T (every (goodTree features) l)) (sym (trees-written c starts ts trees n)) (every-table features ts e))
+    (subst (λ l. T (every (goodTree features) l)) (sym (trees-written c starts ts trees n)) (all-pass (goodTree features) (tables ts) (every-map _ _ ts e)))
   where
     s : List ℕ
     s = front (startsFrom 0 ts) starts

@@ -3,7 +3,7 @@ use Prim.Native.Nat.{ℕ, zero, suc, _+_, _-_, _<_, _≤_, min}
 use native.Mathlib.Nat.{add-zero, not-suc-le-zero, le-of-suc-le-suc}
 use native.Mathlib.Omega.{arith}
 use mathlib.Core.Path.{_≡_, refl, sym, ap, _∙_, subst}
-use mathlib.Core.List.{List, [], _∷_, _++_, map, append-assoc}
+use mathlib.Core.List.{List, [], _∷_, _++_, map, append-assoc, append-nil}
 use lib.ListN.{length, getD, drop, length-append, length-drop, length-map}
 use lib.Seq.{getD-drop, getD-append-seam, drop-drop}
 use lib.Ieee.{nan}
@@ -55,6 +55,12 @@ entries-written all c (x ∷ mid) pre post e =
 
     rest : map (entryAt (writeEntries all c)) (from (length (pre ++ (x ∷ []))) (length mid)) ≡ mid → map (entryAt (writeEntries all c)) (from (suc (length pre)) (length mid)) ≡ mid
     rest h = ap (λ n. map (entryAt (writeEntries all c)) (from n (length mid))) (sym (length-append pre (x ∷ []) ∙ one (length pre))) ∙ h
+
+-- one tree, of as many nodes as it reports
+pub tree-written : (t : Tree) (c : Columns) → t .report .nodes ≡ length (t .nodes) → entriesAt (writeEntries (entries (t .nodes)) c) 0 (t .report .nodes) ≡ entries (t .nodes)
+tree-written t c h =
+    ap (λ n. entriesAt (writeEntries (entries (t .nodes)) c) 0 n) (h ∙ sym (length-entries (t .nodes)))
+    ∙ entries-written (entries (t .nodes)) c (entries (t .nodes)) [] [] (sym (append-nil (entries (t .nodes))))
 
 -- ---- a forest's trees
 

@@ -1,0 +1,372 @@
+-- A forest is its trees. Tree t of a forest fit that answers is the tree that the fit of one tree gives for the same data, settings and weights, t's own counts and
+-- t's own parts of both tapes, in whatever rooms: its nodes entry by entry, and all six reports. No check but that of the room refuses that fit, and the forest's own
+-- rooms are enough for it. A forest meets a bad draw exactly where the first of its trees that meets one does, at the search at which that tree's own fit meets it. So
+-- trees can be grown some at a time and laid one after another. It holds because nothing is handed on from one tree to the next. Assumes nothing.
+use Prim.Native.Nat.{ℕ, zero, suc, _+_, _-_, _*_, _<_, _≤_, min}
+use native.Mathlib.Nat.{zero-add, suc-mul, mul-le-mul-right, le-trans}
+use native.Mathlib.Decide.{ℕ-discrete}
+use native.Mathlib.Omega.{arith}
+use mathlib.Core.Path.{_≡_, refl, sym, ap, _∙_, subst}
+use mathlib.Core.Logic.{_≢_, _↔_}
+use mathlib.Core.Bool.{Bool, true, false, _&&_, _||_, cond}
+use mathlib.Core.List.{List, [], _∷_, _++_, map, map-map, append-nil}
+use lib.ListN.{length, getD, take, drop, length-take, length-drop}
+use lib.Dec.{T, leb, eqb, eqb-refl, le→leb}
+use lib.Ieee.{Float, nan}
+use lib.Ieee.Fits.{and-l, and-r, and-i}
+use Rattle.rules.specs.declared.Report.{Report}
+use Rattle.rules.specs.declared.Place.{Place}
+use Rattle.rules.specs.declared.TreeAnswer.{TreeAnswer}
+use Rattle.rules.specs.declared.ForestAnswer.{ForestAnswer}
+use Rattle.rules.specs.Words.{from, front, every, total}
+use Rattle.rules.specs.Lent.{Data, Given, Frame, Entry, Reports, Waits, TreeRooms, ForestRooms, Outcome, unweighted, shortest, entriesAt, writeReports}
+use Rattle.rules.specs.Checks.{Test, test, firstFailed, shapeIn, treesIn, valuesLong, listingsLong, lengths, numbersGood, countsGood, countsOne, roomFor, workEnough, reportsExact}
+use Rattle.rules.specs.Listing.{listingsGood}
+use Rattle.rules.specs.Draws.{Out, bad, ok}
+use Rattle.rules.specs.Fit.{Tree, fit, entries, paramsOf, TreeCall, frameOf, grownTree, treeTests, treeDone, treeEnds, fitTree}
+use Rattle.rules.specs.Table.{treeAt, treesOf}
+use Rattle.rules.specs.Forest.{ForestCall, triedOf, part, frameAt, frames, Forest, stopped, grownAll, withTree, nextTree, growTrees, grownForest, cutsGood, roomsGood, forestTests, forestDone, forestEnds, fitForest}
+use Rattle.laws.specs.Lists.{is-true, Every, each, all-pass, every-take, every-drop, drop-take, total-from, getD-from}
+use Rattle.laws.specs.Outs.{then-of}
+use Rattle.laws.specs.Root.{fit-reported}
+use Rattle.laws.specs.Passed.{past, ForestPassed, forest-passed}
+use Rattle.laws.specs.Written.{tree-written, tables, trees-written}
+use Rattle.laws.specs.Answered.{GrewAt, ForestAnswered, forest-answered, trees-length, tree-at}
+use Rattle.demands.specs.LeftOut.{Unrefused}
+
+-- ---- the statements
+
+-- the entries from place a up to place b
+abbrev pub between {ℓ} : {A : Type ℓ} → ℕ → ℕ → List A → List A
+between a b l = drop a (take b l)
+
+-- the call that fits tree t alone
+abbrev pub treeCallAt : ForestCall → ℕ → TreeCall
+treeCallAt C t =
+    record {
+      shape = C .shape;
+      settings = C .settings;
+      tried = triedOf (C .shape .features) (C .tried);
+      given = record {
+        inputs = C .given .inputs;
+        weights = C .given .weights;
+        counts = between (t * C .shape .rows) (suc t * C .shape .rows) (C .given .counts);
+      };
+      words = between (getD (C .wordCuts) t 0) (getD (C .wordCuts) (suc t) 0) (C .words);
+      thresholds = between (getD (C .thresholdCuts) t 0) (getD (C .thresholdCuts) (suc t) 0) (C .thresholds);
+    }
+
+-- place t of the six report columns
+abbrev pub reportAt : Reports → ℕ → Report
+reportAt c t =
+    record {
+      nodes = getD (c .nodes) t 0;
+      depth = getD (c .depth) t 0;
+      mass = getD (c .mass) t nan;
+      searches = getD (c .searches) t 0;
+      words = getD (c .words) t 0;
+      thresholds = getD (c .thresholds) t 0;
+    }
+
+-- what the fit of one tree leaves is tree t of what a forest fit left: the report, and the nodes between two starts
+pub record IsTree {W X : Type 0} (left : ForestRooms W) (t : ℕ) (o : Outcome TreeAnswer (TreeRooms X)) : Type 0 where
+  pub answer : o .answer ≡ TreeAnswer.Grown (reportAt (left .reports) t)
+  pub nodes : entriesAt (o .rooms .nodes) 0 (getD (left .reports .nodes) t 0) ≡ treeAt (left .nodes) (left .starts) t
+
+-- in any rooms that are not too small
+abbrev pub ItsTrees : Type 1
+ItsTrees =
+    (W X : Type 0) (K : Waits W) (L : Waits X) (C : ForestCall) (R : ForestRooms W) → fitForest K C R .answer ≡ ForestAnswer.Grown
+    → (t : ℕ) → t < C .trees → (Q : TreeRooms X) → fitTree L (treeCallAt C t) Q .answer ≢ TreeAnswer.Refused 6
+    → IsTree (fitForest K C R .rooms) t (fitTree L (treeCallAt C t) Q)
+
+-- not refused by 1 to 6
+abbrev pub ForestUnrefused : ForestAnswer → Type 0
+ForestUnrefused (ForestAnswer.Refused n) = ⊥
+ForestUnrefused (ForestAnswer.BadDraw d) = Unit {0}
+ForestUnrefused ForestAnswer.Grown = Unit {0}
+
+-- what is lent to a forest is not too small for any of its trees
+abbrev pub ownRooms : {W : Type 0} → ForestRooms W → TreeRooms W
+ownRooms R = record { nodes = R .nodes; work = R .work }
+
+abbrev pub RoomForEach : Type 1
+RoomForEach =
+    (W : Type 0) (K : Waits W) (C : ForestCall) (R : ForestRooms W) → ForestUnrefused (fitForest K C R .answer)
+    → (t : ℕ) → t < C .trees → Unrefused (fitTree K (treeCallAt C t) (ownRooms R) .answer)
+
+-- tree t, fitted alone, meets a bad draw at search s, and none before it meets one
+pub record MeetsFirst {X : Type 0} (L : Waits X) (C : ForestCall) (Q : ℕ → TreeRooms X) (t s : ℕ) : Type 0 where
+  pub inside : t < C .trees
+  pub met : fitTree L (treeCallAt C t) (Q t) .answer ≡ TreeAnswer.BadDraw (record { tree = 0; search = s })
+  pub before : (u : ℕ) → u < t → (r : Report) × (fitTree L (treeCallAt C u) (Q u) .answer ≡ TreeAnswer.Grown r)
+
+-- each tree in rooms of its own, not too small
+abbrev pub FirstBad : Type 1
+FirstBad =
+    (W X : Type 0) (K : Waits W) (L : Waits X) (C : ForestCall) (R : ForestRooms W) → ForestUnrefused (fitForest K C R .answer)
+    → (Q : ℕ → TreeRooms X) → ((t : ℕ) → t < C .trees → fitTree L (treeCallAt C t) (Q t) .answer ≢ TreeAnswer.Refused 6)
+    → (t s : ℕ) → (fitForest K C R .answer ≡ ForestAnswer.BadDraw (record { tree = t; search = s })) ↔ MeetsFirst L C Q t s
+
+-- ---- a tree's frame
+
+frame-same : (C : ForestCall) (t : ℕ) → frameOf (treeCallAt C t) ≡ frameAt C t
+unfolding frameOf frameAt part
+frame-same C t =
+    λ i.
+    record {
+      rows = C .shape .rows;
+      params = paramsOf (C .settings) (triedOf (C .shape .features) (C .tried)) (C .shape .features);
+      weights = C .given .weights;
+      counts = (drop-take (t * C .shape .rows) (suc t * C .shape .rows) (C .given .counts) ∙ ap (λ n. take n (drop (t * C .shape .rows) (C .given .counts))) (wide t (C .shape .rows))) i;
+      words = drop-take (getD (C .wordCuts) t 0) (getD (C .wordCuts) (suc t) 0) (C .words) i;
+      thresholds = drop-take (getD (C .thresholdCuts) t 0) (getD (C .thresholdCuts) (suc t) 0) (C .thresholds) i;
+    }
+  where
+    wide : (t n : ℕ) → suc t * n - t * n ≡ n
+    wide t n = omega (arith, suc-mul t n)
+
+-- ---- its checks
+
+skips : (n : ℕ) (b : Bool) (ts : List Test) → T b → firstFailed (test n b ∷ ts) ≡ firstFailed ts
+unfolding firstFailed
+skips n true ts t = refl
+skips n false ts t = absurd t
+
+last-check : (n : ℕ) (b : Bool) → firstFailed (test n b ∷ []) ≡ cond b 0 n
+unfolding firstFailed
+last-check n b = refl
+
+eq-test : (a b : ℕ) → a ≡ b → eqb a b ≡ true
+eq-test a b q = is-true (eqb a b) (subst (λ n. T (eqb a n)) q (eqb-refl a))
+
+lengths-own : (C : ForestCall) (t : ℕ) → t < C .trees → length (C .given .counts) ≡ C .trees * C .shape .rows
+    → T (lengths (C .shape) (C .trees) (C .given)) → T (lengths (C .shape) 1 (treeCallAt C t .given))
+unfolding lengths
+lengths-own C t h long g =
+    subst (λ b. T (valuesLong (C .shape) (C .given .inputs .values) && (eqb (length (C .given .inputs .targets)) (C .shape .rows)
+    && ((unweighted (C .given .weights) || eqb (length (C .given .weights)) (C .shape .rows)) && (b && listingsLong (C .shape) (C .given .inputs .listings))))))
+    (eq-test (length (C .given .counts)) (C .trees * C .shape .rows) long ∙ sym (eq-test (length (treeCallAt C t .given .counts)) (1 * C .shape .rows) own)) g
+  where
+    wide : (a b n l k : ℕ) → b ≡ a + n → l ≡ k → b ≤ k → min b l - a ≡ 1 * n
+    wide a b n l k e₁ e₂ e₃ = omega arith
+
+    own : length (treeCallAt C t .given .counts) ≡ 1 * C .shape .rows
+    own =
+        length-drop (t * C .shape .rows) (take (suc t * C .shape .rows) (C .given .counts)) ∙ ap (λ n. n - t * C .shape .rows) (length-take (suc t * C .shape .rows) (C .given .counts))
+        ∙ wide (t * C .shape .rows) (suc t * C .shape .rows) (C .shape .rows) (length (C .given .counts)) (C .trees * C .shape .rows) (suc-mul t (C .shape .rows)) long (mul-le-mul-right (C .shape .rows) h)
+
+module _ {W X : Type 0} (K : Waits W) (L : Waits X) (C : ForestCall) (R : ForestRooms W) (q : firstFailed (forestTests K C R) ≡ 0) (t : ℕ) (h : t < C .trees) where
+  abbrev enough : TreeRooms X → Bool
+  enough Q = leb (roomFor (frameOf (treeCallAt C t))) (shortest (Q .nodes)) && workEnough L (C .shape) (Q .work)
+
+  -- all but the last pass
+  checked : (Q : TreeRooms X) → firstFailed (treeTests L (treeCallAt C t) Q) ≡ cond (enough Q) 0 6
+  unfolding forestTests treeTests numbersGood countsGood
+  checked Q =
+      let (t₁, q₂) = past 0 _ _ q in let (t₂, q₃) = past 1 _ _ q₂ in let (t₃, q₄) = past 2 _ _ q₃ in let (t₄, q₅) = past 3 _ _ q₄ in let (t₅, q₆) = past 4 _ _ q₅ in
+      skips 1 _ _ (and-l (shapeIn (C .shape)) (treesIn (C .trees)) t₁)
+      ∙ skips 2 _ _ (lengths-own C t h (forest-passed K C R q .passed .countsLong) (and-l (lengths (C .shape) (C .trees) (C .given)) (cutsGood C) t₂))
+      ∙ skips 3 _ _ t₃
+      ∙ skips 4 _ _ (all-pass (λ c. leb c 65535) _ (every-drop _ (t * C .shape .rows) _ (every-take _ (suc t * C .shape .rows) (C .given .counts)
+      (each (λ c. leb c 65535) (C .given .counts) (and-l (countsGood (C .given)) (countsOne (C .given)) t₄)))))
+      ∙ skips 5 _ _ t₅
+      ∙ last-check 6 (enough Q)
+
+  -- so in rooms that are not too small it is the growth of the forest's frame
+  own-fit : (Q : TreeRooms X) → fitTree L (treeCallAt C t) Q .answer ≢ TreeAnswer.Refused 6 → fitTree L (treeCallAt C t) Q ≡ treeDone L (fit (frameAt C t) (C .given .inputs)) Q
+  unfolding fitTree treeEnds grownTree
+  own-fit Q n = go (enough Q) (checked Q)
+    where
+      go : (b : Bool) → firstFailed (treeTests L (treeCallAt C t) Q) ≡ cond b 0 6 → fitTree L (treeCallAt C t) Q ≡ treeDone L (fit (frameAt C t) (C .given .inputs)) Q
+      go true e = λ i. treeEnds L (e i) (fit (frame-same C t i) (C .given .inputs)) Q
+      go false e = absurd (n (λ i. treeEnds L (e i) (grownTree (treeCallAt C t)) Q .answer))
+
+-- ---- what the forest left of it
+
+module _ {W : Type 0} (K : Waits W) (C : ForestCall) (R : ForestRooms W) (a : ForestAnswered K C R) (t : ℕ) (h : t < C .trees) where
+  abbrev grown : Tree
+  grown = tree-at K C R a t h .tree
+
+  report-left : reportAt (fitForest K C R .rooms .reports) t ≡ grown .report
+  report-left =
+      (λ i. reportAt (a .after i .reports) t)
+      ∙ (λ i.
+      record {
+        nodes = one (λ r. r .nodes) (R .reports .nodes) 0 i;
+        depth = one (λ r. r .depth) (R .reports .depth) 0 i;
+        mass = one (λ r. r .mass) (R .reports .mass) nan i;
+        searches = one (λ r. r .searches) (R .reports .searches) 0 i;
+        words = one (λ r. r .words) (R .reports .words) 0 i;
+        thresholds = one (λ r. r .thresholds) (R .reports .thresholds) 0 i;
+      })
+    where
+      reports : List Report
+      reports = map (λ (u : Tree). u .report) (a .trees)
+
+      one : {A : Type 0} (f : Report → A) (old : List A) (d : A) → getD (front (map f reports) old) t d ≡ f (grown .report)
+      one f old d =
+          ap (λ l. getD (l ++ drop (length (map f reports)) old) t d) (map-map f (λ (u : Tree). u .report) (a .trees))
+          ∙ tree-at K C R a t h .at (λ u. f (u .report)) (drop (length (map f reports)) old) d
+
+  nodes-left : treeAt (fitForest K C R .rooms .nodes) (fitForest K C R .rooms .starts) t ≡ entries (grown .nodes)
+  unfolding treesOf
+  nodes-left =
+      (λ i. treeAt (a .after i .nodes) (a .after i .starts) t)
+      ∙ ap (treeAt _ _) (sym (zero-add t))
+      ∙ sym (getD-from (treeAt _ _) 0 (C .trees) t [] h)
+      ∙ ap (λ l. getD l t []) (trees-written (R .nodes) (R .starts) (a .trees) (C .trees) (trees-length K C R a) ∙ sym (append-nil (tables (a .trees))))
+      ∙ tree-at K C R a t h .at (λ u. entries (u .nodes)) [] []
+
+pub its-trees : ItsTrees
+unfolding treeDone
+its-trees W X K L C R g t h Q n =
+    record {
+      answer = ap (λ (o : Outcome TreeAnswer (TreeRooms X)). o .answer) done ∙ ap TreeAnswer.Grown (sym (report-left K C R a t h));
+      nodes =
+          (λ i. entriesAt (done i .rooms .nodes) 0 (report-left K C R a t h i .nodes))
+          ∙ tree-written (u .tree) (Q .nodes) (then-of (λ (x : Tree). x .report .nodes ≡ length (x .nodes)) (fit (frameAt C t) (C .given .inputs)) (u .tree) (u .grew) (fit-reported (frameAt C t) (C .given .inputs)))
+          ∙ sym (nodes-left K C R a t h);
+    }
+  where
+    a : ForestAnswered K C R
+    a = forest-answered K C R g
+
+    u : GrewAt (fit (frameAt C t) (C .given .inputs)) (a .trees) t
+    u = tree-at K C R a t h
+
+    done : fitTree L (treeCallAt C t) Q ≡ treeDone L (ok (u .tree)) Q
+    done = own-fit K L C R (a .passed) t h Q n ∙ ap (λ o. treeDone L o Q) (u .grew)
+
+-- ---- a forest that is not refused
+
+module _ {W : Type 0} (K : Waits W) (C : ForestCall) (R : ForestRooms W) where
+  passes : ForestUnrefused (fitForest K C R .answer) → firstFailed (forestTests K C R) ≡ 0
+  unfolding fitForest forestEnds
+  passes h = go (firstFailed (forestTests K C R)) refl h
+    where
+      go : (k : ℕ) → firstFailed (forestTests K C R) ≡ k → ForestUnrefused (forestEnds K k (grownForest C) R .answer) → firstFailed (forestTests K C R) ≡ 0
+      go zero q h = q
+      go (suc k) q h = absurd h
+
+done-unrefused : {W : Type 0} (K : Waits W) (o : Out Tree) (Q : TreeRooms W) → Unrefused (treeDone K o Q .answer)
+unfolding treeDone
+done-unrefused K (bad s) Q = tt
+done-unrefused K (ok x) Q = tt
+
+pub room-for-each : RoomForEach
+unfolding fitTree treeEnds frames
+room-for-each W K C R g t h =
+    subst (λ n. Unrefused (treeEnds K n (grownTree (treeCallAt C t)) (ownRooms R) .answer))
+    (sym (checked K K C R q t h (ownRooms R) ∙ ap (λ b. cond b 0 6) (is-true (enough K K C R q t h (ownRooms R)) (and-i (leb (roomFor (frameOf (treeCallAt C t))) (shortest (R .nodes))) (workEnough K (C .shape) (R .work)) (le→leb _ _ room) (p .work)))))
+    (done-unrefused K (grownTree (treeCallAt C t)) (ownRooms R))
+  where
+    q : firstFailed (forestTests K C R) ≡ 0
+    q = passes K C R g
+
+    p : ForestPassed K C R
+    p = forest-passed K C R q
+
+    room : roomFor (frameOf (treeCallAt C t)) ≤ shortest (R .nodes)
+    room =
+        le-trans (subst (λ F. roomFor F ≤ total roomFor (frames C)) (ap (frameAt C) (zero-add t) ∙ sym (frame-same C t)) (total-from roomFor (frameAt C) 0 (C .trees) t h)) (p .room)
+
+-- ---- the first bad draw
+
+ok≢bad : (x : Tree) (s : ℕ) → ok x ≡ bad s → ⊥
+ok≢bad x s e = let z : _≡_ {A = ℕ} 0 1 = cc in absurd (omega arith)
+
+module _ (F : ℕ → Frame) (D : Data) where
+  -- of n trees from tree k on
+  record Stops (k n t s : ℕ) : Type 0 where
+    above : k ≤ t
+    below : t < k + n
+    met : fit (F t) D ≡ bad s
+    before : (u : ℕ) → k ≤ u → u < t → (x : Tree) × (fit (F u) D ≡ ok x)
+
+  stops : (k n t s : ℕ) → growTrees k (map F (from k n)) D ≡ stopped (record { tree = t; search = s }) → Stops k n t s
+  unfolding growTrees nextTree withTree from
+  stops k zero t s e = let z : _≡_ {A = ℕ} 0 1 = cc in absurd (omega arith)
+  stops k (suc n) t s e = go (fit (F k) D) refl (growTrees (suc k) (map F (from (suc k) n)) D) (stops (suc k) n t s) e
+    where
+      go : (o : Out Tree) → fit (F k) D ≡ o → (f : Forest) → (f ≡ stopped (record { tree = t; search = s }) → Stops (suc k) n t s)
+          → nextTree k o f ≡ stopped (record { tree = t; search = s }) → Stops k (suc n) t s
+      go (bad b) q f ih e =
+          let p : _≡_ {A = Place} (record { tree = k; search = b }) (record { tree = t; search = s }) = cc in
+          let here : k ≡ t = ap (λ (d : Place). d .tree) p in
+          record {
+            above = omega (arith, here);
+            below = omega (arith, here);
+            met = ap (λ j. fit (F j) D) (sym here) ∙ q ∙ ap (λ (d : Place). bad (d .search)) p;
+            before = λ u x y. absurd (omega (arith, here, x, y));
+          }
+      go (ok x) q (stopped d) ih e =
+          let later : Stops (suc k) n t s = ih e in
+          record { above = omega (arith, later .above); below = omega (arith, later .below); met = later .met; before = λ u y z. first u y (ℕ-discrete u k) (λ y. later .before u y z) }
+        where
+          first : (u : ℕ) → k ≤ u → Dec (u ≡ k) → (suc k ≤ u → (x : Tree) × (fit (F u) D ≡ ok x)) → (x : Tree) × (fit (F u) D ≡ ok x)
+          first u y (yes z) f = (x, ap (λ j. fit (F j) D) z ∙ q)
+          first u y (no z) f = f (omega (arith, y, z))
+      go (ok x) q (grownAll ts) ih e = let z : _≡_ {A = ℕ} 0 1 = cc in absurd (omega arith)
+
+  stops-so : (k n t s : ℕ) → Stops k n t s → growTrees k (map F (from k n)) D ≡ stopped (record { tree = t; search = s })
+  unfolding growTrees nextTree withTree from
+  stops-so k zero t s e = absurd (none k t (e .above) (e .below))
+    where
+      none : (k t : ℕ) → k ≤ t → t < k + 0 → ⊥
+      none k t a b = omega arith
+  stops-so k (suc n) t s e = go (fit (F k) D) refl (ℕ-discrete k t) (stops-so (suc k) n t s)
+    where
+      go : (o : Out Tree) → fit (F k) D ≡ o → Dec (k ≡ t) → (Stops (suc k) n t s → growTrees (suc k) (map F (from (suc k) n)) D ≡ stopped (record { tree = t; search = s }))
+          → nextTree k o (growTrees (suc k) (map F (from (suc k) n)) D) ≡ stopped (record { tree = t; search = s })
+      go (bad b) q (yes z) ih = let met : bad b ≡ bad s = sym q ∙ ap (λ j. fit (F j) D) z ∙ e .met in let y : b ≡ s = cc in λ i. stopped (record { tree = z i; search = y i })
+      go (bad b) q (no z) ih = let (x, g) = e .before k (omega arith) (omega (arith, e .above, z)) in absurd (ok≢bad x b (sym g ∙ q))
+      go (ok x) q (yes z) ih = absurd (ok≢bad x s (sym q ∙ ap (λ j. fit (F j) D) z ∙ e .met))
+      go (ok x) q (no z) ih =
+          ap (withTree x) (ih (record { above = omega (arith, e .above, z); below = omega (arith, e .below); met = e .met; before = λ u y w. e .before u (omega (arith, y)) w }))
+
+-- an answer tells what the growth came to
+bad-forest : {W : Type 0} (K : Waits W) (R : ForestRooms W) (d : Place) (f : Forest) → forestDone K f R .answer ≡ ForestAnswer.BadDraw d → f ≡ stopped d
+unfolding forestDone
+bad-forest K R d (stopped e) h = cc
+bad-forest K R d (grownAll ts) h = let z : _≡_ {A = ℕ} 0 1 = cc in absurd (omega arith)
+
+bad-tree : {X : Type 0} (L : Waits X) (Q : TreeRooms X) (s : ℕ) (o : Out Tree) → treeDone L o Q .answer ≡ TreeAnswer.BadDraw (record { tree = 0; search = s }) → o ≡ bad s
+unfolding treeDone
+bad-tree L Q s (bad b) h = let p : _≡_ {A = Place} (record { tree = 0; search = b }) (record { tree = 0; search = s }) = cc in ap (λ (d : Place). bad (d .search)) p
+bad-tree L Q s (ok x) h = let z : _≡_ {A = ℕ} 0 1 = cc in absurd (omega arith)
+
+grown-tree : {X : Type 0} (L : Waits X) (Q : TreeRooms X) (r : Report) (o : Out Tree) → treeDone L o Q .answer ≡ TreeAnswer.Grown r → (x : Tree) × (o ≡ ok x)
+unfolding treeDone
+grown-tree L Q r (bad b) h = let z : _≡_ {A = ℕ} 0 1 = cc in absurd (omega arith)
+grown-tree L Q r (ok x) h = (x, refl)
+
+pub first-bad : FirstBad
+unfolding fitForest forestEnds forestDone grownForest frames treeDone
+first-bad W X K L C R g Q n t s = (there, back)
+  where
+    q : firstFailed (forestTests K C R) ≡ 0
+    q = passes K C R g
+
+    own : (u : ℕ) → u < C .trees → fitTree L (treeCallAt C u) (Q u) .answer ≡ treeDone L (fit (frameAt C u) (C .given .inputs)) (Q u) .answer
+    own u h = ap (λ (o : Outcome TreeAnswer (TreeRooms X)). o .answer) (own-fit K L C R q u h (Q u) (n u h))
+
+    there : fitForest K C R .answer ≡ ForestAnswer.BadDraw (record { tree = t; search = s }) → MeetsFirst L C Q t s
+    there e =
+        let st : Stops (frameAt C) (C .given .inputs) 0 (C .trees) t s = stops (frameAt C) (C .given .inputs) 0 (C .trees) t s
+        (bad-forest K R _ (grownForest C) ((λ i. forestEnds K (sym q i) (grownForest C) R .answer) ∙ e)) in
+        let h : t < C .trees = omega (arith, st .below) in
+        record {
+          inside = h;
+          met = own t h ∙ ap (λ o. treeDone L o (Q t) .answer) (st .met);
+          before = λ u l. let (x, f) = st .before u (omega arith) l in (x .report, own u (omega (arith, l, h)) ∙ ap (λ o. treeDone L o (Q u) .answer) f);
+        }
+
+    back : MeetsFirst L C Q t s → fitForest K C R .answer ≡ ForestAnswer.BadDraw (record { tree = t; search = s })
+    back m =
+        λ i. forestEnds K (q i) (stops-so (frameAt C) (C .given .inputs) 0 (C .trees) t s (record {
+          above = omega arith;
+          below = omega (arith, m .inside);
+          met = bad-tree L (Q t) s _ (sym (own t (m .inside)) ∙ m .met);
+          before = λ u y l. let (r, f) = m .before u l in grown-tree L (Q u) r _ (sym (own u (omega (arith, l, m .inside))) ∙ f);
+        }) i) R .answer
