@@ -1,32 +1,29 @@
 -- A forest is its trees. Tree t of a forest fit that answers is the tree that the fit of one tree gives for the same data, settings and weights, t's own counts and
 -- t's own parts of both tapes, in whatever rooms: its nodes entry by entry, and all six reports. No check but that of the room refuses that fit, and the forest's own
--- rooms are enough for it. A forest meets a bad draw exactly where the first of its trees that meets one does, at the search at which that tree's own fit meets it. So
--- trees can be grown some at a time and laid one after another. It holds because nothing is handed on from one tree to the next. Assumes nothing.
+-- rooms are enough for it. So trees can be grown some at a time: of two forests that have a tree with the same counts and draws, both have the same tree. It holds
+-- because nothing is handed on from one tree to the next. Assumes nothing.
 use Prim.Native.Nat.{ℕ, zero, suc, _+_, _-_, _*_, _<_, _≤_, min}
 use native.Mathlib.Nat.{zero-add, suc-mul, mul-le-mul-right, le-trans}
-use native.Mathlib.Decide.{ℕ-discrete}
 use native.Mathlib.Omega.{arith}
 use mathlib.Core.Path.{_≡_, refl, sym, ap, _∙_, subst}
-use mathlib.Core.Logic.{_≢_, _↔_}
+use mathlib.Core.Logic.{_≢_}
 use mathlib.Core.Bool.{Bool, true, false, _&&_, _||_, cond}
 use mathlib.Core.List.{List, [], _∷_, _++_, map, map-map, append-nil}
 use lib.ListN.{length, getD, take, drop, length-take, length-drop}
 use lib.Dec.{T, leb, eqb, eqb-refl, le→leb}
-use lib.Ieee.{Float, nan}
-use lib.Ieee.Fits.{and-l, and-r, and-i}
+use lib.Ieee.{nan}
+use lib.Ieee.Fits.{and-l, and-i}
 use Rattle.rules.specs.declared.Report.{Report}
-use Rattle.rules.specs.declared.Place.{Place}
 use Rattle.rules.specs.declared.TreeAnswer.{TreeAnswer}
 use Rattle.rules.specs.declared.ForestAnswer.{ForestAnswer}
-use Rattle.rules.specs.Words.{from, front, every, total}
-use Rattle.rules.specs.Lent.{Data, Given, Frame, Entry, Reports, Waits, TreeRooms, ForestRooms, Outcome, unweighted, shortest, entriesAt, writeReports}
-use Rattle.rules.specs.Checks.{Test, test, firstFailed, shapeIn, treesIn, valuesLong, listingsLong, lengths, numbersGood, countsGood, countsOne, roomFor, workEnough, reportsExact}
-use Rattle.rules.specs.Listing.{listingsGood}
+use Rattle.rules.specs.Words.{front, total}
+use Rattle.rules.specs.Lent.{Reports, Waits, TreeRooms, ForestRooms, Outcome, unweighted, shortest, entriesAt}
+use Rattle.rules.specs.Checks.{Test, test, firstFailed, shapeIn, treesIn, valuesLong, listingsLong, lengths, numbersGood, countsGood, countsOne, roomFor, workEnough}
 use Rattle.rules.specs.Draws.{Out, bad, ok}
 use Rattle.rules.specs.Fit.{Tree, fit, entries, paramsOf, TreeCall, frameOf, grownTree, treeTests, treeDone, treeEnds, fitTree}
 use Rattle.rules.specs.Table.{treeAt, treesOf}
-use Rattle.rules.specs.Forest.{ForestCall, triedOf, part, frameAt, frames, Forest, stopped, grownAll, withTree, nextTree, growTrees, grownForest, cutsGood, roomsGood, forestTests, forestDone, forestEnds, fitForest}
-use Rattle.laws.specs.Lists.{is-true, Every, each, all-pass, every-take, every-drop, drop-take, total-from, getD-from}
+use Rattle.rules.specs.Forest.{ForestCall, triedOf, part, frameAt, frames, grownForest, cutsGood, forestTests, forestEnds, fitForest}
+use Rattle.laws.specs.Lists.{is-true, each, all-pass, every-take, every-drop, drop-take, total-from, getD-from}
 use Rattle.laws.specs.Outs.{then-of}
 use Rattle.laws.specs.Root.{fit-reported}
 use Rattle.laws.specs.Passed.{past, ForestPassed, forest-passed}
@@ -95,18 +92,16 @@ RoomForEach =
     (W : Type 0) (K : Waits W) (C : ForestCall) (R : ForestRooms W) → ForestUnrefused (fitForest K C R .answer)
     → (t : ℕ) → t < C .trees → Unrefused (fitTree K (treeCallAt C t) (ownRooms R) .answer)
 
--- tree t, fitted alone, meets a bad draw at search s, and none before it meets one
-pub record MeetsFirst {X : Type 0} (L : Waits X) (C : ForestCall) (Q : ℕ → TreeRooms X) (t s : ℕ) : Type 0 where
-  pub inside : t < C .trees
-  pub met : fitTree L (treeCallAt C t) (Q t) .answer ≡ TreeAnswer.BadDraw (record { tree = 0; search = s })
-  pub before : (u : ℕ) → u < t → (r : Report) × (fitTree L (treeCallAt C u) (Q u) .answer ≡ TreeAnswer.Grown r)
+-- two forest fits that answer, one tree of each: where the calls that fit these trees alone are one, so are reports and nodes
+pub record SameTree {W X : Type 0} (left : ForestRooms W) (t : ℕ) (other : ForestRooms X) (u : ℕ) : Type 0 where
+  pub report : reportAt (left .reports) t ≡ reportAt (other .reports) u
+  pub nodes : treeAt (left .nodes) (left .starts) t ≡ treeAt (other .nodes) (other .starts) u
 
--- each tree in rooms of its own, not too small
-abbrev pub FirstBad : Type 1
-FirstBad =
-    (W X : Type 0) (K : Waits W) (L : Waits X) (C : ForestCall) (R : ForestRooms W) → ForestUnrefused (fitForest K C R .answer)
-    → (Q : ℕ → TreeRooms X) → ((t : ℕ) → t < C .trees → fitTree L (treeCallAt C t) (Q t) .answer ≢ TreeAnswer.Refused 6)
-    → (t s : ℕ) → (fitForest K C R .answer ≡ ForestAnswer.BadDraw (record { tree = t; search = s })) ↔ MeetsFirst L C Q t s
+abbrev pub SomeAtATime : Type 1
+SomeAtATime =
+    (W X : Type 0) (K : Waits W) (L : Waits X) (C E : ForestCall) (R : ForestRooms W) (Q : ForestRooms X)
+    → fitForest K C R .answer ≡ ForestAnswer.Grown → fitForest L E Q .answer ≡ ForestAnswer.Grown
+    → (t u : ℕ) → t < C .trees → u < E .trees → treeCallAt C t ≡ treeCallAt E u → SameTree (fitForest K C R .rooms) t (fitForest L E Q .rooms) u
 
 -- ---- a tree's frame
 
@@ -174,7 +169,7 @@ module _ {W X : Type 0} (K : Waits W) (L : Waits X) (C : ForestCall) (R : Forest
       ∙ last-check 6 (enough Q)
 
   -- so in rooms that are not too small it is the growth of the forest's frame
-  own-fit : (Q : TreeRooms X) → fitTree L (treeCallAt C t) Q .answer ≢ TreeAnswer.Refused 6 → fitTree L (treeCallAt C t) Q ≡ treeDone L (fit (frameAt C t) (C .given .inputs)) Q
+  pub own-fit : (Q : TreeRooms X) → fitTree L (treeCallAt C t) Q .answer ≢ TreeAnswer.Refused 6 → fitTree L (treeCallAt C t) Q ≡ treeDone L (fit (frameAt C t) (C .given .inputs)) Q
   unfolding fitTree treeEnds grownTree
   own-fit Q n = go (enough Q) (checked Q)
     where
@@ -241,7 +236,7 @@ its-trees W X K L C R g t h Q n =
 -- ---- a forest that is not refused
 
 module _ {W : Type 0} (K : Waits W) (C : ForestCall) (R : ForestRooms W) where
-  passes : ForestUnrefused (fitForest K C R .answer) → firstFailed (forestTests K C R) ≡ 0
+  pub passes : ForestUnrefused (fitForest K C R .answer) → firstFailed (forestTests K C R) ≡ 0
   unfolding fitForest forestEnds
   passes h = go (firstFailed (forestTests K C R)) refl h
     where
@@ -271,102 +266,27 @@ room-for-each W K C R g t h =
     room =
         le-trans (subst (λ F. roomFor F ≤ total roomFor (frames C)) (ap (frameAt C) (zero-add t) ∙ sym (frame-same C t)) (total-from roomFor (frameAt C) 0 (C .trees) t h)) (p .room)
 
--- ---- the first bad draw
+-- ---- so each tree of a forest that answers is had in the forest's own rooms
 
-ok≢bad : (x : Tree) (s : ℕ) → ok x ≡ bad s → ⊥
-ok≢bad x s e = let z : _≡_ {A = ℕ} 0 1 = cc in absurd (omega arith)
+not-6 : (a : TreeAnswer) → Unrefused a → a ≢ TreeAnswer.Refused 6
+not-6 a h e = subst Unrefused e h
 
-module _ (F : ℕ → Frame) (D : Data) where
-  -- of n trees from tree k on
-  record Stops (k n t s : ℕ) : Type 0 where
-    above : k ≤ t
-    below : t < k + n
-    met : fit (F t) D ≡ bad s
-    before : (u : ℕ) → k ≤ u → u < t → (x : Tree) × (fit (F u) D ≡ ok x)
+pub tree-alone : {W : Type 0} (K : Waits W) (C : ForestCall) (R : ForestRooms W) → fitForest K C R .answer ≡ ForestAnswer.Grown → (t : ℕ) → t < C .trees
+    → IsTree (fitForest K C R .rooms) t (fitTree K (treeCallAt C t) (ownRooms R))
+tree-alone {W} K C R g t h =
+    its-trees W W K K C R g t h (ownRooms R) (not-6 _ (room-for-each W K C R (subst ForestUnrefused (sym g) tt) t h))
 
-  stops : (k n t s : ℕ) → growTrees k (map F (from k n)) D ≡ stopped (record { tree = t; search = s }) → Stops k n t s
-  unfolding growTrees nextTree withTree from
-  stops k zero t s e = let z : _≡_ {A = ℕ} 0 1 = cc in absurd (omega arith)
-  stops k (suc n) t s e = go (fit (F k) D) refl (growTrees (suc k) (map F (from (suc k) n)) D) (stops (suc k) n t s) e
-    where
-      go : (o : Out Tree) → fit (F k) D ≡ o → (f : Forest) → (f ≡ stopped (record { tree = t; search = s }) → Stops (suc k) n t s)
-          → nextTree k o f ≡ stopped (record { tree = t; search = s }) → Stops k (suc n) t s
-      go (bad b) q f ih e =
-          let p : _≡_ {A = Place} (record { tree = k; search = b }) (record { tree = t; search = s }) = cc in
-          let here : k ≡ t = ap (λ (d : Place). d .tree) p in
-          record {
-            above = omega (arith, here);
-            below = omega (arith, here);
-            met = ap (λ j. fit (F j) D) (sym here) ∙ q ∙ ap (λ (d : Place). bad (d .search)) p;
-            before = λ u x y. absurd (omega (arith, here, x, y));
-          }
-      go (ok x) q (stopped d) ih e =
-          let later : Stops (suc k) n t s = ih e in
-          record { above = omega (arith, later .above); below = omega (arith, later .below); met = later .met; before = λ u y z. first u y (ℕ-discrete u k) (λ y. later .before u y z) }
-        where
-          first : (u : ℕ) → k ≤ u → Dec (u ≡ k) → (suc k ≤ u → (x : Tree) × (fit (F u) D ≡ ok x)) → (x : Tree) × (fit (F u) D ≡ ok x)
-          first u y (yes z) f = (x, ap (λ j. fit (F j) D) z ∙ q)
-          first u y (no z) f = f (omega (arith, y, z))
-      go (ok x) q (grownAll ts) ih e = let z : _≡_ {A = ℕ} 0 1 = cc in absurd (omega arith)
-
-  stops-so : (k n t s : ℕ) → Stops k n t s → growTrees k (map F (from k n)) D ≡ stopped (record { tree = t; search = s })
-  unfolding growTrees nextTree withTree from
-  stops-so k zero t s e = absurd (none k t (e .above) (e .below))
-    where
-      none : (k t : ℕ) → k ≤ t → t < k + 0 → ⊥
-      none k t a b = omega arith
-  stops-so k (suc n) t s e = go (fit (F k) D) refl (ℕ-discrete k t) (stops-so (suc k) n t s)
-    where
-      go : (o : Out Tree) → fit (F k) D ≡ o → Dec (k ≡ t) → (Stops (suc k) n t s → growTrees (suc k) (map F (from (suc k) n)) D ≡ stopped (record { tree = t; search = s }))
-          → nextTree k o (growTrees (suc k) (map F (from (suc k) n)) D) ≡ stopped (record { tree = t; search = s })
-      go (bad b) q (yes z) ih = let met : bad b ≡ bad s = sym q ∙ ap (λ j. fit (F j) D) z ∙ e .met in let y : b ≡ s = cc in λ i. stopped (record { tree = z i; search = y i })
-      go (bad b) q (no z) ih = let (x, g) = e .before k (omega arith) (omega (arith, e .above, z)) in absurd (ok≢bad x b (sym g ∙ q))
-      go (ok x) q (yes z) ih = absurd (ok≢bad x s (sym q ∙ ap (λ j. fit (F j) D) z ∙ e .met))
-      go (ok x) q (no z) ih =
-          ap (withTree x) (ih (record { above = omega (arith, e .above, z); below = omega (arith, e .below); met = e .met; before = λ u y w. e .before u (omega (arith, y)) w }))
-
--- an answer tells what the growth came to
-bad-forest : {W : Type 0} (K : Waits W) (R : ForestRooms W) (d : Place) (f : Forest) → forestDone K f R .answer ≡ ForestAnswer.BadDraw d → f ≡ stopped d
-unfolding forestDone
-bad-forest K R d (stopped e) h = cc
-bad-forest K R d (grownAll ts) h = let z : _≡_ {A = ℕ} 0 1 = cc in absurd (omega arith)
-
-bad-tree : {X : Type 0} (L : Waits X) (Q : TreeRooms X) (s : ℕ) (o : Out Tree) → treeDone L o Q .answer ≡ TreeAnswer.BadDraw (record { tree = 0; search = s }) → o ≡ bad s
-unfolding treeDone
-bad-tree L Q s (bad b) h = let p : _≡_ {A = Place} (record { tree = 0; search = b }) (record { tree = 0; search = s }) = cc in ap (λ (d : Place). bad (d .search)) p
-bad-tree L Q s (ok x) h = let z : _≡_ {A = ℕ} 0 1 = cc in absurd (omega arith)
-
-grown-tree : {X : Type 0} (L : Waits X) (Q : TreeRooms X) (r : Report) (o : Out Tree) → treeDone L o Q .answer ≡ TreeAnswer.Grown r → (x : Tree) × (o ≡ ok x)
-unfolding treeDone
-grown-tree L Q r (bad b) h = let z : _≡_ {A = ℕ} 0 1 = cc in absurd (omega arith)
-grown-tree L Q r (ok x) h = (x, refl)
-
-pub first-bad : FirstBad
-unfolding fitForest forestEnds forestDone grownForest frames treeDone
-first-bad W X K L C R g Q n t s = (there, back)
+pub some-at-a-time : SomeAtATime
+some-at-a-time W X K L C E R Q g k t u h l e =
+    record { report = report; nodes = sym (one .nodes) ∙ (λ i. entriesAt (fitTree K (treeCallAt C t) (ownRooms R) .rooms .nodes) 0 (report i .nodes)) ∙ other .nodes }
   where
-    q : firstFailed (forestTests K C R) ≡ 0
-    q = passes K C R g
+    one : IsTree (fitForest K C R .rooms) t (fitTree K (treeCallAt C t) (ownRooms R))
+    one = tree-alone K C R g t h
 
-    own : (u : ℕ) → u < C .trees → fitTree L (treeCallAt C u) (Q u) .answer ≡ treeDone L (fit (frameAt C u) (C .given .inputs)) (Q u) .answer
-    own u h = ap (λ (o : Outcome TreeAnswer (TreeRooms X)). o .answer) (own-fit K L C R q u h (Q u) (n u h))
+    other : IsTree (fitForest L E Q .rooms) u (fitTree K (treeCallAt C t) (ownRooms R))
+    other =
+        subst (λ (c : TreeCall). IsTree (fitForest L E Q .rooms) u (fitTree K c (ownRooms R))) (sym e)
+        (its-trees X W L K E Q k u l (ownRooms R) (not-6 _ (subst (λ (c : TreeCall). Unrefused (fitTree K c (ownRooms R) .answer)) e (subst Unrefused (sym (one .answer)) tt))))
 
-    there : fitForest K C R .answer ≡ ForestAnswer.BadDraw (record { tree = t; search = s }) → MeetsFirst L C Q t s
-    there e =
-        let st : Stops (frameAt C) (C .given .inputs) 0 (C .trees) t s = stops (frameAt C) (C .given .inputs) 0 (C .trees) t s
-        (bad-forest K R _ (grownForest C) ((λ i. forestEnds K (sym q i) (grownForest C) R .answer) ∙ e)) in
-        let h : t < C .trees = omega (arith, st .below) in
-        record {
-          inside = h;
-          met = own t h ∙ ap (λ o. treeDone L o (Q t) .answer) (st .met);
-          before = λ u l. let (x, f) = st .before u (omega arith) l in (x .report, own u (omega (arith, l, h)) ∙ ap (λ o. treeDone L o (Q u) .answer) f);
-        }
-
-    back : MeetsFirst L C Q t s → fitForest K C R .answer ≡ ForestAnswer.BadDraw (record { tree = t; search = s })
-    back m =
-        λ i. forestEnds K (q i) (stops-so (frameAt C) (C .given .inputs) 0 (C .trees) t s (record {
-          above = omega arith;
-          below = omega (arith, m .inside);
-          met = bad-tree L (Q t) s _ (sym (own t (m .inside)) ∙ m .met);
-          before = λ u y l. let (r, f) = m .before u l in grown-tree L (Q u) r _ (sym (own u (omega (arith, l, m .inside))) ∙ f);
-        }) i) R .answer
+    report : reportAt (fitForest K C R .rooms .reports) t ≡ reportAt (fitForest L E Q .rooms .reports) u
+    report = let same : TreeAnswer.Grown (reportAt (fitForest K C R .rooms .reports) t) ≡ TreeAnswer.Grown (reportAt (fitForest L E Q .rooms .reports) u) = sym (one .answer) ∙ other .answer in cc

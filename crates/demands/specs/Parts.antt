@@ -4,10 +4,10 @@
 use Prim.Native.Nat.{ℕ, zero, suc, _+_, _-_, _*_, _<_, _≤_}
 use native.Mathlib.Nat.{add-zero, zero-mul, suc-mul}
 use native.Mathlib.Omega.{arith}
-use mathlib.Core.Path.{_≡_, refl, sym, ap, _∙_, subst}
+use mathlib.Core.Path.{_≡_, sym, ap, _∙_, subst}
 use mathlib.Core.Bool.{_&&_, _||_}
 use mathlib.Core.List.{List, _++_, map, flatten}
-use lib.ListN.{length, getD, drop, take, length-drop, take-append-drop, drop-of-length-le}
+use lib.ListN.{length, getD, drop, length-drop, take-append-drop, drop-of-length-le}
 use lib.Seq.{length-take-le, drop-drop}
 use lib.Dec.{T, leb, eqb, eqb→eq}
 use Rattle.rules.specs.declared.Shape.{Shape}

@@ -1,12 +1,12 @@
 -- The walk of a good table ends: at a leaf, inside the tree, within as many steps as it has nodes. And what a fit that answers leaves is a good table,
 -- of the trees that it grew, so that every reader can go on from it. Assumes nothing.
 use Prim.Native.Nat.{ℕ, suc, _+_, _<_, _≤_}
-use native.Mathlib.Nat.{zero-add, add-zero}
+use native.Mathlib.Nat.{zero-add}
 use native.Mathlib.Omega.{arith}
 use mathlib.Core.Path.{_≡_, sym, ap, _∙_, subst}
 use mathlib.Core.Bool.{true, _&&_}
-use mathlib.Core.List.{List, [], _∷_, _++_}
-use lib.ListN.{length, getD, take, length-append}
+use mathlib.Core.List.{List, [], _∷_}
+use lib.ListN.{length, getD, take}
 use lib.Seq.{take-at}
 use lib.Dec.{T, leb, ltb, eqb, lt→ltb, le→leb, ltb→lt, eqb-refl}
 use lib.Ieee.{Float}
@@ -27,7 +27,7 @@ use Rattle.laws.specs.Root.{fit-reported}
 use Rattle.laws.specs.Passed.{Binary64}
 use Rattle.laws.specs.Tables.{length-entries, fit-good}
 use Rattle.laws.specs.Tables as Tables
-use Rattle.laws.specs.Written.{tree-written, tables, first-start, tableLeft, trees-written, starts-length, shortest-stays}
+use Rattle.laws.specs.Written.{tree-written, tables, first-start, last-start, tableLeft, trees-written, starts-length, shortest-stays}
 use Rattle.laws.specs.Answered.{TreeAnswered, tree-answered, tree-listed, ForestAnswered, forest-answered, trees-length, trees-each, forest-room}
 
 -- ---- the statements
@@ -96,16 +96,6 @@ starts-rise a (t ∷ ts) e = rises-on a (a + length (t .nodes)) ts (more a (leng
   where
     more : (b n : ℕ) → 0 < n → b < b + n
     more b n h = omega arith
-
-last-start : (a : ℕ) (ts : List Tree) (x : List ℕ) (d : ℕ) → getD (startsFrom a ts ++ x) (length ts) d ≡ a + length (forestEntries ts)
-unfolding startsFrom forestEntries
-last-start a [] x d = sym (add-zero a)
-last-start a (t ∷ ts) x d =
-    last-start (a + length (t .nodes)) ts x d
-    ∙ sum a (length (t .nodes)) (length (entries (t .nodes))) (length (forestEntries ts)) (length (entries (t .nodes) ++ forestEntries ts)) (length-entries (t .nodes)) (length-append (entries (t .nodes)) (forestEntries ts))
-  where
-    sum : (a n m k t : ℕ) → m ≡ n → t ≡ m + k → a + n + k ≡ a + t
-    sum a n m k t h₁ h₂ = omega arith
 
 -- a good tree has a node
 good-some : (features : ℕ) (t : Tree) → T (goodTree features (entries (t .nodes))) → 0 < length (t .nodes)
