@@ -2,14 +2,14 @@
 -- t's own parts of both tapes, in whatever rooms: its nodes entry by entry, and all six reports. No check but that of the room refuses that fit, and the forest's own
 -- rooms are enough for it. So trees can be grown some at a time: of two forests that have a tree with the same counts and draws, both have the same tree. It holds
 -- because nothing is handed on from one tree to the next. Assumes nothing.
-use Prim.Native.Nat.{ℕ, zero, suc, _+_, _-_, _*_, _<_, _≤_, min}
-use native.Mathlib.Nat.{zero-add, suc-mul, mul-le-mul-right, le-trans}
+use Prim.Native.Nat.{ℕ, zero, suc, _-_, _*_, _<_, _≤_}
+use native.Mathlib.Nat.{zero-add, one-mul, suc-mul, le-trans}
 use native.Mathlib.Omega.{arith}
 use mathlib.Core.Path.{_≡_, refl, sym, ap, _∙_, subst}
 use mathlib.Core.Logic.{_≢_}
 use mathlib.Core.Bool.{Bool, true, false, _&&_, _||_, cond}
 use mathlib.Core.List.{List, [], _∷_, _++_, map, map-map, append-nil}
-use lib.ListN.{length, getD, take, drop, length-take, length-drop}
+use lib.ListN.{length, getD, take, drop}
 use lib.Dec.{T, leb, eqb, eqb-refl, le→leb}
 use lib.Ieee.{nan}
 use lib.Ieee.Fits.{and-l, and-i}
@@ -17,7 +17,7 @@ use Rattle.rules.specs.declared.Report.{Report}
 use Rattle.rules.specs.declared.TreeAnswer.{TreeAnswer}
 use Rattle.rules.specs.declared.ForestAnswer.{ForestAnswer}
 use Rattle.rules.specs.Words.{front, total}
-use Rattle.rules.specs.Lent.{Reports, Waits, TreeRooms, ForestRooms, Outcome, unweighted, shortest, entriesAt}
+use Rattle.rules.specs.Lent.{Frame, Reports, Waits, TreeRooms, ForestRooms, Outcome, unweighted, shortest, entriesAt}
 use Rattle.rules.specs.Checks.{Test, test, firstFailed, shapeIn, treesIn, valuesLong, listingsLong, lengths, numbersGood, countsGood, countsOne, roomFor, workEnough}
 use Rattle.rules.specs.Draws.{Out, bad, ok}
 use Rattle.rules.specs.Fit.{Tree, fit, entries, paramsOf, TreeCall, frameOf, grownTree, treeTests, treeDone, treeEnds, fitTree}
@@ -28,8 +28,9 @@ use Rattle.laws.specs.Outs.{then-of}
 use Rattle.laws.specs.Root.{fit-reported}
 use Rattle.laws.specs.Passed.{past, ForestPassed, forest-passed}
 use Rattle.laws.specs.Written.{tree-written, tables, trees-written}
-use Rattle.laws.specs.Answered.{GrewAt, ForestAnswered, forest-answered, trees-length, tree-at}
+use Rattle.laws.specs.Answered.{reportOr, GrewAt, ForestAnswered, forest-answered, trees-length, tree-at}
 use Rattle.demands.specs.LeftOut.{Unrefused}
+use Rattle.demands.specs.Parts.{tree-parts}
 
 -- ---- the statements
 
@@ -113,7 +114,9 @@ frame-same C t =
       rows = C .shape .rows;
       params = paramsOf (C .settings) (triedOf (C .shape .features) (C .tried)) (C .shape .features);
       weights = C .given .weights;
-      counts = (drop-take (t * C .shape .rows) (suc t * C .shape .rows) (C .given .counts) ∙ ap (λ n. take n (drop (t * C .shape .rows) (C .given .counts))) (wide t (C .shape .rows))) i;
+      counts =
+          (drop-take (t * C .shape .rows) (suc t * C .shape .rows) (C .given .counts)
+          ∙ ap (λ n. take n (drop (t * C .shape .rows) (C .given .counts))) (wide t (C .shape .rows))) i;
       words = drop-take (getD (C .wordCuts) t 0) (getD (C .wordCuts) (suc t) 0) (C .words) i;
       thresholds = drop-take (getD (C .thresholdCuts) t 0) (getD (C .thresholdCuts) (suc t) 0) (C .thresholds) i;
     }
@@ -136,20 +139,15 @@ eq-test : (a b : ℕ) → a ≡ b → eqb a b ≡ true
 eq-test a b q = is-true (eqb a b) (subst (λ n. T (eqb a n)) q (eqb-refl a))
 
 lengths-own : (C : ForestCall) (t : ℕ) → t < C .trees → length (C .given .counts) ≡ C .trees * C .shape .rows
-    → T (lengths (C .shape) (C .trees) (C .given)) → T (lengths (C .shape) 1 (treeCallAt C t .given))
-unfolding lengths
+    → T (lengths (C .shape) (C .trees) (C .given) && cutsGood C) → T (lengths (C .shape) 1 (treeCallAt C t .given))
+unfolding lengths frameOf
 lengths-own C t h long g =
     subst (λ b. T (valuesLong (C .shape) (C .given .inputs .values) && (eqb (length (C .given .inputs .targets)) (C .shape .rows)
     && ((unweighted (C .given .weights) || eqb (length (C .given .weights)) (C .shape .rows)) && (b && listingsLong (C .shape) (C .given .inputs .listings))))))
-    (eq-test (length (C .given .counts)) (C .trees * C .shape .rows) long ∙ sym (eq-test (length (treeCallAt C t .given .counts)) (1 * C .shape .rows) own)) g
-  where
-    wide : (a b n l k : ℕ) → b ≡ a + n → l ≡ k → b ≤ k → min b l - a ≡ 1 * n
-    wide a b n l k e₁ e₂ e₃ = omega arith
-
-    own : length (treeCallAt C t .given .counts) ≡ 1 * C .shape .rows
-    own =
-        length-drop (t * C .shape .rows) (take (suc t * C .shape .rows) (C .given .counts)) ∙ ap (λ n. n - t * C .shape .rows) (length-take (suc t * C .shape .rows) (C .given .counts))
-        ∙ wide (t * C .shape .rows) (suc t * C .shape .rows) (C .shape .rows) (length (C .given .counts)) (C .trees * C .shape .rows) (suc-mul t (C .shape .rows)) long (mul-le-mul-right (C .shape .rows) h)
+    (eq-test (length (C .given .counts)) (C .trees * C .shape .rows) long
+    ∙ sym (eq-test (length (treeCallAt C t .given .counts)) (1 * C .shape .rows)
+    (ap (λ (F : Frame). length (F .counts)) (frame-same C t) ∙ tree-parts C g .counts .sizes t h ∙ sym (one-mul (C .shape .rows)))))
+    (and-l (lengths (C .shape) (C .trees) (C .given)) (cutsGood C) g)
 
 module _ {W X : Type 0} (K : Waits W) (L : Waits X) (C : ForestCall) (R : ForestRooms W) (q : firstFailed (forestTests K C R) ≡ 0) (t : ℕ) (h : t < C .trees) where
   abbrev enough : TreeRooms X → Bool
@@ -159,9 +157,10 @@ module _ {W X : Type 0} (K : Waits W) (L : Waits X) (C : ForestCall) (R : Forest
   checked : (Q : TreeRooms X) → firstFailed (treeTests L (treeCallAt C t) Q) ≡ cond (enough Q) 0 6
   unfolding forestTests treeTests numbersGood countsGood
   checked Q =
-      let (t₁, q₂) = past 0 _ _ q in let (t₂, q₃) = past 1 _ _ q₂ in let (t₃, q₄) = past 2 _ _ q₃ in let (t₄, q₅) = past 3 _ _ q₄ in let (t₅, q₆) = past 4 _ _ q₅ in
+      let (t₁, q₂) = past 0 _ _ q in let (t₂, q₃) = past 1 _ _ q₂ in let (t₃, q₄) = past 2 _ _ q₃ in
+      let (t₄, q₅) = past 3 _ _ q₄ in let (t₅, q₆) = past 4 _ _ q₅ in
       skips 1 _ _ (and-l (shapeIn (C .shape)) (treesIn (C .trees)) t₁)
-      ∙ skips 2 _ _ (lengths-own C t h (forest-passed K C R q .passed .countsLong) (and-l (lengths (C .shape) (C .trees) (C .given)) (cutsGood C) t₂))
+      ∙ skips 2 _ _ (lengths-own C t h (forest-passed K C R q .passed .countsLong) t₂)
       ∙ skips 3 _ _ t₃
       ∙ skips 4 _ _ (all-pass (λ c. leb c 65535) _ (every-drop _ (t * C .shape .rows) _ (every-take _ (suc t * C .shape .rows) (C .given .counts)
       (each (λ c. leb c 65535) (C .given .counts) (and-l (countsGood (C .given)) (countsOne (C .given)) t₄)))))
@@ -220,7 +219,8 @@ its-trees W X K L C R g t h Q n =
       answer = ap (λ (o : Outcome TreeAnswer (TreeRooms X)). o .answer) done ∙ ap TreeAnswer.Grown (sym (report-left K C R a t h));
       nodes =
           (λ i. entriesAt (done i .rooms .nodes) 0 (report-left K C R a t h i .nodes))
-          ∙ tree-written (u .tree) (Q .nodes) (then-of (λ (x : Tree). x .report .nodes ≡ length (x .nodes)) (fit (frameAt C t) (C .given .inputs)) (u .tree) (u .grew) (fit-reported (frameAt C t) (C .given .inputs)))
+          ∙ tree-written (u .tree) (Q .nodes)
+          (then-of (λ (x : Tree). x .report .nodes ≡ length (x .nodes)) (fit (frameAt C t) (C .given .inputs)) (u .tree) (u .grew) (fit-reported (frameAt C t) (C .given .inputs)))
           ∙ sym (nodes-left K C R a t h);
     }
   where
@@ -253,7 +253,7 @@ pub room-for-each : RoomForEach
 unfolding fitTree treeEnds frames
 room-for-each W K C R g t h =
     subst (λ n. Unrefused (treeEnds K n (grownTree (treeCallAt C t)) (ownRooms R) .answer))
-    (sym (checked K K C R q t h (ownRooms R) ∙ ap (λ b. cond b 0 6) (is-true (enough K K C R q t h (ownRooms R)) (and-i (leb (roomFor (frameOf (treeCallAt C t))) (shortest (R .nodes))) (workEnough K (C .shape) (R .work)) (le→leb _ _ room) (p .work)))))
+    (sym (checked K K C R q t h (ownRooms R) ∙ ap (λ b. cond b 0 6) (is-true (enough K K C R q t h (ownRooms R)) all)))
     (done-unrefused K (grownTree (treeCallAt C t)) (ownRooms R))
   where
     q : firstFailed (forestTests K C R) ≡ 0
@@ -264,7 +264,11 @@ room-for-each W K C R g t h =
 
     room : roomFor (frameOf (treeCallAt C t)) ≤ shortest (R .nodes)
     room =
-        le-trans (subst (λ F. roomFor F ≤ total roomFor (frames C)) (ap (frameAt C) (zero-add t) ∙ sym (frame-same C t)) (total-from roomFor (frameAt C) 0 (C .trees) t h)) (p .room)
+        le-trans (subst (λ F. roomFor F ≤ total roomFor (frames C)) (ap (frameAt C) (zero-add t) ∙ sym (frame-same C t)) (total-from roomFor (frameAt C) 0 (C .trees) t h))
+        (p .room)
+
+    all : T (enough K K C R q t h (ownRooms R))
+    all = and-i (leb (roomFor (frameOf (treeCallAt C t))) (shortest (R .nodes))) (workEnough K (C .shape) (R .work)) (le→leb _ _ room) (p .work)
 
 -- ---- so each tree of a forest that answers is had in the forest's own rooms
 
@@ -289,4 +293,4 @@ some-at-a-time W X K L C E R Q g k t u h l e =
         (its-trees X W L K E Q k u l (ownRooms R) (not-6 _ (subst (λ (c : TreeCall). Unrefused (fitTree K c (ownRooms R) .answer)) e (subst Unrefused (sym (one .answer)) tt))))
 
     report : reportAt (fitForest K C R .rooms .reports) t ≡ reportAt (fitForest L E Q .rooms .reports) u
-    report = let same : TreeAnswer.Grown (reportAt (fitForest K C R .rooms .reports) t) ≡ TreeAnswer.Grown (reportAt (fitForest L E Q .rooms .reports) u) = sym (one .answer) ∙ other .answer in cc
+    report = ap (reportOr (reportAt (fitForest K C R .rooms .reports) t)) (sym (one .answer) ∙ other .answer)

@@ -1,5 +1,7 @@
--- What the paper states of a fit's numbers. The root mass is the sum of all rows' masses by number, and the root's totals run likewise. The choice words used are features times searches, and searches never exceed nodes. The node room that is asked
--- is enough: a tree has at most max(1, 2 x kept rows - 1) nodes, and a forest's trees fit together. Assumes nothing.
+-- What the paper states of a fit's numbers. The root mass is the sum of all rows' masses by number, and the root's totals run likewise. The choice words used are
+-- features times searches, and searches never exceed nodes. The node room that is asked is enough: a tree has at most max(1, 2 x kept rows - 1) nodes.
+-- The same of a forest, by the columns that it leaves: at each tree's place its root mass, words and searches; and the starts tell trees that lie one behind another,
+-- the sum of whose nodes is within the room. It holds of a forest because each of its trees is what the fit of that tree alone gives. Assumes nothing.
 use Prim.Native.Nat.{ℕ, zero, suc, _+_, _-_, _*_, _<_, _≤_}
 use native.Mathlib.Nat.{add-zero, zero-add}
 use native.Mathlib.Omega.{arith}
@@ -40,8 +42,12 @@ pub totalsTo : Given → ℕ → Totals
 totalsTo G zero = empty
 totalsTo G (suc n) = takeIn (totalsTo G n) (getD (G .inputs .targets) n nan) (massIn (G .weights) (G .counts) n)
 
+-- what a tree of frame F over D is given
+abbrev pub givenBy : Frame → Data → Given
+givenBy F D = record { inputs = D; weights = F .weights; counts = F .counts }
+
 abbrev pub RootByNumber : Type 0
-RootByNumber = (F : Frame) (D : Data) → root F D .totals ≡ totalsTo (record { inputs = D; weights = F .weights; counts = F .counts }) (F .rows)
+RootByNumber = (F : Frame) (D : Data) → root F D .totals ≡ totalsTo (givenBy F D) (F .rows)
 
 abbrev pub RootMass : Type 1
 RootMass =
@@ -87,18 +93,17 @@ ForestRoom =
 -- ---- the root
 
 -- the rows after the first n, taken in one by one
-totals-from : (F : Frame) (D : Data) (n k : ℕ)
-    → totals (totalsTo (record { inputs = D; weights = F .weights; counts = F .counts }) n) (map (element F D) (from n k)) ≡ totalsTo (record { inputs = D; weights = F .weights; counts = F .counts }) (n + k)
+totals-from : (F : Frame) (D : Data) (n k : ℕ) → totals (totalsTo (givenBy F D) n) (map (element F D) (from n k)) ≡ totalsTo (givenBy F D) (n + k)
 unfolding totals from element elementIn totalsTo
-totals-from F D n zero = ap (totalsTo _) (sym (add-zero n))
-totals-from F D n (suc k) = totals-from F D (suc n) k ∙ ap (totalsTo _) (shift n k)
+totals-from F D n zero = ap (totalsTo (givenBy F D)) (sym (add-zero n))
+totals-from F D n (suc k) = totals-from F D (suc n) k ∙ ap (totalsTo (givenBy F D)) (shift n k)
   where
     shift : (n k : ℕ) → suc n + k ≡ n + suc k
     shift n k = omega arith
 
 pub root-by-number : RootByNumber
 unfolding root totalsTo
-root-by-number F D = totals-from F D 0 (F .rows) ∙ ap (totalsTo _) (zero-add (F .rows))
+root-by-number F D = totals-from F D 0 (F .rows) ∙ ap (totalsTo (givenBy F D)) (zero-add (F .rows))
 
 pub root-mass : RootMass
 unfolding fit rooted treeOf frameOf

@@ -90,11 +90,11 @@ tape-parts trees cuts tape g =
     plus-one : (t : ℕ) → t + 1 ≡ suc t
     plus-one t = omega arith
 
--- what check 2 says of three lengths
-long : (S : Shape) (trees : ℕ) (G : Given) → T (lengths S trees G)
+-- what check 2 says of three of them
+as-asked : (S : Shape) (trees : ℕ) (G : Given) → T (lengths S trees G)
     → (length (G .inputs .values) ≡ S .rows * S .features) × (length (G .counts) ≡ trees * S .rows) × (length (G .inputs .listings) ≡ S .features * S .rows)
 unfolding lengths
-long S trees G g =
+as-asked S trees G g =
     let (v, t, w, c, l) = and5 (eqb (length (G .inputs .values)) (S .rows * S .features)) (eqb (length (G .inputs .targets)) (S .rows))
     (unweighted (G .weights) || eqb (length (G .weights)) (S .rows)) (eqb (length (G .counts)) (trees * S .rows)) (eqb (length (G .inputs .listings)) (S .features * S .rows)) g in
     (eqb→eq _ _ v, eqb→eq _ _ c, eqb→eq _ _ l)
@@ -103,16 +103,16 @@ pub data-parts : DataParts
 unfolding valuesAt listingAt
 data-parts S trees G g =
     record {
-      values = even (G .inputs .values) (S .rows) (S .features) (long S trees G g .0);
-      listings = even (G .inputs .listings) (S .features) (S .rows) (long S trees G g .2);
+      values = even (G .inputs .values) (S .rows) (S .features) (as-asked S trees G g .0);
+      listings = even (G .inputs .listings) (S .features) (S .rows) (as-asked S trees G g .2);
     }
 
 pub tree-parts : TreeParts
-unfolding lengths frameAt cutsGood
+unfolding frameAt cutsGood
 tree-parts C g =
     let (n, w, t) = and3 (lengths (C .shape) (C .trees) (C .given)) (goodCuts (C .trees) (length (C .words)) (C .wordCuts)) (goodCuts (C .trees) (length (C .thresholds)) (C .thresholdCuts)) g in
     record {
-      counts = even (C .given .counts) (C .trees) (C .shape .rows) (long (C .shape) (C .trees) (C .given) n .1);
+      counts = even (C .given .counts) (C .trees) (C .shape .rows) (as-asked (C .shape) (C .trees) (C .given) n .1);
       words = tape-parts (C .trees) (C .wordCuts) (C .words) w;
       thresholds = tape-parts (C .trees) (C .thresholdCuts) (C .thresholds) t;
     }

@@ -27,7 +27,7 @@ IsGrown (TreeAnswer.Refused n) = ⊥
 IsGrown (TreeAnswer.BadDraw d) = ⊥
 IsGrown (TreeAnswer.Grown r) = Unit {0}
 
-abbrev reportOr : Report → TreeAnswer → Report
+abbrev pub reportOr : Report → TreeAnswer → Report
 reportOr d (TreeAnswer.Refused n) = d
 reportOr d (TreeAnswer.BadDraw x) = d
 reportOr d (TreeAnswer.Grown r) = r

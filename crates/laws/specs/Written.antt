@@ -77,7 +77,8 @@ unfolding startsFrom forestEntries
 last-start a [] x d = sym (add-zero a)
 last-start a (t ∷ ts) x d =
     last-start (a + length (t .nodes)) ts x d
-    ∙ sum a (length (t .nodes)) (length (entries (t .nodes))) (length (forestEntries ts)) (length (entries (t .nodes) ++ forestEntries ts)) (length-entries (t .nodes)) (length-append (entries (t .nodes)) (forestEntries ts))
+    ∙ sum a (length (t .nodes)) (length (entries (t .nodes))) (length (forestEntries ts)) (length (entries (t .nodes) ++ forestEntries ts))
+    (length-entries (t .nodes)) (length-append (entries (t .nodes)) (forestEntries ts))
   where
     sum : (a n m k t : ℕ) → m ≡ n → t ≡ m + k → a + n + k ≡ a + t
     sum a n m k t h₁ h₂ = omega arith
