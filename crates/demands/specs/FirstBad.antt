@@ -1,6 +1,6 @@
 -- A forest's first bad draw. A forest that is not refused by 1 to 6 meets a bad draw exactly where the first of its trees that meets one does, and at the search at
--- which that tree's own fit meets it; each tree's own fit in rooms of its own that are not too small. It holds because trees are grown in their order, each as
--- it would be alone, and the first bad draw ends all. Assumes nothing.
+-- which that tree's own fit meets it; each tree's own fit in rooms of its own that are not too small, or in those lent to the forest. It holds because trees are grown
+-- in their order, each as it would be alone, and the first bad draw ends all. Assumes nothing.
 use Prim.Native.Nat.{ℕ, zero, suc, _+_, _<_, _≤_}
 use native.Mathlib.Decide.{ℕ-discrete}
 use native.Mathlib.Omega.{arith}
@@ -17,7 +17,7 @@ use Rattle.rules.specs.Checks.{firstFailed}
 use Rattle.rules.specs.Draws.{Out, bad, ok}
 use Rattle.rules.specs.Fit.{Tree, fit, treeDone, fitTree}
 use Rattle.rules.specs.Forest.{ForestCall, frameAt, frames, Forest, stopped, grownAll, withTree, nextTree, growTrees, grownForest, forestTests, forestDone, forestEnds, fitForest}
-use Rattle.demands.specs.ItsTrees.{treeCallAt, ForestUnrefused, own-fit, passes}
+use Rattle.demands.specs.ItsTrees.{treeCallAt, ForestUnrefused, ownRooms, own-fit, passes, room-for-each, not-6}
 
 -- ---- the statement
 
@@ -33,6 +33,12 @@ FirstBad =
     (W X : Type 0) (K : Waits W) (L : Waits X) (C : ForestCall) (R : ForestRooms W) → ForestUnrefused (fitForest K C R .answer)
     → (Q : ℕ → TreeRooms X) → ((t : ℕ) → t < C .trees → fitTree L (treeCallAt C t) (Q t) .answer ≢ TreeAnswer.Refused 6)
     → (t s : ℕ) → (fitForest K C R .answer ≡ ForestAnswer.BadDraw (record { tree = t; search = s })) ↔ MeetsFirst L C Q t s
+
+-- as the forest's own are
+abbrev pub FirstBadAlone : Type 1
+FirstBadAlone =
+    (W : Type 0) (K : Waits W) (C : ForestCall) (R : ForestRooms W) → ForestUnrefused (fitForest K C R .answer)
+    → (t s : ℕ) → (fitForest K C R .answer ≡ ForestAnswer.BadDraw (record { tree = t; search = s })) ↔ MeetsFirst K C (λ u. ownRooms R) t s
 
 -- ---- n trees, grown one after another
 
@@ -133,3 +139,6 @@ first-bad W X K L C R g Q n t s = (there, back)
           met = bad-tree L (Q t) s _ (sym (own t (m .inside)) ∙ m .met);
           before = λ u y l. let (r, f) = m .before u l in grown-tree L (Q u) r _ (sym (own u (omega (arith, l, m .inside))) ∙ f);
         }) i) R .answer
+
+pub first-bad-alone : FirstBadAlone
+first-bad-alone W K C R g = first-bad W W K K C R g (λ u. ownRooms R) (λ t h. not-6 _ (room-for-each W K C R g t h))

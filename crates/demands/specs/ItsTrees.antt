@@ -272,7 +272,7 @@ room-for-each W K C R g t h =
 
 -- ---- so each tree of a forest that answers is had in the forest's own rooms
 
-not-6 : (a : TreeAnswer) → Unrefused a → a ≢ TreeAnswer.Refused 6
+pub not-6 : (a : TreeAnswer) → Unrefused a → a ≢ TreeAnswer.Refused 6
 not-6 a h e = subst Unrefused e h
 
 pub tree-alone : {W : Type 0} (K : Waits W) (C : ForestCall) (R : ForestRooms W) → fitForest K C R .answer ≡ ForestAnswer.Grown → (t : ℕ) → t < C .trees
