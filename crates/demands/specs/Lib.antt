@@ -1,6 +1,9 @@
 pub mod LeftOut
 pub mod Walks
 pub mod OutOfBag
+pub mod Parts
+pub mod ItsTrees
+pub mod FirstBad
 pub mod Numbers
 pub mod OneOutcome
 pub mod Filled
