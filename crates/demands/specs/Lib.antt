@@ -7,3 +7,4 @@ pub mod Filled
 pub mod Refusals
 pub mod Tried
 pub mod Calls
+pub mod DrawsUsed

@@ -14,3 +14,5 @@ pub mod Written
 pub mod Answered
 pub mod Tried
 pub mod Work
+pub mod Follows
+pub mod Tapes
