@@ -2,9 +2,9 @@ pub mod LeftOut
 pub mod Walks
 pub mod OutOfBag
 pub mod Numbers
+pub mod DrawsUsed
 pub mod OneOutcome
 pub mod Filled
 pub mod Refusals
 pub mod Tried
 pub mod Calls
-pub mod DrawsUsed

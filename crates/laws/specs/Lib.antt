@@ -6,6 +6,8 @@ pub mod Values
 pub mod Cuts
 pub mod Room
 pub mod Spent
+pub mod Follows
+pub mod Tapes
 pub mod Splits
 pub mod Root
 pub mod Passed
@@ -14,5 +16,3 @@ pub mod Written
 pub mod Answered
 pub mod Tried
 pub mod Work
-pub mod Follows
-pub mod Tapes

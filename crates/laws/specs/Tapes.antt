@@ -1,10 +1,11 @@
--- A growth reads no more of its tapes than it uses: from the words and thresholds that it has taken, whatever lies behind them, it grows the same and leaves what lies behind.
--- It holds because a search's words are a permutation of the features, so that it takes all of them or none. Assumes nothing.
-use Prim.Native.Nat.{ℕ, suc}
+-- A growth looks at no more of its tapes than it uses: over any tapes that begin with the words and thresholds that it used, it grows the same and leaves what lies beyond.
+-- It holds because a search takes the words of one permutation of the features or none, and a threshold is judged by itself. Assumes nothing.
+use Prim.Native.Nat.{ℕ, _+_, _-_}
+use native.Mathlib.Omega.{arith}
 use mathlib.Core.Path.{_≡_, refl, sym, ap, _∙_, subst}
 use mathlib.Core.Bool.{Bool, true, false, _&&_}
 use mathlib.Core.List.{List, [], _∷_, _++_, append-assoc}
-use lib.ListN.{length, take, drop, take-append-drop}
+use lib.ListN.{length, take, drop, length-append, take-append-drop}
 use lib.Seq.{take-at, drop-at}
 use lib.Dec.{T}
 use lib.Ieee.{Float, le, lt}
@@ -15,104 +16,122 @@ use Rattle.rules.specs.Search.{Task, search}
 use Rattle.rules.specs.Growth.{State, fromRoot}
 use Rattle.laws.specs.Once.{once-length}
 use Rattle.laws.specs.Outs.{Then}
-use Rattle.laws.specs.Follows.{Follows, search-follows, withLeft, growth-follows}
+use Rattle.laws.specs.Follows.{Follows, Gives, search-follows, stateWith, growth-follows}
 
--- what was taken, and what lies behind
-abbrev pub before : Tapes → List ℕ → List Float → Tapes
-before c ws ts = record { words = c .words ++ ws; thresholds = c .thresholds ++ ts; searches = c .searches }
+-- l begins with the first n entries of k
+abbrev pub Begins : {A : Type 0} → ℕ → List A → List A → Type 0
+Begins n k l = take n l ≡ take n k
 
--- two pairs of tapes that begin alike and end in these
-abbrev Alike : List ℕ → List Float → List ℕ → List Float → Tapes → Tapes → Type 0
-Alike ws ts ws′ ts′ d d′ = (c : Tapes) × (d ≡ before c ws ts) × (d′ ≡ before c ws′ ts′)
+-- how much was used of l where b is left
+abbrev pub used : {A : Type 0} → List A → List A → ℕ
+used l b = length l - length b
 
-module _ (n : ℕ) (ws : List ℕ) (ts : List Float) (ws′ : List ℕ) (ts′ : List Float) where
-  abbrev R : Tapes → Tapes → Type 0
-  R = Alike ws ts ws′ ts′
+-- ---- two lists that begin alike
 
-  shuffles : (d : Tapes) → Follows R d (tape n .shuffle d) (λ o. o .1) (λ u. tape n .shuffle u) (λ o u. (o .0, u))
-  unfolding tape takeWords
-  shuffles d = go (eachOnce n first) refl
+module _ {A : Type 0} where
+  -- l and l′ begin alike; beyond that they are b and b′
+  abbrev Shares : List A → List A → List A → List A → Type 0
+  Shares b b′ l l′ = (a : List A) × (l ≡ a ++ b) × (l′ ≡ a ++ b′)
+
+  shares-more : {b b′ l l′ : List A} (a : List A) → Shares b b′ l l′ → Shares b b′ (a ++ l) (a ++ l′)
+  shares-more {b} {b′} a (c, p, q) = (a ++ c, ap (λ x. a ++ x) p ∙ sym (append-assoc a c b), ap (λ x. a ++ x) q ∙ sym (append-assoc a c b′))
+
+  -- so where b is left of l, and k begins with what was used of it
+  shares-used : (b k l l′ : List A) → Shares b (drop (used l b) k) l l′ → Begins (used l b) l k → l′ ≡ k
+  shares-used b k l l′ (a, p, q) begins =
+      q
+      ∙ ap (λ x. x ++ drop (used l b) k) (sym (begins ∙ (λ i. take (used l b) (p i)) ∙ take-at a b _ (less (length a) (length b) (length l) (ap length p ∙ length-append a b))))
+      ∙ take-append-drop (used l b) k
     where
-      first : List ℕ
-      first = take n (d .words)
+      less : (x y z : ℕ) → z ≡ x + y → x ≡ z - y
+      less x y z h = omega arith
 
-      go : (b : Bool) → eachOnce n first ≡ b → Follows R d (takeWords b n d) (λ o. o .1) (λ u. tape n .shuffle u) (λ o u. (o .0, u))
+-- ---- each draw is given again, whatever lies beyond
+
+words-again : (n : ℕ) (ws : List ℕ) → eachOnce n ws ≡ true → (u : Tapes) → tape n .shuffle (record { words = ws ++ u .words; thresholds = u .thresholds; searches = u .searches }) ≡ ok (ws, u)
+unfolding tape takeWords
+words-again n ws once u =
+    let all : length ws ≡ n = once-length n ws (subst T (sym once) tt) in
+    rw (take-at ws (u .words) n all, once, take-at ws (u .words) n all, drop-at ws (u .words) n all)
+
+-- so of both tapes
+record Alike (rest rest′ d d′ : Tapes) : Type 0 where
+  words : Shares (rest .words) (rest′ .words) (d .words) (d′ .words)
+  thresholds : Shares (rest .thresholds) (rest′ .thresholds) (d .thresholds) (d′ .thresholds)
+  searches : d .searches ≡ d′ .searches
+
+module _ (n : ℕ) (rest rest′ : Tapes) where
+  shuffles : (d : Tapes) → Gives (Alike rest rest′) d (tape n .shuffle d) (λ u. tape n .shuffle u)
+  unfolding tape takeWords
+  shuffles d = go (eachOnce n (take n (d .words))) refl
+    where
+      go : (b : Bool) → eachOnce n (take n (d .words)) ≡ b → Gives (Alike rest rest′) d (takeWords b n d) (λ u. tape n .shuffle u)
       go false once = tt
       go true once =
-          λ u (c, q, q′). (
-            record { words = first ++ u .words; thresholds = u .thresholds; searches = u .searches },
-            (
-              record { words = first ++ c .words; thresholds = c .thresholds; searches = c .searches },
-              λ i. record { words = (sym (take-append-drop n (d .words)) ∙ ap (λ (x : Tapes). first ++ x .words) q ∙ sym (append-assoc first (c .words) ws)) i; thresholds = q i .thresholds; searches = q i .searches },
-              λ i. record { words = (ap (λ (x : Tapes). first ++ x .words) q′ ∙ sym (append-assoc first (c .words) ws′)) i; thresholds = q′ i .thresholds; searches = q′ i .searches },
-            ),
-            again u,
+          λ u q. (
+            record { words = take n (d .words) ++ u .words; thresholds = u .thresholds; searches = u .searches },
+            record {
+              words = subst (λ l. Shares (rest .words) (rest′ .words) l (take n (d .words) ++ u .words)) (take-append-drop n (d .words)) (shares-more (take n (d .words)) (q .words));
+              thresholds = q .thresholds;
+              searches = q .searches;
+            },
+            words-again n (take n (d .words)) once u,
           )
-        where
-          all : length first ≡ n
-          all = once-length n first (subst T (sym once) tt)
 
-          again : (u : Tapes) → tape n .shuffle (record { words = first ++ u .words; thresholds = u .thresholds; searches = u .searches }) ≡ ok (first, u)
-          again u = (λ i. takeWords (eachOnce n (take-at first (u .words) n all i)) n (record { words = first ++ u .words; thresholds = u .thresholds; searches = u .searches }))
-              ∙ ap (λ b. takeWords b n (record { words = first ++ u .words; thresholds = u .thresholds; searches = u .searches })) once
-              ∙ (λ i. ok (take-at first (u .words) n all i, record { words = drop-at first (u .words) n all i; thresholds = u .thresholds; searches = u .searches }))
-
-  threshold : (d : Tapes) (lowest highest : Float) → Follows R d (tape n .threshold d lowest highest) (λ t. t .1) (λ u. tape n .threshold u lowest highest) (λ t u. (t .0, u))
+  thresholds : (d : Tapes) (lowest highest : Float) → Gives (Alike rest rest′) d (tape n .threshold d lowest highest) (λ u. tape n .threshold u lowest highest)
   unfolding tape nextThreshold takeThreshold
-  threshold d lowest highest = next (d .thresholds) refl
+  thresholds d lowest highest = next (d .thresholds) refl
     where
       taken : (b : Bool) (t : Float) (l : List Float) → (le lowest t && lt t highest) ≡ b → d .thresholds ≡ t ∷ l
-          → Follows R d (takeThreshold b t l d) (λ t. t .1) (λ u. tape n .threshold u lowest highest) (λ t u. (t .0, u))
+          → Gives (Alike rest rest′) d (takeThreshold b t l d) (λ u. tape n .threshold u lowest highest)
       taken false t l fair e = tt
-      taken true t l fair e = λ u (c, q, q′). (
-        record { words = u .words; thresholds = t ∷ u .thresholds; searches = u .searches },
-        (
-          record { words = c .words; thresholds = t ∷ c .thresholds; searches = c .searches },
-          (λ i. record { words = q i .words; thresholds = (e ∙ ap (λ (x : Tapes). t ∷ x .thresholds) q) i; searches = q i .searches }),
-          (λ i. record { words = q′ i .words; thresholds = t ∷ q′ i .thresholds; searches = q′ i .searches }),
-        ),
-        ap (λ b. takeThreshold b t (u .thresholds) (record { words = u .words; thresholds = t ∷ u .thresholds; searches = u .searches })) fair,
-      )
+      taken true t l fair e =
+          λ u q. (
+            record { words = u .words; thresholds = t ∷ u .thresholds; searches = u .searches },
+            record {
+              words = q .words;
+              thresholds = subst (λ k. Shares (rest .thresholds) (rest′ .thresholds) k (t ∷ u .thresholds)) (sym e) (shares-more (t ∷ []) (q .thresholds));
+              searches = q .searches;
+            },
+            rw fair,
+          )
 
-      next : (l : List Float) → d .thresholds ≡ l → Follows R d (nextThreshold l lowest highest d) (λ t. t .1) (λ u. tape n .threshold u lowest highest) (λ t u. (t .0, u))
+      next : (l : List Float) → d .thresholds ≡ l → Gives (Alike rest rest′) d (nextThreshold l lowest highest d) (λ u. tape n .threshold u lowest highest)
       next [] e = tt
       next (t ∷ l) e = taken (le lowest t && lt t highest) t l refl e
 
-  counts : (d u′ : Tapes) → R (tape n .done d) u′ → (u : Tapes) × R d u × (tape n .done u ≡ u′)
+  counts : (d u : Tapes) → Alike rest rest′ (tape n .done d) u → (u′ : Tapes) × Alike rest rest′ d u′ × (tape n .done u′ ≡ u)
   unfolding tape
-  counts d u′ (c, q, q′) = (
-    record { words = u′ .words; thresholds = u′ .thresholds; searches = d .searches },
-    (
-      record { words = c .words; thresholds = c .thresholds; searches = d .searches },
-      (λ i. record { words = q i .words; thresholds = q i .thresholds; searches = d .searches }),
-      (λ i. record { words = q′ i .words; thresholds = q′ i .thresholds; searches = d .searches }),
-    ),
-    (λ i. record { words = u′ .words; thresholds = u′ .thresholds; searches = (ap (λ (x : Tapes). x .searches) q ∙ ap (λ (x : Tapes). x .searches) (sym q′)) i }),
+  counts d u q = (
+    record { words = u .words; thresholds = u .thresholds; searches = d .searches },
+    record { words = q .words; thresholds = q .thresholds; searches = refl },
+    λ i. record { words = u .words; thresholds = u .thresholds; searches = q .searches i },
   )
 
 -- ---- of a whole growth
 
-module _ (P : Params) (root : Task) where
-  abbrev pub growth : Tapes → Out (State Tapes)
-  growth d = fromRoot P (search (tape (P .features)) P) root d
+abbrev pub growth : Params → Task → Tapes → Out (State Tapes)
+growth P root d = fromRoot P (search (tape (P .features)) P) root d
 
-  -- d is what was taken to come to s, and what s has left; over what was taken, with anything behind it, growth comes to s with that left
+module _ (P : Params) (root : Task) where
+  -- over all tapes that begin with what d has no more when it comes to s, growth comes to s, with the rest left
   abbrev pub Again : Tapes → State Tapes → Type 0
   Again d s =
-      (ws : List ℕ) (ts : List Float) → (c : Tapes) × (d ≡ before c (s .left .words) (s .left .thresholds))
-      × (growth (before c ws ts) ≡ ok (withLeft s (record { words = ws; thresholds = ts; searches = s .left .searches })))
+      (ws : List ℕ) (ts : List Float) → Begins (used (d .words) (s .left .words)) (d .words) ws → Begins (used (d .thresholds) (s .left .thresholds)) (d .thresholds) ts
+      → growth P root (record { words = ws; thresholds = ts; searches = d .searches })
+      ≡ ok (stateWith s (record { words = drop (used (d .words) (s .left .words)) ws; thresholds = drop (used (d .thresholds) (s .left .thresholds)) ts; searches = s .left .searches }))
 
-  pub growth-again : (d : Tapes) → Then (growth d) (Again d)
-  growth-again d = go (growth d) (λ ws ts ws′ ts′.
-      growth-follows P _ _ (Alike ws ts ws′ ts′)
-      (search-follows P _ _ _ (shuffles (P .features) ws ts ws′ ts′) (threshold (P .features) ws ts ws′ ts′) (counts (P .features) ws ts ws′ ts′)) root d)
+  pub growth-again : (d : Tapes) → Then (growth P root d) (Again d)
+  growth-again d =
+      go (growth P root d)
+      (λ rest rest′. let n = P .features in growth-follows P _ _ _ (search-follows P _ _ _ (shuffles n rest rest′) (thresholds n rest rest′) (counts n rest rest′)) root d)
     where
-      go : (m : Out (State Tapes)) → ((ws : List ℕ) (ts : List Float) (ws′ : List ℕ) (ts′ : List Float) → Follows (Alike ws ts ws′ ts′) d m (λ s. s .left) growth withLeft)
-          → Then m (Again d)
+      go : (m : Out (State Tapes)) → ((rest rest′ : Tapes) → Follows (Alike rest rest′) d m (λ s. s .left) (growth P root) stateWith) → Then m (Again d)
       go (bad n) h = tt
       go (ok s) h =
-          λ ws ts.
-          let (u, (c, q, q′), e) =
-          h (s .left .words) (s .left .thresholds) ws ts (record { words = ws; thresholds = ts; searches = s .left .searches })
-          (record { words = []; thresholds = []; searches = s .left .searches }, refl, refl) in
-          (c, q, ap growth (sym q′) ∙ e)
+          λ ws ts b b′.
+          let rest : Tapes = record { words = drop (used (d .words) (s .left .words)) ws; thresholds = drop (used (d .thresholds) (s .left .thresholds)) ts; searches = s .left .searches } in
+          let (u, q, e) = h (s .left) rest rest (record { words = ([], refl, refl); thresholds = ([], refl, refl); searches = refl }) in
+          let same : u ≡ record { words = ws; thresholds = ts; searches = d .searches } =
+          λ i. record { words = shares-used _ ws _ _ (q .words) b i; thresholds = shares-used _ ts _ _ (q .thresholds) b′ i; searches = sym (q .searches) i } in
+          ap (growth P root) (sym same) ∙ e
