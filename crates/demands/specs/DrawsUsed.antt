@@ -47,18 +47,20 @@ pub record Exact {W : Type 0} (K : Waits W) (C : TreeCall) (R : TreeRooms W) (r 
 abbrev pub DrawsUsed : Type 1
 DrawsUsed = (W : Type 0) (K : Waits W) (C : TreeCall) (R : TreeRooms W) (r : Report) → fitTree K C R .answer ≡ TreeAnswer.Grown r → Exact K C R r
 
--- of the calls as they tell it: x is what a call left that tells no refusal, y what the call left with its tapes cut to what x reports used, or with either one shorter
-abbrev pub told : {R : Type 0} → Outcome TreeAnswer R → Outcome Told R
-told o = record { answer = treeTold (o .answer); rooms = o .rooms }
+-- a call's answer as it is told, and the rooms
+abbrev told : {A B R : Type 0} → (A → B) → Outcome A R → Outcome B R
+told f o = record { answer = f (o .answer); rooms = o .rooms }
 
+-- x is what a call left that told the report r, y what the call left with its tapes cut to what r says was used, or with either one shorter
 pub record CutExact {W : Type 0} (K : Waits W) (C : TreeCall) (R : TreeRooms W) (x : Outcome Told (TreeRooms W)) (r : Report) : Type 0 where
-  pub same : (y : Outcome Told (TreeRooms W)) → y ≡ told (fitTree K (cutTo (r .words) (r .thresholds) C) R) → y ≡ x
-  pub wordLess : 0 < r .words → (y : Outcome Told (TreeRooms W)) → y ≡ told (fitTree K (cutTo (r .words - 1) (r .thresholds) C) R) → y .answer .number ≡ 7
-  pub thresholdLess : 0 < r .thresholds → (y : Outcome Told (TreeRooms W)) → y ≡ told (fitTree K (cutTo (r .words) (r .thresholds - 1) C) R) → y .answer .number ≡ 7
+  pub same : (y : Outcome Told (TreeRooms W)) → y ≡ told treeTold (fitTree K (cutTo (r .words) (r .thresholds) C) R) → y ≡ x
+  pub wordLess : 0 < r .words → (y : Outcome Told (TreeRooms W)) → y ≡ told treeTold (fitTree K (cutTo (r .words - 1) (r .thresholds) C) R) → y .answer .number ≡ 7
+  pub thresholdLess : 0 < r .thresholds → (y : Outcome Told (TreeRooms W)) → y ≡ told treeTold (fitTree K (cutTo (r .words) (r .thresholds - 1) C) R) → y .answer .number ≡ 7
 
+-- of a call that told no refusal
 abbrev pub CallsExact : Type 1
 CallsExact =
-    (W : Type 0) (K : Waits W) (C : TreeCall) (R : TreeRooms W) (x : Outcome Told (TreeRooms W)) → x ≡ told (fitTree K C R) → x .answer .number ≡ 0
+    (W : Type 0) (K : Waits W) (C : TreeCall) (R : TreeRooms W) (x : Outcome Told (TreeRooms W)) → x ≡ told treeTold (fitTree K C R) → x .answer .number ≡ 0
     → CutExact K C R x (x .answer .report)
 
 -- ---- of a fit
@@ -67,10 +69,11 @@ CallsExact =
 abbrev over : Frame → List ℕ → List Float → Frame
 over F ws ts = record { rows = F .rows; params = F .params; weights = F .weights; counts = F .counts; words = ws; thresholds = ts }
 
--- the root is made of no tape
-root-over : (F : Frame) (D : Data) (ws : List ℕ) (ts : List Float) → root (over F ws ts) D ≡ root F D
-unfolding root column element listing keptRows kept
-root-over F D ws ts = refl
+-- it grows from the same root, and from the whole of the tapes
+fit-over : (F : Frame) (D : Data) (ws : List ℕ) (ts : List Float)
+    → fit (over F ws ts) D ≡ bind (growth (F .params) (root F D) (record { words = ws; thresholds = ts; searches = 0 })) (λ s. ok (treeOf (over F ws ts) (root F D) s))
+unfolding fit rooted root column element listing keptRows kept
+fit-over F D ws ts = refl
 
 -- as much is used of a tape that begins so
 as-many : {A : Type 0} (l b k : List A) → Begins (used l b) l k → used k (drop (used l b) k) ≡ used l b
@@ -88,7 +91,7 @@ fit-again F D = then-then (growth (F .params) (root F D) start) _ _ _ (growth-ag
 
     again : (s : State Tapes) → Again (F .params) (root F D) start s → SameOver F D (treeOf F (root F D) s)
     again s a ws ts h k =
-        ap (rooted (over F ws ts)) (root-over F D ws ts)
+        fit-over F D ws ts
         ∙ ap (λ m. bind m (λ s′. ok (treeOf (over F ws ts) (root F D) s′))) (a ws ts h k)
         ∙ (λ i. ok (record {
           nodes = s .nodes;
@@ -171,13 +174,16 @@ unfolding fitTree
 calls-exact W K C R x met none =
     subst (λ (z : Outcome Told (TreeRooms W)). CutExact K C R z (z .answer .report)) (sym met)
     (record {
-      same = λ y m. m ∙ ap told (d .cut _ _ (le-refl _) (le-refl _));
-      wordLess = λ l y m. ap (λ (o : Outcome Told (TreeRooms W)). o .answer .number) (m ∙ ap told (d .fewerWords (r .words - 1) (r .thresholds) (omega arith) .1));
-      thresholdLess = λ l y m. ap (λ (o : Outcome Told (TreeRooms W)). o .answer .number) (m ∙ ap told (d .fewerThresholds (r .words) (r .thresholds - 1) (omega arith) .1));
+      same = λ y m. m ∙ ap (told treeTold) (d .cut _ _ (le-refl _) (le-refl _));
+      wordLess = λ l y m. number (m ∙ ap (told treeTold) (d .fewerWords (r .words - 1) (r .thresholds) (omega arith) .1));
+      thresholdLess = λ l y m. number (m ∙ ap (told treeTold) (d .fewerThresholds (r .words) (r .thresholds - 1) (omega arith) .1));
     })
   where
+    number : {y z : Outcome Told (TreeRooms W)} → y ≡ z → y .answer .number ≡ z .answer .number
+    number e = ap (λ (o : Outcome Told (TreeRooms W)). o .answer .number) e
+
     r : Report
     r = treeTold (fitTree K C R .answer) .report
 
     d : Exact K C R r
-    d = draws-used W K C R r (told-grown K R (firstFailed (treeTests K C R)) (grownTree C) (ap (λ (o : Outcome Told (TreeRooms W)). o .answer .number) (sym met) ∙ none))
+    d = draws-used W K C R r (told-grown K R (firstFailed (treeTests K C R)) (grownTree C) (number (sym met) ∙ none))

@@ -1,6 +1,6 @@
 -- A growth looks at no more of its tapes than it uses: over any tapes that begin with the words and thresholds that it used, it grows the same and leaves what lies beyond.
 -- It holds because a search takes the words of one permutation of the features or none, and a threshold is judged by itself. Assumes nothing.
-use Prim.Native.Nat.{ℕ, _+_, _-_}
+use Prim.Native.Nat.{ℕ, _-_}
 use native.Mathlib.Omega.{arith}
 use mathlib.Core.Path.{_≡_, refl, sym, ap, _∙_, subst}
 use mathlib.Core.Bool.{Bool, true, false, _&&_}
@@ -26,6 +26,16 @@ Begins n k l = take n l ≡ take n k
 abbrev pub used : {A : Type 0} → List A → List A → ℕ
 used l b = length l - length b
 
+abbrev pub growth : Params → Task → Tapes → Out (State Tapes)
+growth P root d = fromRoot P (search (tape (P .features)) P) root d
+
+-- growth came from d to s: over all tapes that begin with what it used of d it comes to s too, and leaves what lies beyond
+abbrev pub Again : Params → Task → Tapes → State Tapes → Type 0
+Again P root d s =
+    (ws : List ℕ) (ts : List Float) → Begins (used (d .words) (s .left .words)) (d .words) ws → Begins (used (d .thresholds) (s .left .thresholds)) (d .thresholds) ts
+    → growth P root (record { words = ws; thresholds = ts; searches = d .searches })
+    ≡ ok (stateWith s (record { words = drop (used (d .words) (s .left .words)) ws; thresholds = drop (used (d .thresholds) (s .left .thresholds)) ts; searches = s .left .searches }))
+
 -- ---- two lists that begin alike
 
 module _ {A : Type 0} where
@@ -39,14 +49,16 @@ module _ {A : Type 0} where
   -- so where b is left of l, and k begins with what was used of it
   shares-used : (b k l l′ : List A) → Shares b (drop (used l b) k) l l′ → Begins (used l b) l k → l′ ≡ k
   shares-used b k l l′ (a, p, q) begins =
-      q
-      ∙ ap (λ x. x ++ drop (used l b) k) (sym (begins ∙ (λ i. take (used l b) (p i)) ∙ take-at a b _ (less (length a) (length b) (length l) (ap length p ∙ length-append a b))))
-      ∙ take-append-drop (used l b) k
-    where
-      less : (x y z : ℕ) → z ≡ x + y → x ≡ z - y
-      less x y z h = omega arith
+      let first : take (used l b) k ≡ a = begins ∙ (λ i. take (used l b) (p i)) ∙ take-at a b (used l b) (omega (arith, ap length p, length-append a b)) in
+      q ∙ ap (λ x. x ++ drop (used l b) k) (sym first) ∙ take-append-drop (used l b) k
 
 -- ---- each draw is given again, whatever lies beyond
+
+-- tapes that begin alike; beyond that they are these
+record Alike (rest rest′ d d′ : Tapes) : Type 0 where
+  words : Shares (rest .words) (rest′ .words) (d .words) (d′ .words)
+  thresholds : Shares (rest .thresholds) (rest′ .thresholds) (d .thresholds) (d′ .thresholds)
+  searches : d .searches ≡ d′ .searches
 
 words-again : (n : ℕ) (ws : List ℕ) → eachOnce n ws ≡ true → (u : Tapes) → tape n .shuffle (record { words = ws ++ u .words; thresholds = u .thresholds; searches = u .searches }) ≡ ok (ws, u)
 unfolding tape takeWords
@@ -54,13 +66,8 @@ words-again n ws once u =
     let all : length ws ≡ n = once-length n ws (subst T (sym once) tt) in
     rw (take-at ws (u .words) n all, once, take-at ws (u .words) n all, drop-at ws (u .words) n all)
 
--- so of both tapes
-record Alike (rest rest′ d d′ : Tapes) : Type 0 where
-  words : Shares (rest .words) (rest′ .words) (d .words) (d′ .words)
-  thresholds : Shares (rest .thresholds) (rest′ .thresholds) (d .thresholds) (d′ .thresholds)
-  searches : d .searches ≡ d′ .searches
-
 module _ (n : ℕ) (rest rest′ : Tapes) where
+  -- a search's words are all of a permutation or none
   shuffles : (d : Tapes) → Gives (Alike rest rest′) d (tape n .shuffle d) (λ u. tape n .shuffle u)
   unfolding tape takeWords
   shuffles d = go (eachOnce n (take n (d .words))) refl
@@ -78,6 +85,7 @@ module _ (n : ℕ) (rest rest′ : Tapes) where
             words-again n (take n (d .words)) once u,
           )
 
+  -- a threshold is judged by itself
   thresholds : (d : Tapes) (lowest highest : Float) → Gives (Alike rest rest′) d (tape n .threshold d lowest highest) (λ u. tape n .threshold u lowest highest)
   unfolding tape nextThreshold takeThreshold
   thresholds d lowest highest = next (d .thresholds) refl
@@ -110,28 +118,16 @@ module _ (n : ℕ) (rest rest′ : Tapes) where
 
 -- ---- of a whole growth
 
-abbrev pub growth : Params → Task → Tapes → Out (State Tapes)
-growth P root d = fromRoot P (search (tape (P .features)) P) root d
-
-module _ (P : Params) (root : Task) where
-  -- over all tapes that begin with what d has no more when it comes to s, growth comes to s, with the rest left
-  abbrev pub Again : Tapes → State Tapes → Type 0
-  Again d s =
-      (ws : List ℕ) (ts : List Float) → Begins (used (d .words) (s .left .words)) (d .words) ws → Begins (used (d .thresholds) (s .left .thresholds)) (d .thresholds) ts
-      → growth P root (record { words = ws; thresholds = ts; searches = d .searches })
-      ≡ ok (stateWith s (record { words = drop (used (d .words) (s .left .words)) ws; thresholds = drop (used (d .thresholds) (s .left .thresholds)) ts; searches = s .left .searches }))
-
-  pub growth-again : (d : Tapes) → Then (growth P root d) (Again d)
-  growth-again d =
-      go (growth P root d)
-      (λ rest rest′. let n = P .features in growth-follows P _ _ _ (search-follows P _ _ _ (shuffles n rest rest′) (thresholds n rest rest′) (counts n rest rest′)) root d)
-    where
-      go : (m : Out (State Tapes)) → ((rest rest′ : Tapes) → Follows (Alike rest rest′) d m (λ s. s .left) (growth P root) stateWith) → Then m (Again d)
-      go (bad n) h = tt
-      go (ok s) h =
-          λ ws ts b b′.
-          let rest : Tapes = record { words = drop (used (d .words) (s .left .words)) ws; thresholds = drop (used (d .thresholds) (s .left .thresholds)) ts; searches = s .left .searches } in
-          let (u, q, e) = h (s .left) rest rest (record { words = ([], refl, refl); thresholds = ([], refl, refl); searches = refl }) in
-          let same : u ≡ record { words = ws; thresholds = ts; searches = d .searches } =
-          λ i. record { words = shares-used _ ws _ _ (q .words) b i; thresholds = shares-used _ ts _ _ (q .thresholds) b′ i; searches = sym (q .searches) i } in
-          ap (growth P root) (sym same) ∙ e
+pub growth-again : (P : Params) (root : Task) (d : Tapes) → Then (growth P root d) (Again P root d)
+growth-again P root d =
+    go (growth P root d)
+    (λ rest rest′. let n = P .features in growth-follows P _ _ _ (search-follows P _ _ _ (shuffles n rest rest′) (thresholds n rest rest′) (counts n rest rest′)) root d)
+  where
+    go : (m : Out (State Tapes)) → ((rest rest′ : Tapes) → Follows (Alike rest rest′) d m (λ s. s .left) (growth P root) stateWith) → Then m (Again P root d)
+    go (bad n) h = tt
+    go (ok s) h =
+        λ ws ts b b′.
+        let rest : Tapes = record { words = drop (used (d .words) (s .left .words)) ws; thresholds = drop (used (d .thresholds) (s .left .thresholds)) ts; searches = s .left .searches } in
+        let (u, q, e) = h (s .left) rest rest (record { words = ([], refl, refl); thresholds = ([], refl, refl); searches = refl }) in
+        ap (growth P root) (λ i. record { words = sym (shares-used _ ws _ _ (q .words) b) i; thresholds = sym (shares-used _ ts _ _ (q .thresholds) b′) i; searches = q .searches i })
+        ∙ e
