@@ -5,6 +5,7 @@ pub mod Parts
 pub mod ItsTrees
 pub mod FirstBad
 pub mod Numbers
+pub mod DrawsUsed
 pub mod OneOutcome
 pub mod Filled
 pub mod Refusals
