@@ -16,7 +16,7 @@ use Rattle.rules.specs.Checks.{firstFailed, roomFor}
 use Rattle.rules.specs.Draws.{Out, bad, ok, bind, Tapes}
 use Rattle.rules.specs.Growth.{State}
 use Rattle.rules.specs.Fit.{element, listing, column, root, Tree, treeOf, rooted, fit, TreeCall, frameOf, grownTree, treeTests, treeDone, treeEnds, fitTree}
-use Rattle.rules.specs.Answers.{Told, treeTold}
+use Rattle.rules.specs.Answers.{Told, treeTold, told}
 use Rattle.laws.specs.Outs.{Then, then-then, then-any, then-both, then-after, then-of}
 use Rattle.laws.specs.Tapes.{Begins, used, growth, Again, growth-again}
 use Rattle.laws.specs.Answered.{TreeAnswered, tree-answered}
@@ -46,10 +46,6 @@ pub record Exact {W : Type 0} (K : Waits W) (C : TreeCall) (R : TreeRooms W) (r 
 
 abbrev pub DrawsUsed : Type 1
 DrawsUsed = (W : Type 0) (K : Waits W) (C : TreeCall) (R : TreeRooms W) (r : Report) → fitTree K C R .answer ≡ TreeAnswer.Grown r → Exact K C R r
-
--- a call's answer as it is told, and the rooms
-abbrev told : {A B R : Type 0} → (A → B) → Outcome A R → Outcome B R
-told f o = record { answer = f (o .answer); rooms = o .rooms }
 
 -- x is what a call left that told the report r, y what the call left with its tapes cut to what r says was used, or with either one shorter
 pub record CutExact {W : Type 0} (K : Waits W) (C : TreeCall) (R : TreeRooms W) (x : Outcome Told (TreeRooms W)) (r : Report) : Type 0 where
