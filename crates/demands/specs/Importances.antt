@@ -5,7 +5,7 @@ use Prim.Native.Nat.{ℕ, zero, suc, _<_, min}
 use native.Mathlib.Nat.{zero-add}
 use native.Mathlib.Omega.{arith}
 use mathlib.Core.Path.{_≡_, refl, sym, ap, _∙_, subst}
-use mathlib.Core.Bool.{Bool, true, false, cond}
+use mathlib.Core.Bool.{Bool, true, false}
 use mathlib.Core.List.{List, [], _∷_, _++_, map, append-nil}
 use lib.ListN.{length, getD, replicate, length-map, length-replicate, List·getD-map}
 use lib.Seq.{drop-nil}
@@ -22,7 +22,8 @@ use Rattle.rules.specs.Words.{nought, float, from, every, front}
 use Rattle.rules.specs.Lent.{Columns, Entry, Outcome, shortest, entriesAt, writeEntries}
 use Rattle.rules.specs.Checks.{firstFailed, featuresIn, treesIn}
 use Rattle.rules.specs.Table.{isLeaf, goodTree, treeIn, ForestTable, startsGood, treeAt, treesOf, goodForest}
-use Rattle.rules.specs.Reading.{reads, scored, addScores, scoresOf, sumFrom, dividedIf, normalised, scaled, treeImportanceTests, treeImportances, addEach, addImportances, forestImportanceTests, forestImportances}
+use Rattle.rules.specs.Reading.{reads, scored, addScores, scoresOf, sumFrom, dividedIf, normalised, scaled, treeImportanceTests, treeImportances}
+use Rattle.rules.specs.Reading.{addEach, addImportances, forestImportanceTests, forestImportances}
 use Rattle.laws.specs.Lists.{Every, each, every-imp, from-below}
 use Rattle.laws.specs.Passed.{past, goes-on, none-fails}
 use Rattle.laws.specs.Written.{entries-written}
@@ -165,11 +166,11 @@ beside-over x s p =
 
 beside-divided : (s : Float) (v : List Float) (j : ℕ) → Beside (getD v j nan) (getD (dividedIf s v) j nan)
 unfolding dividedIf div
-beside-divided s v j = go (lt nought s) (λ p. p)
+beside-divided s v j = go (lt nought s) refl
   where
-    go : (b : Bool) → (T b → T (lt nought s)) → Beside (getD v j nan) (getD (cond b (map (λ x. div binary64 x s) v) v) j nan)
-    go true p = subst (Beside (getD v j nan)) (sym (List·getD-map (λ x. div binary64 x s) v j nan)) (beside-over (getD v j nan) s (p tt))
-    go false p = beside-self (getD v j nan)
+    go : (b : Bool) → lt nought s ≡ b → Beside (getD v j nan) (getD (dividedIf s v) j nan)
+    go true q = rw (q, List·getD-map (λ x. div binary64 x s) v j nan) (beside-over (getD v j nan) s (subst T (sym q) tt))
+    go false q = rw q (beside-self (getD v j nan))
 
 beside-scaled : (by : Scale) (v : List Float) (j : ℕ) → Beside (getD v j nan) (getD (scaled by v) j nan)
 unfolding scaled normalised
@@ -196,15 +197,15 @@ no-scores v (e ∷ es) h = ap (λ b. addScores (scored b e v) es) (h .0) ∙ no-
 
 none-divided : (s : Float) (n : ℕ) → dividedIf s (replicate n nought) ≡ replicate n nought
 unfolding dividedIf ofBits
-none-divided s n = go (lt nought s) (λ p. p)
+none-divided s n = go (lt nought s) refl
   where
     each : T (lt nought s) → (n : ℕ) → map (λ x. div binary64 x s) (replicate n nought) ≡ replicate n nought
     each p zero = refl
     each p (suc n) = λ i. zero-div64 s (lt-above s p) i ∷ each p n i
 
-    go : (b : Bool) → (T b → T (lt nought s)) → cond b (map (λ x. div binary64 x s) (replicate n nought)) (replicate n nought) ≡ replicate n nought
-    go true p = each (p tt) n
-    go false p = refl
+    go : (b : Bool) → lt nought s ≡ b → dividedIf s (replicate n nought) ≡ replicate n nought
+    go true q = rw q (each (subst T (sym q) tt) n)
+    go false q = rw q refl
 
 none-scaled : (by : Scale) (n : ℕ) → scaled by (replicate n nought) ≡ replicate n nought
 unfolding scaled normalised
