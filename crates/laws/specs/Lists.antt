@@ -147,7 +147,7 @@ module _ {ℓ} {A : Type ℓ} where
   unfolding keep
   getD-keep p cs j = List·getD-map (keep p) cs j []
 
-put-map {ℓ κ} : {A : Type ℓ} {B : Type κ} (f : A → B) (b : Bool) (x : A) (l : List A) → putIf b (f x) (map f l) ≡ map f (putIf b x l)
+pub put-map {ℓ κ} : {A : Type ℓ} {B : Type κ} (f : A → B) (b : Bool) (x : A) (l : List A) → putIf b (f x) (map f l) ≡ map f (putIf b x l)
 unfolding putIf
 put-map f true x l = refl
 put-map f false x l = refl
