@@ -7,3 +7,8 @@ pub mod Filled
 pub mod Refusals
 pub mod Tried
 pub mod Calls
+pub mod Error
+pub mod Means
+pub mod Leaves
+pub mod Importances
+pub mod Weighted

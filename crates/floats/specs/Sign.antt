@@ -1,5 +1,5 @@
--- On which side of 0 a value stands by its sign, a NaN on either: sums, squares and quotients keep to it. And what is added to 0, or divided by 1, stays as it is,
--- but for a -0 added to 0. Assumes nothing.
+-- On which side of 0 a value stands by its sign, a NaN on either: sums, squares and quotients keep to it. What is added to 0, or divided by 1, stays as it is, but for a -0
+-- added to 0; and two values can be added to 0 in either order. Assumes nothing.
 use mathlib.Core.Path.{_≡_, refl, sym, ap, _∙_, subst}
 use Prim.Native.Nat.{ℕ, zero, suc, _+_, _-_, _*_, _≤_, _<_}
 use native.Mathlib.Nat.{zero-mul, mul-one, one-mul, mul-comm, add-comm}
@@ -192,17 +192,6 @@ zero-add64 f (fin true zero e) p = add-zero64 f (fin false 0 (pos 0)) (fin true 
 zero-add64 f (fin true (suc m) e) p = add-comm64 f (fin false 0 (pos 0)) (fin true (suc m) e) ∙ add-zero64 f (fin true (suc m) e) (fin false 0 (pos 0)) p tt tt
 zero-add64 f (fin false m e) p = add-comm64 f (fin false 0 (pos 0)) (fin false m e) ∙ add-zero64 f (fin false m e) (fin false 0 (pos 0)) p tt tt
 
-pub div-one64 : (f : Format) (x : Float) → T (fits f x) → div f x (fin false 1 (pos 0)) ≡ x
-unfolding div
-div-one64 f nan p = refl
-div-one64 f (inf true) p = refl
-div-one64 f (inf false) p = refl
-div-one64 f (fin s m e) p = go s ∙ round-self f s m e p
-  where
-    go : (s : Bool) → round f (unlike s false) (m * up e * 1) (1 * 1 * down e) ≡ round f s (m * up e) (down e)
-    go true = λ i. round f true (mul-one (m * up e) i) (one-mul (down e) i)
-    go false = λ i. round f false (mul-one (m * up e) i) (one-mul (down e) i)
-
 -- two values added to 0: whichever comes first
 minus-zero : (x : Float) → isMinusZero x ≡ true → T (isZero x)
 minus-zero nan h = absurd (true≢false (sym h))
@@ -226,3 +215,14 @@ add-two64 f x y p q =
     go true false h k = alone y q false k ∙ sym (stays y x q k h)
     go false true h k = stays x y p h k ∙ sym (alone x p false h)
     go false false h k = add-comm64 f x y
+
+pub div-one64 : (f : Format) (x : Float) → T (fits f x) → div f x (fin false 1 (pos 0)) ≡ x
+unfolding div
+div-one64 f nan p = refl
+div-one64 f (inf true) p = refl
+div-one64 f (inf false) p = refl
+div-one64 f (fin s m e) p = go s ∙ round-self f s m e p
+  where
+    go : (s : Bool) → round f (unlike s false) (m * up e * 1) (1 * 1 * down e) ≡ round f s (m * up e) (down e)
+    go true = λ i. round f true (mul-one (m * up e) i) (one-mul (down e) i)
+    go false = λ i. round f false (mul-one (m * up e) i) (one-mul (down e) i)

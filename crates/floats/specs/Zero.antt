@@ -1,4 +1,4 @@
--- Zeros of either sign in sums and products: a value that is not -0 stays as it is when a zero is added, and a sum that starts at a value other than -0 never comes to -0.
+-- Zeros of either sign in sums, products and quotients: a value that is not -0 stays as it is when a zero is added, and a sum that starts at a value other than -0 never comes to -0.
 -- Assumes nothing.
 use mathlib.Core.Path.{_≡_, refl, sym, ap, _∙_, subst}
 use Prim.Native.Nat.{ℕ, zero, suc, _+_, _-_, _*_, _%_, _^_, _≤_, _<_}
