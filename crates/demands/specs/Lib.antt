@@ -6,4 +6,5 @@ pub mod OneOutcome
 pub mod Filled
 pub mod Refusals
 pub mod Tried
+pub mod Sides
 pub mod Calls
