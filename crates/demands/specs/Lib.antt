@@ -7,4 +7,5 @@ pub mod Filled
 pub mod Refusals
 pub mod Tried
 pub mod Sides
+pub mod Limits
 pub mod Calls
