@@ -8,4 +8,5 @@ pub mod Refusals
 pub mod Tried
 pub mod Sides
 pub mod Limits
+pub mod Splitters
 pub mod Calls

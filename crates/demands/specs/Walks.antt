@@ -63,21 +63,22 @@ walk-ends features rs good xs = let e = Tables.walk-ends features rs good xs in 
 pub reported-nodes : (C : TreeCall) (t : Tree) → fit (frameOf C) (C .given .inputs) ≡ ok t → t .report .nodes ≡ length (t .nodes)
 reported-nodes C t e = then-of (λ (u : Tree). u .report .nodes ≡ length (u .nodes)) (fit (frameOf C) (C .given .inputs)) t e (fit-reported (frameOf C) (C .given .inputs))
 
+-- and what they were is read back
+pub tree-table : {W : Type 0} (K : Waits W) (C : TreeCall) (R : TreeRooms W) (r : Report) (a : TreeAnswered K C R r) → entriesAt (fitTree K C R .rooms .nodes) 0 (r .nodes) ≡ entries (a .tree .nodes)
+tree-table K C R r a =
+    (λ i. entriesAt (a .after i .nodes) 0 (sym (a .reported) i .nodes))
+    ∙ ap (λ m. entriesAt (writeEntries (entries (a .tree .nodes)) (R .nodes)) 0 m) (reported-nodes C (a .tree) (a .grew) ∙ sym (length-entries (a .tree .nodes)))
+    ∙ entries-written (entries (a .tree .nodes)) (R .nodes) (entries (a .tree .nodes)) [] [] (sym (append-nil (entries (a .tree .nodes))))
+
 pub tree-good : TreeGood
 unfolding frameOf paramsOf
 tree-good W K C R r held h =
-    subst (λ rs. T (goodTree (C .shape .features) rs)) (sym table)
+    subst (λ rs. T (goodTree (C .shape .features) rs)) (sym (tree-table K C R r a))
     (then-of (λ t. T (goodTree (C .shape .features) (entries (t .nodes)))) (fit (frameOf C) (C .given .inputs)) (a .tree) (a .grew)
     (fit-good (frameOf C) (C .given .inputs) (tree-listed K C R held (a .passed) .0)))
   where
     a : TreeAnswered K C R r
     a = tree-answered K C R r h
-
-    table : entriesAt (fitTree K C R .rooms .nodes) 0 (r .nodes) ≡ entries (a .tree .nodes)
-    table =
-        (λ i. entriesAt (a .after i .nodes) 0 (sym (a .reported) i .nodes))
-        ∙ ap (λ m. entriesAt (writeEntries (entries (a .tree .nodes)) (R .nodes)) 0 m) (reported-nodes C (a .tree) (a .grew) ∙ sym (length-entries (a .tree .nodes)))
-        ∙ entries-written (entries (a .tree .nodes)) (R .nodes) (entries (a .tree .nodes)) [] [] (sym (append-nil (entries (a .tree .nodes))))
 
 -- ---- a forest
 
