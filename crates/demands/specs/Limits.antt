@@ -1,10 +1,10 @@
 -- What holds a tree back. No limit grows what the greatest limit grows, whatever call it stands in. The depth that is reported is within the limit, and is 0 exactly
--- where the tree is one node. And where no row is kept, nothing is searched: whatever the limit, the least split, the splitter and the tapes are, the tree is one
--- leaf of value 0, and it uses no draw. Assumes nothing.
-use Prim.Native.Nat.{ℕ, _+_, _<_, _≤_}
+-- where the tree is one node; and a tree that stays below its limit would have been the same, draw by draw, under any other that it stays below. Where no row is kept,
+-- nothing is searched: whatever the limit, the least split, the splitter and the tapes are, the tree is one leaf of value 0, and it uses no draw. Assumes nothing.
+use Prim.Native.Nat.{ℕ, _+_, _<_, _≤_, max}
 use native.Mathlib.Nat.{zero-add, sub-self}
 use native.Mathlib.Omega.{arith}
-use mathlib.Core.Path.{_≡_, refl, ap, _∙_, subst}
+use mathlib.Core.Path.{_≡_, refl, sym, ap, _∙_, subst}
 use mathlib.Core.Logic.{_⊎_, inl, inr}
 use mathlib.Core.Bool.{false}
 use mathlib.Core.List.{List, [], _∷_, _++_, map}
@@ -19,15 +19,16 @@ use Rattle.rules.specs.declared.TreeAnswer.{TreeAnswer}
 use Rattle.rules.specs.Words.{nought, from, total}
 use Rattle.rules.specs.Totals.{empty, valueOf}
 use Rattle.rules.specs.Lent.{Data, Frame, Waits, TreeRooms, ForestRooms, Outcome, kept, countIn, keptRows, leafEntry, writeEntries, zeroWork}
-use Rattle.rules.specs.Checks.{firstFailed}
-use Rattle.rules.specs.Draws.{Out, ok, bind, tape}
+use Rattle.rules.specs.Checks.{firstFailed, roomFor}
+use Rattle.rules.specs.Draws.{Out, ok, bind, Tapes, tape}
 use Rattle.rules.specs.Search.{Task, Found, uncut, cut, totals, search}
 use Rattle.rules.specs.Growth.{Waiting, State, joins, searchIf, runs, expand, growAll, fromRoot, leafOf}
-use Rattle.rules.specs.Fit.{element, elementIn, root, treeOf, rooted, fit, entryOf, entries, limitOf, paramsOf, TreeCall, frameOf, grownTree, treeTests, treeDone, treeEnds, fitTree}
+use Rattle.rules.specs.Fit.{element, elementIn, listing, column, root, Tree, treeOf, rooted, fit, entryOf, entries, limitOf, paramsOf, TreeCall, frameOf, grownTree, treeTests, treeDone, treeEnds, fitTree}
 use Rattle.rules.specs.Forest.{ForestCall, frameAt, frames, grownForest, roomsGood, cutsGood, forestTests, fitForest}
 use Rattle.laws.specs.Lists.{Every, every-imp, every-append, keep-none, from-below}
 use Rattle.laws.specs.Outs.{Then, then-then, then-both, then-after, always, then-of}
 use Rattle.laws.specs.Stack.{children-length, searchIf-joins, expand-nodes, expand-depth, expand-level, root-keep}
+use Rattle.laws.specs.Unmet.{relimit, search-same, root-unmet}
 use Rattle.laws.specs.Passed.{tree-passed, tree-framed}
 use Rattle.laws.specs.Answered.{TreeAnswered, tree-answered}
 use Rattle.demands.specs.LeftOut.{Unrefused, Accepted, clean-start, idle, accepted, passes}
@@ -74,6 +75,12 @@ pub record Within (limit : ℕ) (r : Report) : Type 0 where
 abbrev pub WithinLimit : Type 1
 WithinLimit =
     (W : Type 0) (K : Waits W) (C : TreeCall) (R : TreeRooms W) (r : Report) → fitTree K C R .answer ≡ TreeAnswer.Grown r → Within (limitOf (C .settings .depth)) r
+
+-- the root has level 1, so that a limit of 1 is met by a tree of one node
+abbrev pub LimitUnmet : Type 1
+LimitUnmet =
+    (W : Type 0) (K : Waits W) (C : TreeCall) (R : TreeRooms W) (r : Report) (d : Depth) → fitTree K C R .answer ≡ TreeAnswer.Grown r
+    → max 1 (r .depth) < limitOf (C .settings .depth) → max 1 (r .depth) < limitOf d → fitTree K (treeUnder d C) R ≡ fitTree K C R
 
 -- one leaf of value 0, and nothing searched or drawn
 abbrev pub oneLeaf : {W : Type 0} → Waits W → TreeRooms W → Outcome TreeAnswer (TreeRooms W)
@@ -139,6 +146,41 @@ within-limit W K C R r h =
     let a : TreeAnswered K C R r = tree-answered K C R r h in
     subst (Within (limitOf (C .settings .depth))) (a .reported)
     (then-of (λ t. Within (limitOf (C .settings .depth)) (t .report)) (fit (frameOf C) (C .given .inputs)) (a .tree) (a .grew) (fit-within (frameOf C) (C .given .inputs)))
+
+-- ---- a limit that is not met
+
+abbrev frameUnder : ℕ → Frame → Frame
+frameUnder n F = record { rows = F .rows; params = relimit n (F .params); weights = F .weights; counts = F .counts; words = F .words; thresholds = F .thresholds }
+
+fit-unmet : (F : Frame) (D : Data) (n b : ℕ) → 1 ≤ b → b < F .params .limit → b < n → Then (fit F D) (λ t. t .report .depth ≤ b → fit (frameUnder n F) D ≡ ok t)
+unfolding fit rooted treeOf root column listing element kept keptRows bind
+fit-unmet F D n b h u u′ =
+    then-then (fromRoot P (choose P) task start) _ _ _ (root-unmet P n b u u′ (choose P) task start h)
+    (λ s g k. (λ i. ends (fromRoot (relimit n P) (λ d t. sym (search-same P n (tape (P .features)) d t) i) task start)) ∙ ap ends (g k))
+  where
+    P : Params
+    P = F .params
+
+    task : Task
+    task = root F D
+
+    start : Tapes
+    start = record { words = F .words; thresholds = F .thresholds; searches = 0 }
+
+    choose : Params → Tapes → Task → Out (Found × Tapes)
+    choose Q = search (tape (Q .features)) Q
+
+    ends : Out (State Tapes) → Out Tree
+    ends m = bind m (λ s. ok (treeOf F task s))
+
+pub limit-unmet : LimitUnmet
+unfolding fitTree treeTests roomFor keptRows kept frameOf paramsOf grownTree
+limit-unmet W K C R r d h u u′ =
+    let a : TreeAnswered K C R r = tree-answered K C R r h in
+    let same : grownTree (treeUnder d C) ≡ ok (a .tree) =
+    then-of (λ t. t .report .depth ≤ max 1 (r .depth) → grownTree (treeUnder d C) ≡ ok t) (grownTree C) (a .tree) (a .grew)
+    (fit-unmet (frameOf C) (C .given .inputs) (limitOf d) (max 1 (r .depth)) (omega arith) u u′) (omega (arith, ap (λ (x : Report). x .depth) (a .reported))) in
+    λ i. treeEnds K (firstFailed (treeTests K C R)) ((same ∙ sym (a .grew)) i) R
 
 -- ---- nothing kept
 

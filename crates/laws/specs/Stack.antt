@@ -78,7 +78,7 @@ module _ (P : Params) {S : Type 0} (choose : S → Task → Out (Found × S)) wh
   unfolding searchable
   searchable-below level task t = ltb→lt level (P .limit) (and-l (ltb level (P .limit)) (leb (P .split) (task .count)) t)
 
-  joins-level : (n level : ℕ) (task : Task) (f : Found) → level < P .limit → Every (AtLevel level) (joins n level task f)
+  pub joins-level : (n level : ℕ) (task : Task) (f : Found) → level < P .limit → Every (AtLevel level) (joins n level task f)
   unfolding joins
   joins-level n level task uncut h = tt
   joins-level n level task (cut c) h = ((refl, h), tt)
