@@ -242,11 +242,12 @@ module _ (all : List Float) where
     random-tries : (top : ℕ) (task : Task) (js : List ℕ) (r : Tries Tapes) → Trying top r → Then (tryAll (tape (P .features)) P task js r) (Trying top)
     unfolding tryAll tryOne
     random-tries top task [] r h = h
-    random-tries top task (j ∷ js) r h = then-then (tryOne (tape (P .features)) (P .splitter) P task j r) _ _ _ (one (P .splitter) random) (λ r′ h′. random-tries top task js r′ h′)
+    random-tries top task (j ∷ js) r h = one _ random (λ r′ h′. random-tries top task js r′ h′)
       where
-        one : (b : Splitter) → b ≡ Random → Then (tryOne (tape (P .features)) b P task j r) (Trying top)
-        one Best e = absurd (random≢best (sym e))
-        one Random e = tries-one top task j r (getD (task .columns) j []) h
+        one : (b : Splitter) → b ≡ Random → ((r′ : Tries Tapes) → Trying top r′ → Then (tryAll (tape (P .features)) P task js r′) (Trying top))
+            → Then (bind (tryOne (tape (P .features)) b P task j r) (λ r′. tryAll (tape (P .features)) P task js r′)) (Trying top)
+        one Best e next = absurd (random≢best (sym e))
+        one Random e next = then-then (randomIn (tape (P .features)) P task j r (getD (task .columns) j [])) _ _ _ (tries-one top task j r (getD (task .columns) j []) h) next
 
     abbrev FoundOn : Tapes → Found → Type 0
     FoundOn d uncut = Unit {0}
