@@ -63,7 +63,7 @@ walk-ends features rs good xs = let e = Tables.walk-ends features rs good xs in 
 pub reported-nodes : (C : TreeCall) (t : Tree) → fit (frameOf C) (C .given .inputs) ≡ ok t → t .report .nodes ≡ length (t .nodes)
 reported-nodes C t e = then-of (λ (u : Tree). u .report .nodes ≡ length (u .nodes)) (fit (frameOf C) (C .given .inputs)) t e (fit-reported (frameOf C) (C .given .inputs))
 
--- and what they were is read back
+-- the table is read back as it was grown
 pub tree-table : {W : Type 0} (K : Waits W) (C : TreeCall) (R : TreeRooms W) (r : Report) (a : TreeAnswered K C R r) → entriesAt (fitTree K C R .rooms .nodes) 0 (r .nodes) ≡ entries (a .tree .nodes)
 tree-table K C R r a =
     (λ i. entriesAt (a .after i .nodes) 0 (sym (a .reported) i .nodes))
