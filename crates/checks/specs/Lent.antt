@@ -1,16 +1,12 @@
--- What is lent, put together as the rules have it, and the lengths by which the checks know of it.
+-- What is lent, by the lengths that the checks know of it.
 use Prim.Native.Nat.{ℕ, _*_, _<_, _≤_}
 use mathlib.Core.Path.{_≡_}
 use mathlib.Core.List.{List}
 use lib.ListN.{length}
 use lib.Ieee.{Float}
-use Rattle.rules.specs.Lent.{Given, Work, Reports, Stack, stack}
+use Rattle.rules.specs.Lent.{Work, Reports, Stack, stack}
 use Rattle.checks.specs.declared.Lengths.{Lengths}
 use Rattle.checks.specs.declared.ReportLengths.{ReportLengths}
-
-abbrev pub givenOf : List Float → List Float → List Float → List ℕ → List ℕ → Given
-givenOf values targets weights counts listings =
-    record { inputs = record { values = values; targets = targets; listings = listings }; weights = weights; counts = counts }
 
 -- ---- counts and weights that are long enough
 

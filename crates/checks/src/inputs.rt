@@ -6,10 +6,9 @@ ghost use lib.ListN.{length};
 ghost use lib.Dec.{leb, eqb};
 ghost use lib.Ieee.Scale.{finite};
 ghost use Rattle.rules.specs.Words.{every, along};
-ghost use Rattle.rules.specs.Lent.{unweighted};
+ghost use Rattle.rules.specs.Lent.{unweighted, givenOf};
 ghost use Rattle.rules.specs.Checks.{lengths, goodCuts, goodWeight};
 ghost use Rattle.checks.specs.Asks.{Ranges};
-ghost use Rattle.checks.specs.Lent.{givenOf};
 use rules::Shape;
 
 // ---- lengths

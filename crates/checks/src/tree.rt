@@ -1,9 +1,8 @@
 // The verdict of one tree's fit: the first of checks 1 to 6 that fails, or 0.
 ghost use mathlib.Core.Path.{_≡_};
-ghost use Rattle.rules.specs.Lent.{TreeRooms, Stack, stack};
+ghost use Rattle.rules.specs.Lent.{TreeRooms, Stack, stack, givenOf};
 ghost use Rattle.rules.specs.Checks.{firstFailed};
 ghost use Rattle.rules.specs.Fit.{TreeCall, treeTests};
-ghost use Rattle.checks.specs.Lent.{givenOf};
 ghost use Rattle.checks.specs.Verdicts.{TreeHas};
 use crate::Lengths;
 use rules::Shape;

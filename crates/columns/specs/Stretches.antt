@@ -6,12 +6,12 @@ use native.Mathlib.Decide.{ℕ-discrete, decLt}
 use native.Mathlib.Omega.{arith}
 use mathlib.Core.Path.{_≡_, refl, sym, ap, _∙_, subst}
 use mathlib.Core.Logic.{_⊎_, inl, inr, _≢_}
-use mathlib.Core.List.{List, [], _∷_, _++_, append-assoc}
+use mathlib.Core.List.{List, _++_, append-assoc}
 use lib.ListN.{length, take, drop, take-append-drop, length-append, length-take, length-drop}
-use lib.Seq.{take-at, drop-at, take-take, take-add, drop-drop, take-nil, length-take-le, take-append-le, drop-append-le}
+use lib.Seq.{take-at, drop-at, take-take, take-add, drop-drop, length-take-le, take-append-le, drop-append-le}
 use borrow.Rule.Slice.PartMut.{putMid}
 use Rattle.rules.specs.Words.{stretch}
-use Rattle.laws.specs.Lists.{Every, every-take, every-drop}
+use Rattle.laws.specs.Lists.{Every, every-take, every-drop, drop-take}
 use Rattle.laws.specs.Work.{part}
 use Rattle.columns.specs.Columns.{changed, inColumns}
 
@@ -23,12 +23,6 @@ column-end rows n k h = subst (λ m. m ≤ n * rows) (suc-mul k rows) (mul-le-mu
 
 pub length-stretch : (a n : ℕ) (l : List ℕ) → a + n ≤ length l → length (stretch a n l) ≡ n
 length-stretch a n l h = simp (length-take, length-drop) (omega arith)
-
-drop-take : (a n : ℕ) (l : List ℕ) → drop a (take n l) ≡ take (n - a) (drop a l)
-drop-take zero n l = let e : n - 0 ≡ n = omega arith in rw e
-drop-take (suc a) zero l = let e : 0 - suc a ≡ 0 = omega arith in rw e
-drop-take (suc a) (suc n) [] = sym (take-nil (suc n - suc a))
-drop-take (suc a) (suc n) (x ∷ l) = let e : suc n - suc a ≡ n - a = omega arith in rw e (drop-take a n l)
 
 -- a stretch of a stretch
 pub stretch-in : (a n b m : ℕ) (l : List ℕ) → b + m ≤ n → stretch b m (stretch a n l) ≡ stretch (a + b) m l

@@ -1,7 +1,11 @@
 pub mod LeftOut
 pub mod Walks
 pub mod OutOfBag
+pub mod Parts
+pub mod ItsTrees
+pub mod FirstBad
 pub mod Numbers
+pub mod DrawsUsed
 pub mod OneOutcome
 pub mod Filled
 pub mod Refusals
@@ -10,3 +14,8 @@ pub mod Sides
 pub mod Limits
 pub mod Splitters
 pub mod Calls
+pub mod Error
+pub mod Means
+pub mod Leaves
+pub mod Importances
+pub mod Weighted

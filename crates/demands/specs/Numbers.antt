@@ -1,47 +1,58 @@
--- What the paper states of a fit's numbers. The root mass is the sum of all rows' masses by number, and the root's totals run likewise. The choice words used are features times searches, and searches never exceed nodes. The node room that is asked
--- is enough: a tree has at most max(1, 2 x kept rows - 1) nodes, and a forest's trees fit together. Assumes nothing.
-use Prim.Native.Nat.{ℕ, zero, suc, _+_, _-_, _*_, _≤_}
+-- What the paper states of a fit's numbers. The root mass is the sum of all rows' masses by number, and the root's totals run likewise. The choice words used are
+-- features times searches, and searches never exceed nodes. The node room that is asked is enough: a tree has at most max(1, 2 x kept rows - 1) nodes.
+-- The same of a forest, by the columns that it leaves: at each tree's place its root mass, words and searches; and the starts tell trees that lie one behind another,
+-- the sum of whose nodes is within the room. It holds of a forest because each of its trees is what the fit of that tree alone gives. Assumes nothing.
+use Prim.Native.Nat.{ℕ, zero, suc, _+_, _-_, _*_, _<_, _≤_}
 use native.Mathlib.Nat.{add-zero, zero-add}
 use native.Mathlib.Omega.{arith}
 use mathlib.Core.Path.{_≡_, refl, sym, ap, _∙_, subst}
-use mathlib.Core.List.{List, [], _∷_, map}
-use lib.ListN.{length, getD}
+use mathlib.Core.Bool.{_&&_}
+use mathlib.Core.List.{List, _++_, map, map-map, append-nil}
+use lib.ListN.{length, getD, length-map, drop-of-length-le}
+use lib.Dec.{T, eqb, eqb→eq}
 use lib.Ieee.{nan}
+use lib.Ieee.Fits.{and-l}
 use Rattle.rules.specs.declared.Totals.{Totals}
 use Rattle.rules.specs.declared.Report.{Report}
 use Rattle.rules.specs.declared.TreeAnswer.{TreeAnswer}
 use Rattle.rules.specs.declared.ForestAnswer.{ForestAnswer}
-use Rattle.rules.specs.Words.{from}
+use Rattle.rules.specs.Words.{from, front, total}
 use Rattle.rules.specs.Totals.{empty, takeIn}
-use Rattle.rules.specs.Lent.{Data, Frame, Waits, TreeRooms, ForestRooms, shortest, massIn}
-use Rattle.rules.specs.Checks.{roomFor}
+use Rattle.rules.specs.Lent.{Data, Given, Frame, Reports, Waits, TreeRooms, ForestRooms, shortest, massIn}
+use Rattle.rules.specs.Checks.{roomFor, reportsExact}
 use Rattle.rules.specs.Draws.{tape}
 use Rattle.rules.specs.Search.{totals, search}
 use Rattle.rules.specs.Growth.{fromRoot}
 use Rattle.rules.specs.Fit.{elementIn, element, root, Tree, treeOf, rooted, fit, paramsOf, TreeCall, frameOf, fitTree}
-use Rattle.rules.specs.Forest.{ForestCall, frameAt, frames, forestEntries, fitForest}
-use Rattle.laws.specs.Lists.{Every}
+use Rattle.rules.specs.Forest.{ForestCall, frameAt, startsFrom, forestEntries, fitForest}
+use Rattle.laws.specs.Lists.{Every, map-same}
 use Rattle.laws.specs.Outs.{Then, then-then, then-any, then-of}
-use Rattle.laws.specs.Root.{fit-nodes}
+use Rattle.laws.specs.Root.{fit-reported, fit-nodes}
 use Rattle.laws.specs.Spent.{growth-spent}
 use Rattle.laws.specs.Passed.{tree-passed, Binary64}
-use Rattle.laws.specs.Answered.{TreeAnswered, tree-answered, tree-listed, ForestAnswered, forest-answered, grew-each, forest-room}
+use Rattle.laws.specs.Written.{first-start, last-start, next-start, length-forest}
+use Rattle.laws.specs.Answered.{TreeAnswered, tree-answered, tree-listed, ForestAnswered, forest-answered, forest-right, trees-length, trees-each, forest-room}
 use Rattle.demands.specs.Walks.{reported-nodes}
+use Rattle.demands.specs.ItsTrees.{treeCallAt, reportAt, ownRooms, tree-alone}
 
 -- ---- the statements
 
 -- the totals of rows 0 to n - 1, the last taken in last
-pub totalsTo : Frame → Data → ℕ → Totals
-totalsTo F D zero = empty
-totalsTo F D (suc n) = takeIn (totalsTo F D n) (getD (D .targets) n nan) (massIn (F .weights) (F .counts) n)
+pub totalsTo : Given → ℕ → Totals
+totalsTo G zero = empty
+totalsTo G (suc n) = takeIn (totalsTo G n) (getD (G .inputs .targets) n nan) (massIn (G .weights) (G .counts) n)
+
+-- what a tree of frame F over D is given
+abbrev pub givenBy : Frame → Data → Given
+givenBy F D = record { inputs = D; weights = F .weights; counts = F .counts }
 
 abbrev pub RootByNumber : Type 0
-RootByNumber = (F : Frame) (D : Data) → root F D .totals ≡ totalsTo F D (F .rows)
+RootByNumber = (F : Frame) (D : Data) → root F D .totals ≡ totalsTo (givenBy F D) (F .rows)
 
 abbrev pub RootMass : Type 1
 RootMass =
     (W : Type 0) (K : Waits W) (C : TreeCall) (R : TreeRooms W) (r : Report) → fitTree K C R .answer ≡ TreeAnswer.Grown r
-    → r .mass ≡ totalsTo (frameOf C) (C .given .inputs) (C .shape .rows) .mass
+    → r .mass ≡ totalsTo (C .given) (C .shape .rows) .mass
 
 -- of a tree that reports r, over so many features
 pub record Counted (features : ℕ) (r : Report) : Type 0 where
@@ -56,30 +67,43 @@ TreeRoom =
     (W : Type 0) (K : Waits W) (C : TreeCall) (R : TreeRooms W) (r : Report) → Binary64 (C .given .inputs .values) → fitTree K C R .answer ≡ TreeAnswer.Grown r
     → (r .nodes ≤ roomFor (frameOf C)) × (roomFor (frameOf C) ≤ shortest (R .nodes))
 
+-- the same of a forest, by what its columns hold at each tree's place
+abbrev pub ForestMass : Type 1
+ForestMass =
+    (W : Type 0) (K : Waits W) (C : ForestCall) (R : ForestRooms W) → fitForest K C R .answer ≡ ForestAnswer.Grown → (t : ℕ) → t < C .trees
+    → getD (fitForest K C R .rooms .reports .mass) t nan ≡ totalsTo (treeCallAt C t .given) (C .shape .rows) .mass
+
 abbrev pub ForestNumbers : Type 1
 ForestNumbers =
-    (W : Type 0) (K : Waits W) (C : ForestCall) (R : ForestRooms W) (h : fitForest K C R .answer ≡ ForestAnswer.Grown)
-    → Every (λ (t : Tree). Counted (C .shape .features) (t .report)) (forest-answered K C R h .trees)
+    (W : Type 0) (K : Waits W) (C : ForestCall) (R : ForestRooms W) → fitForest K C R .answer ≡ ForestAnswer.Grown → (t : ℕ) → t < C .trees
+    → Counted (C .shape .features) (reportAt (fitForest K C R .rooms .reports) t)
+
+-- the trees lie one behind another from the first place on, each as long as the node column says, all of them together within the room
+pub record Lies (trees room : ℕ) (starts nodes : List ℕ) : Type 0 where
+  pub first : getD starts 0 1 ≡ 0
+  pub next : (t : ℕ) → t < trees → getD starts (suc t) 0 ≡ getD starts t 0 + getD nodes t 0
+  pub sum : getD starts trees 0 ≡ total (λ n. n) nodes
+  pub enough : total (λ n. n) nodes ≤ room
 
 abbrev pub ForestRoom : Type 1
 ForestRoom =
-    (W : Type 0) (K : Waits W) (C : ForestCall) (R : ForestRooms W) (h : fitForest K C R .answer ≡ ForestAnswer.Grown) → Binary64 (C .given .inputs .values)
-    → length (forestEntries (forest-answered K C R h .trees)) ≤ shortest (R .nodes)
+    (W : Type 0) (K : Waits W) (C : ForestCall) (R : ForestRooms W) → Binary64 (C .given .inputs .values) → fitForest K C R .answer ≡ ForestAnswer.Grown
+    → Lies (C .trees) (shortest (R .nodes)) (fitForest K C R .rooms .starts) (fitForest K C R .rooms .reports .nodes)
 
 -- ---- the root
 
 -- the rows after the first n, taken in one by one
-totals-from : (F : Frame) (D : Data) (n k : ℕ) → totals (totalsTo F D n) (map (element F D) (from n k)) ≡ totalsTo F D (n + k)
+totals-from : (F : Frame) (D : Data) (n k : ℕ) → totals (totalsTo (givenBy F D) n) (map (element F D) (from n k)) ≡ totalsTo (givenBy F D) (n + k)
 unfolding totals from element elementIn totalsTo
-totals-from F D n zero = ap (totalsTo F D) (sym (add-zero n))
-totals-from F D n (suc k) = totals-from F D (suc n) k ∙ ap (totalsTo F D) (shift n k)
+totals-from F D n zero = ap (totalsTo (givenBy F D)) (sym (add-zero n))
+totals-from F D n (suc k) = totals-from F D (suc n) k ∙ ap (totalsTo (givenBy F D)) (shift n k)
   where
     shift : (n k : ℕ) → suc n + k ≡ n + suc k
     shift n k = omega arith
 
 pub root-by-number : RootByNumber
 unfolding root totalsTo
-root-by-number F D = totals-from F D 0 (F .rows) ∙ ap (totalsTo F D) (zero-add (F .rows))
+root-by-number F D = totals-from F D 0 (F .rows) ∙ ap (totalsTo (givenBy F D)) (zero-add (F .rows))
 
 pub root-mass : RootMass
 unfolding fit rooted treeOf frameOf
@@ -115,15 +139,54 @@ tree-room W K C R r held h =
       tree-passed K C R (a .passed) .room,
     )
 
+-- ---- of a forest: what its columns hold is what the fit of each tree alone reports
+
+pub forest-mass : ForestMass
+forest-mass W K C R g t h = root-mass W K (treeCallAt C t) (ownRooms R) _ (tree-alone K C R g t h .answer)
+
 pub forest-numbers : ForestNumbers
-unfolding frames frameAt paramsOf
-forest-numbers W K C R h =
-    let a : ForestAnswered K C R = forest-answered K C R h in
-    grew-each (λ t. Counted (C .shape .features) (t .report)) (frames C) (C .given .inputs) (a .trees) (a .grew) (counted (from 0 (C .trees)))
+forest-numbers W K C R g t h = tree-numbers W K (treeCallAt C t) (ownRooms R) _ (tree-alone K C R g t h .answer)
+
+-- where the node column is as long as there are trees, it holds what they are long and no more
+nodes-written : (ts : List Tree) (old : List ℕ) → length old ≡ length ts → Every (λ (t : Tree). t .report .nodes ≡ length (t .nodes)) ts
+    → front (map (λ (r : Report). r .nodes) (map (λ (t : Tree). t .report) ts)) old ≡ map (λ (t : Tree). length (t .nodes)) ts
+nodes-written ts old n e =
+    let none : length old ≤ length told = omega (arith, n, length-map told-of (λ (r : Report). r .nodes), length-map ts (λ (t : Tree). t .report)) in
+    ap (λ l. told ++ l) (drop-of-length-le old none) ∙ append-nil told ∙ map-map (λ (r : Report). r .nodes) (λ (t : Tree). t .report) ts
+    ∙ map-same (λ (t : Tree). t .report .nodes) (λ (t : Tree). length (t .nodes)) ts e
   where
-    counted : (l : List ℕ) → Every (λ F. Then (fit F (C .given .inputs)) (λ t. Counted (C .shape .features) (t .report))) (map (frameAt C) l)
-    counted [] = tt
-    counted (t ∷ l) = (fit-counted (frameAt C t) (C .given .inputs), counted l)
+    told-of : List Report
+    told-of = map (λ (t : Tree). t .report) ts
+
+    told : List ℕ
+    told = map (λ (r : Report). r .nodes) told-of
+
+nodes-long : (trees : ℕ) (c : Reports) → T (reportsExact trees c) → length (c .nodes) ≡ trees
+unfolding reportsExact
+nodes-long trees c e =
+    eqb→eq (length (c .nodes)) trees (and-l (eqb (length (c .nodes)) trees) (eqb (length (c .depth)) trees && (eqb (length (c .mass)) trees
+    && (eqb (length (c .searches)) trees && (eqb (length (c .words)) trees && eqb (length (c .thresholds)) trees)))) e)
+
+lies : (trees room : ℕ) (ts : List Tree) (starts : List ℕ) → length ts ≡ trees → length (forestEntries ts) ≤ room
+    → Lies trees room (front (startsFrom 0 ts) starts) (map (λ (t : Tree). length (t .nodes)) ts)
+lies trees room ts starts n h =
+    record {
+      first = first-start 0 ts _ 1;
+      next = λ t l. next-start 0 ts _ t (subst (λ k. t < k) (sym n) l);
+      sum = ap (λ k. getD (front (startsFrom 0 ts) starts) k 0) (sym n) ∙ last-start 0 ts _ 0 ∙ zero-add (length (forestEntries ts)) ∙ length-forest ts;
+      enough = subst (λ k. k ≤ room) (length-forest ts) h;
+    }
 
 pub forest-room-enough : ForestRoom
-forest-room-enough W K C R h held = forest-room K C R (forest-answered K C R h) held
+forest-room-enough W K C R held g =
+    subst (λ (r : ForestRooms W). Lies (C .trees) (shortest (R .nodes)) (r .starts) (r .reports .nodes)) (sym (a .after))
+    (subst (Lies (C .trees) (shortest (R .nodes)) _)
+    (sym (nodes-written (a .trees) (R .reports .nodes) (nodes-long (C .trees) (R .reports) (forest-right K C R a .reports) ∙ sym n)
+    (trees-each K C R a (λ (t : Tree). t .report .nodes ≡ length (t .nodes)) held (λ t l. fit-reported (frameAt C t) (C .given .inputs)))))
+    (lies (C .trees) (shortest (R .nodes)) (a .trees) (R .starts) n (forest-room K C R a held)))
+  where
+    a : ForestAnswered K C R
+    a = forest-answered K C R g
+
+    n : length (a .trees) ≡ C .trees
+    n = trees-length K C R a

@@ -27,7 +27,7 @@ use Rattle.laws.specs.Passed.{goes-on, none-fails, Passed, ForestPassed, forest
 use Rattle.laws.specs.Written.{tables, trees-written, front-length, starts-length}
 use Rattle.laws.specs.Answered.{Grew, ForestAnswered, forest-answered, forest-right, trees-length}
 use Rattle.demands.specs.LeftOut.{accepted, fit-same}
-use Rattle.demands.specs.Walks.{tableOf, forest-good}
+use Rattle.demands.specs.Walks.{tableAfter, forest-good}
 
 -- ---- the statement
 
@@ -57,7 +57,7 @@ ButOne i ys zs = (k : ℕ) → k ≢ i → getD ys k nan ≡ getD zs k nan
 -- the out-of-bag means of a fit's own table, counts and features
 abbrev pub ownMeans : {W : Type 0} → Waits W → ForestCall → ForestRooms W → List Float → Outcome Reply (List Float)
 ownMeans K C R out =
-    outOfBagMeans (C .shape) (C .given .inputs .values) (C .given .counts) (tableOf C (fitForest K C R .rooms)) out
+    outOfBagMeans (C .shape) (C .given .inputs .values) (C .given .counts) (tableAfter C (fitForest K C R .rooms)) out
 
 pub record SameMean (i : ℕ) (m m′ : Outcome Reply (List Float)) : Type 0 where
   pub done : m .answer ≡ Reply.Done
@@ -73,7 +73,7 @@ OwnTarget =
 
 -- ---- the means are over the same trees
 
-ok-same : (t u : Tree) → _≡_ {A = Out Tree} (ok t) (ok u) → t ≡ u
+pub ok-same : (t u : Tree) → _≡_ {A = Out Tree} (ok t) (ok u) → t ≡ u
 ok-same t u h = ap (from-ok t) h
   where
     from-ok : Tree → Out Tree → Tree
@@ -130,9 +130,9 @@ module _ {W : Type 0} (K : Waits W) (C : ForestCall) (R : ForestRooms W) (held :
   p = forest-right K C R a
 
   -- the trees that are read are the trees that grew
-  trees-read : treesOf (tableOf C (fitForest K C R .rooms)) ≡ tables (a .trees)
+  trees-read : treesOf (tableAfter C (fitForest K C R .rooms)) ≡ tables (a .trees)
   trees-read =
-      (λ x. treesOf (tableOf C (a .after x))) ∙ trees-written (R .nodes) (R .starts) (a .trees) (C .trees) (trees-length K C R a)
+      (λ x. treesOf (tableAfter C (a .after x))) ∙ trees-written (R .nodes) (R .starts) (a .trees) (C .trees) (trees-length K C R a)
 
   starts-long : suc (C .trees) ≤ length (fitForest K C R .rooms .starts)
   starts-long =
@@ -143,7 +143,7 @@ module _ {W : Type 0} (K : Waits W) (C : ForestCall) (R : ForestRooms W) (held :
 
   -- no test of the reading fails
   reads-well : (out : List Float) → length out ≡ C .shape .rows
-      → firstFailed (outTests (C .shape) (C .given .inputs .values) (C .given .counts) (tableOf C (fitForest K C R .rooms)) out) ≡ 0
+      → firstFailed (outTests (C .shape) (C .given .inputs .values) (C .given .counts) (tableAfter C (fitForest K C R .rooms)) out) ≡ 0
   unfolding outTests
   reads-well out o =
       goes-on 1 _ _ (p .ranges)
@@ -154,9 +154,9 @@ module _ {W : Type 0} (K : Waits W) (C : ForestCall) (R : ForestRooms W) (held :
       (goes-on 8 _ _ (forest-good W K C R held h) none-fails)))))
 
   abbrev mean : ℕ → Float
-  mean i = outOfBagMean (C .shape) (C .given .inputs .values) (C .given .counts) (tableOf C (fitForest K C R .rooms)) i
+  mean i = outOfBagMean (C .shape) (C .given .inputs .values) (C .given .counts) (tableAfter C (fitForest K C R .rooms)) i
 
-  own-done : (out : List Float) → length out ≡ C .shape .rows → ownMeans K C R out .answer ≡ Reply.Done
+  pub own-done : (out : List Float) → length out ≡ C .shape .rows → ownMeans K C R out .answer ≡ Reply.Done
   unfolding outOfBagMeans reads
   own-done out o = λ x. reads (reads-well out o x) (map mean (from 0 (C .shape .rows))) out .answer
 

@@ -36,7 +36,7 @@ use Rattle.laws.specs.Outs.{bind-all, then-then, then-of, then-any, then-after,
 use Rattle.laws.specs.Stack.{root-keep}
 use Rattle.laws.specs.Lifted.{mapped, mapped-on, through, second, lift, root-lift}
 use Rattle.laws.specs.Answered.{TreeAnswered, tree-answered}
-use Rattle.demands.specs.Walks.{tree-table}
+use Rattle.demands.specs.Walks.{tree-left}
 
 -- ---- the statements
 
@@ -343,7 +343,7 @@ pub from-tape : FromTape
 unfolding frameOf paramsOf
 from-tape W K C R r random h =
     let a : TreeAnswered K C R r = tree-answered K C R r h in
-    subst (Every (CutAt (C .thresholds) (r .thresholds))) (sym (tree-table K C R r a))
+    subst (Every (CutAt (C .thresholds) (r .thresholds))) (sym (tree-left K C R r a))
     (subst (λ (x : Report). Every (CutAt (C .thresholds) (x .thresholds)) (entries (a .tree .nodes))) (a .reported)
     (then-of (λ t. Every (CutAt (C .thresholds) (t .report .thresholds)) (entries (t .nodes))) (fit (frameOf C) (C .given .inputs)) (a .tree) (a .grew)
     (fit-cut (frameOf C) (C .given .inputs) random)))

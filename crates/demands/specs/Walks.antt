@@ -1,12 +1,12 @@
 -- The walk of a good table ends: at a leaf, inside the tree, within as many steps as it has nodes. And what a fit that answers leaves is a good table,
 -- of the trees that it grew, so that every reader can go on from it. Assumes nothing.
 use Prim.Native.Nat.{ℕ, suc, _+_, _<_, _≤_}
-use native.Mathlib.Nat.{zero-add, add-zero}
+use native.Mathlib.Nat.{zero-add}
 use native.Mathlib.Omega.{arith}
 use mathlib.Core.Path.{_≡_, sym, ap, _∙_, subst}
 use mathlib.Core.Bool.{true, _&&_}
-use mathlib.Core.List.{List, [], _∷_, _++_, append-nil}
-use lib.ListN.{length, getD, take, length-append}
+use mathlib.Core.List.{List, [], _∷_}
+use lib.ListN.{length, getD, take}
 use lib.Seq.{take-at}
 use lib.Dec.{T, leb, ltb, eqb, lt→ltb, le→leb, ltb→lt, eqb-refl}
 use lib.Ieee.{Float}
@@ -18,16 +18,16 @@ use Rattle.rules.specs.Words.{every, along, alongFrom, front}
 use Rattle.rules.specs.Lent.{Columns, Entry, Waits, TreeRooms, ForestRooms, shortest, entriesAt, writeEntries}
 use Rattle.rules.specs.Draws.{ok}
 use Rattle.rules.specs.Fit.{Tree, fit, entries, paramsOf, TreeCall, frameOf, fitTree}
-use Rattle.rules.specs.Table.{isLeaf, goodFrom, goodTree, ForestTable, startsGood, treesOf, goodForest}
+use Rattle.rules.specs.Table.{isLeaf, goodFrom, goodTree, ForestTable, tableOf, startsGood, treesOf, goodForest}
 use Rattle.rules.specs.Reading.{noEntry, walked}
 use Rattle.rules.specs.Forest.{ForestCall, frameAt, startsFrom, forestEntries, fitForest}
-use Rattle.laws.specs.Lists.{Every, every-imp}
+use Rattle.laws.specs.Lists.{Every, all-pass, every-imp, every-map}
 use Rattle.laws.specs.Outs.{then-of}
 use Rattle.laws.specs.Root.{fit-reported}
 use Rattle.laws.specs.Passed.{Binary64}
 use Rattle.laws.specs.Tables.{length-entries, fit-good}
 use Rattle.laws.specs.Tables as Tables
-use Rattle.laws.specs.Written.{entries-written, tables, first-start, tableLeft, trees-written, starts-length, shortest-stays}
+use Rattle.laws.specs.Written.{tree-written, tables, first-start, last-start, tableLeft, trees-written, starts-length, shortest-stays}
 use Rattle.laws.specs.Answered.{TreeAnswered, tree-answered, tree-listed, ForestAnswered, forest-answered, trees-length, trees-each, forest-room}
 
 -- ---- the statements
@@ -44,13 +44,13 @@ TreeGood =
     → T (goodTree (C .shape .features) (entriesAt (fitTree K C R .rooms .nodes) 0 (r .nodes)))
 
 -- a forest's is its nodes and starts
-abbrev pub tableOf : {W : Type 0} → ForestCall → ForestRooms W → ForestTable
-tableOf C R = record { trees = C .trees; nodes = R .nodes; starts = R .starts }
+abbrev pub tableAfter : {W : Type 0} → ForestCall → ForestRooms W → ForestTable
+tableAfter C R = tableOf (C .trees) (R .starts) (R .nodes)
 
 abbrev pub ForestGood : Type 1
 ForestGood =
     (W : Type 0) (K : Waits W) (C : ForestCall) (R : ForestRooms W) → Binary64 (C .given .inputs .values) → fitForest K C R .answer ≡ ForestAnswer.Grown
-    → T (goodForest (C .shape .features) (tableOf C (fitForest K C R .rooms)))
+    → T (goodForest (C .shape .features) (tableAfter C (fitForest K C R .rooms)))
 
 -- ---- walks
 
@@ -63,17 +63,16 @@ walk-ends features rs good xs = let e = Tables.walk-ends features rs good xs in 
 pub reported-nodes : (C : TreeCall) (t : Tree) → fit (frameOf C) (C .given .inputs) ≡ ok t → t .report .nodes ≡ length (t .nodes)
 reported-nodes C t e = then-of (λ (u : Tree). u .report .nodes ≡ length (u .nodes)) (fit (frameOf C) (C .given .inputs)) t e (fit-reported (frameOf C) (C .given .inputs))
 
--- the table is read back as it was grown
-pub tree-table : {W : Type 0} (K : Waits W) (C : TreeCall) (R : TreeRooms W) (r : Report) (a : TreeAnswered K C R r) → entriesAt (fitTree K C R .rooms .nodes) 0 (r .nodes) ≡ entries (a .tree .nodes)
-tree-table K C R r a =
-    (λ i. entriesAt (a .after i .nodes) 0 (sym (a .reported) i .nodes))
-    ∙ ap (λ m. entriesAt (writeEntries (entries (a .tree .nodes)) (R .nodes)) 0 m) (reported-nodes C (a .tree) (a .grew) ∙ sym (length-entries (a .tree .nodes)))
-    ∙ entries-written (entries (a .tree .nodes)) (R .nodes) (entries (a .tree .nodes)) [] [] (sym (append-nil (entries (a .tree .nodes))))
+-- the entries that are left are those of the nodes that grew
+pub tree-left : {W : Type 0} (K : Waits W) (C : TreeCall) (R : TreeRooms W) (r : Report) (a : TreeAnswered K C R r)
+    → entriesAt (fitTree K C R .rooms .nodes) 0 (r .nodes) ≡ entries (a .tree .nodes)
+tree-left K C R r a =
+    (λ i. entriesAt (a .after i .nodes) 0 (sym (a .reported) i .nodes)) ∙ tree-written (a .tree) (R .nodes) (reported-nodes C (a .tree) (a .grew))
 
 pub tree-good : TreeGood
 unfolding frameOf paramsOf
 tree-good W K C R r held h =
-    subst (λ rs. T (goodTree (C .shape .features) rs)) (sym (tree-table K C R r a))
+    subst (λ rs. T (goodTree (C .shape .features) rs)) (sym (tree-left K C R r a))
     (then-of (λ t. T (goodTree (C .shape .features) (entries (t .nodes)))) (fit (frameOf C) (C .given .inputs)) (a .tree) (a .grew)
     (fit-good (frameOf C) (C .given .inputs) (tree-listed K C R held (a .passed) .0)))
   where
@@ -101,21 +100,6 @@ starts-rise a (t ∷ ts) e = rises-on a (a + length (t .nodes)) ts (more a (leng
     more : (b n : ℕ) → 0 < n → b < b + n
     more b n h = omega arith
 
-last-start : (a : ℕ) (ts : List Tree) (x : List ℕ) (d : ℕ) → getD (startsFrom a ts ++ x) (length ts) d ≡ a + length (forestEntries ts)
-unfolding startsFrom forestEntries
-last-start a [] x d = sym (add-zero a)
-last-start a (t ∷ ts) x d =
-    last-start (a + length (t .nodes)) ts x d
-    ∙ sum a (length (t .nodes)) (length (entries (t .nodes))) (length (forestEntries ts)) (length (entries (t .nodes) ++ forestEntries ts)) (length-entries (t .nodes)) (length-append (entries (t .nodes)) (forestEntries ts))
-  where
-    sum : (a n m k t : ℕ) → m ≡ n → t ≡ m + k → a + n + k ≡ a + t
-    sum a n m k t h₁ h₂ = omega arith
-
-every-table : (features : ℕ) (ts : List Tree) → Every (λ (t : Tree). T (goodTree features (entries (t .nodes)))) ts → T (every (goodTree features) (tables ts))
-unfolding every
-every-table features [] e = tt
-every-table features (t ∷ ts) e = and-i (goodTree features (entries (t .nodes))) (every (goodTree features) (tables ts)) (e .0) (every-table features ts (e .1))
-
 -- a good tree has a node
 good-some : (features : ℕ) (t : Tree) → T (goodTree features (entries (t .nodes))) → 0 < length (t .nodes)
 unfolding goodTree
@@ -137,7 +121,7 @@ written-good features trees c starts ts n e room =
     (le→leb (getD s trees (suc top)) top
     (subst (λ m. m ≤ top) (sym (ap (λ k. getD s k (suc top)) (sym n) ∙ last-start 0 ts _ (suc top) ∙ zero-add (length (forestEntries ts))))
     (subst (λ m. length (forestEntries ts) ≤ m) (sym (shortest-stays (forestEntries ts) c room)) room)))))
-    (subst (λ l. T (every (goodTree features) l)) (sym (trees-written c starts ts trees n)) (every-table features ts e))
+    (subst (λ l. T (every (goodTree features) l)) (sym (trees-written c starts ts trees n)) (all-pass (goodTree features) (tables ts) (every-map _ _ ts e)))
   where
     s : List ℕ
     s = front (startsFrom 0 ts) starts
@@ -148,7 +132,7 @@ written-good features trees c starts ts n e room =
 pub forest-good : ForestGood
 unfolding frameAt paramsOf
 forest-good W K C R held h =
-    subst (λ (r : ForestRooms W). T (goodForest (C .shape .features) (tableOf C r))) (sym (a .after))
+    subst (λ (r : ForestRooms W). T (goodForest (C .shape .features) (tableAfter C r))) (sym (a .after))
     (written-good (C .shape .features) (C .trees) (R .nodes) (R .starts) (a .trees) (trees-length K C R a)
     (trees-each K C R a (λ (t : Tree). T (goodTree (C .shape .features) (entries (t .nodes)))) held (λ t l. fit-good (frameAt C t) (C .given .inputs) l))
     (forest-room K C R a held))

@@ -1,4 +1,4 @@
--- What the exported calls promise: a call's own definition, its answer as it is told. Assumes nothing.
+-- What was made of plain numbers stands for them: a call's own definition, its answer as it is told. Assumes nothing.
 use Prim.Native.Nat.{ℕ}
 use mathlib.Core.Path.{_≡_, ap, _∙_}
 use mathlib.Core.List.{List}
@@ -10,38 +10,14 @@ use Rattle.rules.specs.declared.Scale.{Scale}
 use Rattle.rules.specs.declared.TreeAnswer.{TreeAnswer}
 use Rattle.rules.specs.declared.ForestAnswer.{ForestAnswer}
 use Rattle.rules.specs.declared.Reply.{Reply}
+use Rattle.rules.specs.declared.TreeTold.{TreeTold}
+use Rattle.rules.specs.declared.ForestTold.{ForestTold}
 use Rattle.rules.specs.Lent.{Given, Columns, TreeRooms, ForestRooms, Outcome, Stack, stack}
-use Rattle.rules.specs.Answers.{treeTold, forestTold, replyTold}
-use Rattle.rules.specs.Fit.{TreeCall, fitTree}
-use Rattle.rules.specs.Forest.{ForestCall, fitForest}
+use Rattle.rules.specs.Fit.{treeCall, fitTree}
+use Rattle.rules.specs.Forest.{forestCall, fitForest}
 use Rattle.rules.specs.Reading.{treeImportances}
-use Rattle.numbers.specs.declared.TreeTold.{TreeTold}
-use Rattle.numbers.specs.declared.ForestTold.{ForestTold}
-use Rattle.numbers.specs.Plain.{treeNumbers, forestNumbers}
-
-abbrev pub treeCall : Shape → Settings → ℕ → Given → List ℕ → List Float → TreeCall
-treeCall shape settings tried given words thresholds =
-    record { shape = shape; settings = settings; tried = tried; given = given; words = words; thresholds = thresholds }
-
-abbrev pub forestCall : Shape → ℕ → Settings → Tried → Given → List ℕ → List Float → List ℕ → List ℕ → ForestCall
-forestCall shape trees settings tried given words thresholds wordCuts thresholdCuts =
-    record {
-      shape = shape;
-      trees = trees;
-      settings = settings;
-      tried = tried;
-      given = given;
-      words = words;
-      thresholds = thresholds;
-      wordCuts = wordCuts;
-      thresholdCuts = thresholdCuts;
-    }
-
--- the answer as it is told, and the rooms
-abbrev pub told : {A B R : Type 0} → (A → B) → Outcome A R → Outcome B R
-told f o = record { answer = f (o .answer); rooms = o .rooms }
-
--- ---- what was made of plain numbers stands for them
+use Rattle.rules.specs.Answers.{treeTold, forestTold, replyTold, told}
+use Rattle.rules.specs.Plain.{treeNumbers, forestNumbers}
 
 pub answer-told : {A B R : Type 0} (f : A → B) {a : A} {b : B} {rooms : R} {o : Outcome A R} → record { answer = a; rooms = rooms } ≡ o → b ≡ f a
     → record { answer = b; rooms = rooms } ≡ told f o

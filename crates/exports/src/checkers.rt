@@ -1,11 +1,11 @@
 // Checks of listings and of tables, and a node read out.
 ghost use mathlib.Core.Path.{_≡_};
+ghost use Rattle.rules.specs.Lent.{columnsOf};
 ghost use Rattle.rules.specs.Answers.{replyTold, nodeTold};
 ghost use Rattle.rules.specs.Listing.{checkListings};
-ghost use Rattle.rules.specs.Table.{checkTree, checkForest, readNode};
-ghost use Rattle.tables.specs.Table.{columnsOf, tableOf};
-ghost use Rattle.numbers.specs.Plain.{nodeNumbers};
-use numbers::NodeTold;
+ghost use Rattle.rules.specs.Table.{checkTree, checkForest, readNode, tableOf};
+ghost use Rattle.rules.specs.Plain.{nodeNumbers};
+use rules::NodeTold;
 use rules::Shape;
 
 #[no_mangle]

@@ -1,17 +1,15 @@
 // The fits.
 ghost use mathlib.Core.Path.{_≡_};
-ghost use Rattle.rules.specs.Lent.{TreeRooms, ForestRooms, Outcome, Stack, stack};
-ghost use Rattle.rules.specs.Answers.{Told, treeTold, forestTold};
-ghost use Rattle.rules.specs.Fit.{fitTree};
-ghost use Rattle.rules.specs.Forest.{fitForest};
-ghost use Rattle.checks.specs.Lent.{givenOf};
-ghost use Rattle.numbers.specs.Plain.{treeSettingsOf, forestSettingsOf, triedFrom, treeNumbers, forestNumbers};
-ghost use Rattle.exports.specs.Calls.{treeCall, forestCall, told};
-use numbers::ForestSettings;
-use numbers::ForestTold;
-use numbers::TreeSettings;
-use numbers::TreeTold;
+ghost use Rattle.rules.specs.Lent.{TreeRooms, ForestRooms, Outcome, Stack, stack, givenOf};
+ghost use Rattle.rules.specs.Answers.{Told, treeTold, forestTold, told};
+ghost use Rattle.rules.specs.Fit.{fitTree, treeCall};
+ghost use Rattle.rules.specs.Forest.{fitForest, forestCall};
+ghost use Rattle.rules.specs.Plain.{treeSettingsOf, forestSettingsOf, triedFrom, treeNumbers, forestNumbers};
+use rules::ForestSettings;
+use rules::ForestTold;
 use rules::Shape;
+use rules::TreeSettings;
+use rules::TreeTold;
 
 #[no_mangle]
 pub extern "C" fn tailboardy_fit_tree(

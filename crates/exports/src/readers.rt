@@ -3,14 +3,13 @@ ghost use mathlib.Core.Path.{_≡_};
 ghost use mathlib.Core.List.{List};
 ghost use Prim.Native.Nat.{ℕ};
 ghost use lib.Ieee.{Float};
-ghost use Rattle.rules.specs.Lent.{Outcome};
-ghost use Rattle.rules.specs.Answers.{replyTold, errorTold};
+ghost use Rattle.rules.specs.Lent.{Outcome, columnsOf};
+ghost use Rattle.rules.specs.Table.{tableOf};
+ghost use Rattle.rules.specs.Answers.{replyTold, errorTold, told};
 ghost use Rattle.rules.specs.Reading.{predictTree, forestMeans, treeImportances, forestImportances};
 ghost use Rattle.rules.specs.OutOfBag.{outOfBagMeans, outOfBagError};
-ghost use Rattle.tables.specs.Table.{columnsOf, tableOf};
-ghost use Rattle.numbers.specs.Plain.{scaleOf, errorNumbers};
-ghost use Rattle.exports.specs.Calls.{told};
-use numbers::ErrorTold;
+ghost use Rattle.rules.specs.Plain.{scaleOf, errorNumbers};
+use rules::ErrorTold;
 use rules::Shape;
 
 #[no_mangle]

@@ -1,8 +1,7 @@
 // The fit of a forest: checks, its trees one after another, and the rooms as they are left.
 ghost use mathlib.Core.Path.{_≡_};
-ghost use Rattle.rules.specs.Lent.{Reports, ForestRooms, Outcome, Stack, stack, zeroReports};
+ghost use Rattle.rules.specs.Lent.{Reports, ForestRooms, Outcome, Stack, stack, zeroReports, givenOf};
 ghost use Rattle.rules.specs.Forest.{fitForest};
-ghost use Rattle.checks.specs.Lent.{givenOf};
 ghost use Rattle.forest.specs.Ends.{Left, leaves};
 use checks::Lengths;
 use checks::ReportLengths;

@@ -1,10 +1,10 @@
 -- What a fit that answers has passed, grown and written. Assumes nothing.
 use Prim.Native.Nat.{ℕ, zero, suc, _+_, _<_, _≤_}
-use native.Mathlib.Nat.{le-trans}
+use native.Mathlib.Nat.{le-trans, zero-add, add-zero, not-suc-le-zero, le-of-suc-le-suc}
 use native.Mathlib.Omega.{arith}
 use mathlib.Core.Path.{_≡_, refl, sym, ap, _∙_, subst}
 use mathlib.Core.List.{List, [], _∷_, _++_, map}
-use lib.ListN.{length, length-map, length-append}
+use lib.ListN.{length, getD, length-map, length-append}
 use Rattle.rules.specs.declared.Report.{Report}
 use Rattle.rules.specs.declared.TreeAnswer.{TreeAnswer}
 use Rattle.rules.specs.declared.ForestAnswer.{ForestAnswer}
@@ -27,7 +27,7 @@ IsGrown (TreeAnswer.Refused n) = ⊥
 IsGrown (TreeAnswer.BadDraw d) = ⊥
 IsGrown (TreeAnswer.Grown r) = Unit {0}
 
-abbrev reportOr : Report → TreeAnswer → Report
+abbrev pub reportOr : Report → TreeAnswer → Report
 reportOr d (TreeAnswer.Refused n) = d
 reportOr d (TreeAnswer.BadDraw x) = d
 reportOr d (TreeAnswer.Grown r) = r
@@ -86,6 +86,24 @@ grew-length [] D (t ∷ ts) g = absurd g
 grew-length (F ∷ Fs) D [] g = absurd g
 grew-length (F ∷ Fs) D (t ∷ ts) g = ap suc (grew-length Fs D ts (g .1))
 
+-- a fit among them, and where its tree is found in any column of the trees
+pub record GrewAt (o : Out Tree) (ts : List Tree) (t : ℕ) : Type 1 where
+  pub tree : Tree
+  pub grew : o ≡ ok tree
+  pub at : {A : Type 0} (f : Tree → A) (x : List A) (d : A) → getD (map f ts ++ x) t d ≡ f tree
+
+pub grew-at : (F : ℕ → Frame) (D : Data) (k n : ℕ) (ts : List Tree) → Grew (map F (from k n)) D ts → (t : ℕ) → t < n → GrewAt (fit (F (k + t)) D) ts t
+unfolding from
+grew-at F D k zero ts g t h = absurd (not-suc-le-zero h)
+grew-at F D k (suc n) [] g t h = absurd g
+grew-at F D k (suc n) (x ∷ ts) g zero h = record { tree = x; grew = ap (λ j. fit (F j) D) (add-zero k) ∙ g .0; at = λ f r d. refl }
+grew-at F D k (suc n) (x ∷ ts) g (suc t) h =
+    let u = grew-at F D (suc k) n ts (g .1) t (le-of-suc-le-suc h) in
+    record { tree = u .tree; grew = ap (λ j. fit (F j) D) (shift k t) ∙ u .grew; at = u .at }
+  where
+    shift : (k t : ℕ) → k + suc t ≡ suc k + t
+    shift k t = omega arith
+
 -- what holds of each fit holds of each tree
 pub grew-each : (Q : Tree → Type 0) (Fs : List Frame) (D : Data) (ts : List Tree) → Grew Fs D ts → Every (λ F. Then (fit F D) Q) Fs → Every Q ts
 grew-each Q [] D [] g h = tt
@@ -140,6 +158,11 @@ module _ {W : Type 0} (K : Waits W) where
     pub trees-length : length (a .trees) ≡ C .trees
     unfolding frames
     trees-length = grew-length (frames C) (C .given .inputs) (a .trees) (a .grew) ∙ length-map (from 0 (C .trees)) (frameAt C) ∙ length-from 0 (C .trees)
+
+    -- tree t of it
+    pub tree-at : (t : ℕ) → t < C .trees → GrewAt (fit (frameAt C t) (C .given .inputs)) (a .trees) t
+    unfolding frames
+    tree-at t h = subst (λ k. GrewAt (fit (frameAt C k) (C .given .inputs)) (a .trees) t) (zero-add t) (grew-at (frameAt C) (C .given .inputs) 0 (C .trees) (a .trees) (a .grew) t h)
 
     -- what holds of every fit of these listings holds of each tree
     pub trees-each : (Q : Tree → Type 0) → Binary64 (C .given .inputs .values)

@@ -8,6 +8,8 @@ pub mod Values
 pub mod Cuts
 pub mod Room
 pub mod Spent
+pub mod Follows
+pub mod Tapes
 pub mod Splits
 pub mod Root
 pub mod Passed

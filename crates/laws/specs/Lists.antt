@@ -1,13 +1,14 @@
 -- Laws of lists, in the words of the rules. Assumes nothing.
-use Prim.Native.Nat.{ℕ, zero, suc, _+_, _*_, _<_, _≤_}
+use Prim.Native.Nat.{ℕ, zero, suc, _+_, _-_, _*_, _<_, _≤_}
 use native.Mathlib.Nat.{add-zero, zero-add, add-assoc, zero-mul, suc-mul, not-suc-le-zero, le-of-suc-le-suc}
 use native.Mathlib.Omega.{arith}
 use mathlib.Core.Path.{_≡_, refl, sym, ap, _∙_, subst}
 use mathlib.Core.Bool.{Bool, true, false, not, _&&_, _||_, cond}
 use mathlib.Core.List.{List, [], _∷_, _++_, map}
 use lib.ListN.{length, getD, set, take, drop, List·getD-map}
+use lib.Seq.{take-nil}
 use lib.Dec.{T}
-use lib.Ieee.Fits.{and-l, and-r}
+use lib.Ieee.Fits.{and-l, and-r, and-i}
 use Rattle.rules.specs.Words.{from, putIf, keep, every, along, alongFrom, total}
 
 -- ---- bools
@@ -36,6 +37,12 @@ module _ {ℓ} {A : Type ℓ} where
   unfolding every
   each p [] t = tt
   each p (x ∷ l) t = (and-l (p x) (every p l) t, each p l (and-r (p x) (every p l) t))
+
+  -- and the other way
+  pub all-pass : (p : A → Bool) (l : List A) → Every (λ x. T (p x)) l → T (every p l)
+  unfolding every
+  all-pass p [] h = tt
+  all-pass p (x ∷ l) h = and-i (p x) (every p l) (h .0) (all-pass p l (h .1))
 
   pub every-all : (Q : A → Type 0) → ((x : A) → Q x) → (l : List A) → Every Q l
   every-all Q h [] = tt
@@ -145,7 +152,7 @@ module _ {ℓ} {A : Type ℓ} where
   unfolding keep
   getD-keep p cs j = List·getD-map (keep p) cs j []
 
-put-map {ℓ κ} : {A : Type ℓ} {B : Type κ} (f : A → B) (b : Bool) (x : A) (l : List A) → putIf b (f x) (map f l) ≡ map f (putIf b x l)
+pub put-map {ℓ κ} : {A : Type ℓ} {B : Type κ} (f : A → B) (b : Bool) (x : A) (l : List A) → putIf b (f x) (map f l) ≡ map f (putIf b x l)
 unfolding putIf
 put-map f true x l = refl
 put-map f false x l = refl
@@ -161,6 +168,14 @@ pub same-default {ℓ} : {A : Type ℓ} (l : List A) (i : ℕ) (d e : A) → i <
 same-default [] i d e h = absurd (not-suc-le-zero h)
 same-default (x ∷ l) zero d e h = refl
 same-default (x ∷ l) (suc i) d e h = same-default l i d e (le-of-suc-le-suc h)
+
+-- ---- the entries from place a up to place n
+
+pub drop-take {ℓ} : {A : Type ℓ} (a n : ℕ) (l : List A) → drop a (take n l) ≡ take (n - a) (drop a l)
+drop-take zero n l = let e : n - 0 ≡ n = omega arith in rw e
+drop-take (suc a) zero l = let e : 0 - suc a ≡ 0 = omega arith in rw e
+drop-take (suc a) (suc n) [] = sym (take-nil (suc n - suc a))
+drop-take (suc a) (suc n) (x ∷ l) = let e : suc n - suc a ≡ n - a = omega arith in rw e (drop-take a n l)
 
 -- ---- what it weighs
 
@@ -245,6 +260,13 @@ unfolding from
 every-from Q a zero e j h = absurd (not-suc-le-zero h)
 every-from Q a (suc n) e zero h = subst Q (sym (add-zero a)) (e .0)
 every-from Q a (suc n) e (suc j) h = subst Q (shift a j) (every-from Q (suc a) n (e .1) j (le-of-suc-le-suc h))
+
+-- one of a range weighs no more than all
+pub total-from {ℓ} : {A : Type ℓ} (f : A → ℕ) (g : ℕ → A) (a n j : ℕ) → j < n → f (g (a + j)) ≤ total f (map g (from a n))
+unfolding total from
+total-from f g a zero j h = absurd (not-suc-le-zero h)
+total-from f g a (suc n) zero h = subst (λ k. f (g k) ≤ f (g a) + total f (map g (from (suc a) n))) (sym (add-zero a)) (omega arith)
+total-from f g a (suc n) (suc j) h = subst (λ k. f (g k) ≤ f (g a) + total f (map g (from (suc a) n))) (shift a j) (omega (arith, total-from f g (suc a) n j (le-of-suc-le-suc h)))
 
 -- ---- order: each entry before all that follow
 

@@ -3,11 +3,11 @@ use Prim.Native.Nat.{ℕ, zero, suc, _+_, _-_, _<_, _≤_, min}
 use native.Mathlib.Nat.{add-zero, not-suc-le-zero, le-of-suc-le-suc}
 use native.Mathlib.Omega.{arith}
 use mathlib.Core.Path.{_≡_, refl, sym, ap, _∙_, subst}
-use mathlib.Core.List.{List, [], _∷_, _++_, map, append-assoc}
+use mathlib.Core.List.{List, [], _∷_, _++_, map, append-assoc, append-nil}
 use lib.ListN.{length, getD, drop, length-append, length-drop, length-map}
 use lib.Seq.{getD-drop, getD-append-seam, drop-drop}
 use lib.Ieee.{nan}
-use Rattle.rules.specs.Words.{from, front}
+use Rattle.rules.specs.Words.{from, front, total}
 use Rattle.rules.specs.Lent.{Columns, Entry, shortest, entryAt, entriesAt, writeEntries}
 use Rattle.rules.specs.Fit.{entries, Tree}
 use Rattle.rules.specs.Table.{treeAt, ForestTable, treesOf}
@@ -56,6 +56,12 @@ entries-written all c (x ∷ mid) pre post e =
     rest : map (entryAt (writeEntries all c)) (from (length (pre ++ (x ∷ []))) (length mid)) ≡ mid → map (entryAt (writeEntries all c)) (from (suc (length pre)) (length mid)) ≡ mid
     rest h = ap (λ n. map (entryAt (writeEntries all c)) (from n (length mid))) (sym (length-append pre (x ∷ []) ∙ one (length pre))) ∙ h
 
+-- one tree, of as many nodes as it reports
+pub tree-written : (t : Tree) (c : Columns) → t .report .nodes ≡ length (t .nodes) → entriesAt (writeEntries (entries (t .nodes)) c) 0 (t .report .nodes) ≡ entries (t .nodes)
+tree-written t c h =
+    ap (λ n. entriesAt (writeEntries (entries (t .nodes)) c) 0 n) (h ∙ sym (length-entries (t .nodes)))
+    ∙ entries-written (entries (t .nodes)) c (entries (t .nodes)) [] [] (sym (append-nil (entries (t .nodes))))
+
 -- ---- a forest's trees
 
 abbrev pub tables : List Tree → List (List Entry)
@@ -65,6 +71,31 @@ pub first-start : (a : ℕ) (ts : List Tree) (x : List ℕ) (d : ℕ) → getD (
 unfolding startsFrom
 first-start a [] x d = refl
 first-start a (t ∷ ts) x d = refl
+
+pub last-start : (a : ℕ) (ts : List Tree) (x : List ℕ) (d : ℕ) → getD (startsFrom a ts ++ x) (length ts) d ≡ a + length (forestEntries ts)
+unfolding startsFrom forestEntries
+last-start a [] x d = sym (add-zero a)
+last-start a (t ∷ ts) x d =
+    last-start (a + length (t .nodes)) ts x d
+    ∙ sum a (length (t .nodes)) (length (entries (t .nodes))) (length (forestEntries ts)) (length (entries (t .nodes) ++ forestEntries ts))
+    (length-entries (t .nodes)) (length-append (entries (t .nodes)) (forestEntries ts))
+  where
+    sum : (a n m k t : ℕ) → m ≡ n → t ≡ m + k → a + n + k ≡ a + t
+    sum a n m k t h₁ h₂ = omega arith
+
+-- each starts where the one before it ends
+pub next-start : (a : ℕ) (ts : List Tree) (x : List ℕ) (t : ℕ) → t < length ts
+    → getD (startsFrom a ts ++ x) (suc t) 0 ≡ getD (startsFrom a ts ++ x) t 0 + getD (map (λ (u : Tree). length (u .nodes)) ts) t 0
+unfolding startsFrom
+next-start a [] x t h = absurd (not-suc-le-zero h)
+next-start a (u ∷ ts) x zero h = first-start (a + length (u .nodes)) ts x 0
+next-start a (u ∷ ts) x (suc t) h = next-start (a + length (u .nodes)) ts x t (le-of-suc-le-suc h)
+
+-- all the nodes
+pub length-forest : (ts : List Tree) → length (forestEntries ts) ≡ total (λ n. n) (map (λ (u : Tree). length (u .nodes)) ts)
+unfolding forestEntries total
+length-forest [] = refl
+length-forest (t ∷ ts) = length-append (entries (t .nodes)) (forestEntries ts) ∙ (λ i. length-entries (t .nodes) i + length-forest ts i)
 
 trees-from : (all : List Entry) (c : Columns) (starts : List ℕ) (x : List ℕ) (ts : List Tree) (k : ℕ) (pre : List Entry) → all ≡ pre ++ forestEntries ts → drop k starts ≡ startsFrom (length pre) ts ++ x
     → map (treeAt (writeEntries all c) starts) (from k (length ts)) ≡ tables ts

@@ -1,4 +1,4 @@
--- plain numbers as the rules' inputs and answers
+-- plain numbers, put together
 pub mod Plain
 -- a node read out, as plain numbers
 pub mod Nodes

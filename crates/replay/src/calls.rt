@@ -3,9 +3,9 @@
 ghost use mathlib.Core.Path.{_≡_};
 ghost use lib.Ieee as Ieee;
 ghost use lib.Ieee.{binary64};
-use numbers::TreeSettings;
 use rules::Settings;
 use rules::Shape;
+use rules::TreeSettings;
 
 // The end of a list that is malformed or cut off, and of every further list.
 pub const NOWHERE: usize = 18446744073709551615;

@@ -5,7 +5,7 @@ use crate::calls;
 use crate::rooms;
 use crate::rooms::Check;
 use crate::rooms::Verdict;
-use numbers::ForestTold;
+use rules::ForestTold;
 use rules::Settings;
 use rules::Shape;
 use rules::Tried;

@@ -4,7 +4,7 @@ ghost use lib.ListN.{length};
 use crate::calls;
 use crate::rooms;
 use crate::rooms::Verdict;
-use numbers::NodeTold;
+use rules::NodeTold;
 
 fn told_of(t: NodeTold) -> [usize; 8]
     ensures { λ r. ⌜ 8 ≡ length r ⌝ }

@@ -4,9 +4,9 @@ ghost use lib.ListN.{length};
 use crate::calls;
 use crate::rooms;
 use crate::rooms::Verdict;
-use numbers::TreeTold;
 use rules::Settings;
 use rules::Shape;
+use rules::TreeTold;
 
 fn told_of(t: TreeTold) -> [usize; 9]
     ensures { λ r. ⌜ 9 ≡ length r ⌝ }

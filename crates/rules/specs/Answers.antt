@@ -9,7 +9,7 @@ use Rattle.rules.specs.declared.Reply.{Reply}
 use Rattle.rules.specs.declared.ErrorReply.{ErrorReply}
 use Rattle.rules.specs.declared.NodeReply.{NodeReply}
 use Rattle.rules.specs.Words.{nought}
-use Rattle.rules.specs.Lent.{Entry, leafEntry}
+use Rattle.rules.specs.Lent.{Entry, Outcome, leafEntry}
 use Rattle.rules.specs.Fit.{entryOf}
 
 -- what a fit tells: zeros where it is refused, but for the place of a bad draw
@@ -55,3 +55,7 @@ abbrev pub nodeTold : NodeReply → NodeTold
 nodeTold (NodeReply.Refused n) = record { number = n; there = false; entry = leafEntry nought }
 nodeTold NodeReply.Missing = record { number = 0; there = false; entry = leafEntry nought }
 nodeTold (NodeReply.Read m) = record { number = 0; there = true; entry = entryOf (m .value) (m .kind) }
+
+-- of a call that writes: its answer as it is told, and the rooms
+abbrev pub told : {A B R : Type 0} → (A → B) → Outcome A R → Outcome B R
+told f o = record { answer = f (o .answer); rooms = o .rooms }

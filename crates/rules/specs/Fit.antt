@@ -114,6 +114,10 @@ pub record TreeCall : Type 0 where
   pub words : List ℕ
   pub thresholds : List Float
 
+abbrev pub treeCall : Shape → Settings → ℕ → Given → List ℕ → List Float → TreeCall
+treeCall shape settings tried given words thresholds =
+    record { shape = shape; settings = settings; tried = tried; given = given; words = words; thresholds = thresholds }
+
 unfoldable pub frameOf : TreeCall → Frame
 frameOf C =
     record {

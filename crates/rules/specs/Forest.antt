@@ -29,6 +29,20 @@ pub record ForestCall : Type 0 where
   pub wordCuts : List ℕ
   pub thresholdCuts : List ℕ
 
+abbrev pub forestCall : Shape → ℕ → Settings → Tried → Given → List ℕ → List Float → List ℕ → List ℕ → ForestCall
+forestCall shape trees settings tried given words thresholds wordCuts thresholdCuts =
+    record {
+      shape = shape;
+      trees = trees;
+      settings = settings;
+      tried = tried;
+      given = given;
+      words = words;
+      thresholds = thresholds;
+      wordCuts = wordCuts;
+      thresholdCuts = thresholdCuts;
+    }
+
 -- how many of 1 to k have a square of at most n: for k = n, the floor of n's root
 unfoldable pub squares : ℕ → ℕ → ℕ
 squares n zero = 0

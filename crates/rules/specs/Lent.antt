@@ -23,6 +23,11 @@ pub record Given : Type 0 where
   pub weights : List Float
   pub counts : List ℕ
 
+-- from slices
+abbrev pub givenOf : List Float → List Float → List Float → List ℕ → List ℕ → Given
+givenOf values targets weights counts listings =
+    record { inputs = record { values = values; targets = targets; listings = listings }; weights = weights; counts = counts }
+
 -- what one tree grows by beside the data: its own counts and its own part of the tapes
 pub record Frame : Type 0 where
   pub rows : ℕ
@@ -75,6 +80,10 @@ pub record Columns : Type 0 where
   pub score : List Float
   pub trueChild : List ℕ
   pub falseChild : List ℕ
+
+-- from slices
+abbrev pub columnsOf : List Float → List ℕ → List Float → List Float → List ℕ → List ℕ → Columns
+columnsOf v j t s y n = record { value = v; feature = j; threshold = t; score = s; trueChild = y; falseChild = n }
 
 -- a node's place in them
 pub record Entry : Type 0 where

@@ -20,3 +20,5 @@ pub mod Reading
 pub mod OutOfBag
 -- answers in the paper's numbers
 pub mod Answers
+-- and settings and answers in plain numbers, as they cross over to Rust and C
+pub mod Plain

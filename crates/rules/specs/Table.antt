@@ -48,6 +48,10 @@ pub record ForestTable : Type 0 where
   pub nodes : Columns
   pub starts : List ℕ
 
+-- from slices
+abbrev pub tableOf : ℕ → List ℕ → Columns → ForestTable
+tableOf trees starts c = record { trees = trees; nodes = c; starts = starts }
+
 -- the start table's rule: from 0, each above the one before, the last no further than the columns reach
 unfoldable pub startsGood : ForestTable → Bool
 startsGood T =

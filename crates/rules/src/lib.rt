@@ -135,3 +135,70 @@ pub enum NodeReply {
     Missing,
     Read(Node),
 }
+
+// ---- settings and answers, as they cross over
+
+// The settings of one tree. The limit is heeded where the depth is limited; the splitter is random, or else best.
+#[repr(C)]
+pub struct TreeSettings {
+    pub limited: bool,
+    pub limit: u16,
+    pub leaf: u32,
+    pub split: u32,
+    pub tried: u32,
+    pub random: bool,
+}
+
+// The settings of a forest. How many features a search tries is heeded where it is said.
+#[repr(C)]
+pub struct ForestSettings {
+    pub limited: bool,
+    pub limit: u16,
+    pub leaf: u32,
+    pub split: u32,
+    pub said: bool,
+    pub tried: u32,
+    pub random: bool,
+}
+
+// What the fit of one tree tells: 0 or the number of a refusal, the place of a bad draw, the report of a grown tree.
+#[repr(C)]
+pub struct TreeTold {
+    pub number: u32,
+    pub tree: u32,
+    pub search: u32,
+    pub nodes: u32,
+    pub depth: u32,
+    pub mass: f64,
+    pub searches: u32,
+    pub words: u32,
+    pub thresholds: u32,
+}
+
+// What the fit of a forest tells: 0 or the number of a refusal, and the place of a bad draw.
+#[repr(C)]
+pub struct ForestTold {
+    pub number: u32,
+    pub tree: u32,
+    pub search: u32,
+}
+
+// The error, or the number of a refusal.
+#[repr(C)]
+pub struct ErrorTold {
+    pub number: u32,
+    pub error: f64,
+}
+
+// Whether the node is there, and its place in the six columns; all zero where it is not.
+#[repr(C)]
+pub struct NodeTold {
+    pub number: u32,
+    pub there: bool,
+    pub value: f64,
+    pub feature: u32,
+    pub threshold: f64,
+    pub score: f64,
+    pub yes: u32,
+    pub no: u32,
+}

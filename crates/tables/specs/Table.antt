@@ -1,4 +1,4 @@
--- Six columns as one, an entry by what the table check reads of it, and what the checks ask of their callers.
+-- An entry by what the table check reads of it, and what the checks ask of their callers.
 use Prim.Native.Nat.{ℕ, suc, _+_, _≤_}
 use mathlib.Core.Path.{_≡_}
 use mathlib.Core.Bool.{true}
@@ -8,12 +8,6 @@ use lib.Ieee.{Float}
 use Rattle.rules.specs.Words.{nought}
 use Rattle.rules.specs.Lent.{Columns, Entry, shortest}
 use Rattle.rules.specs.Table.{ForestTable, startsGood}
-
-abbrev pub columnsOf : List Float → List ℕ → List Float → List Float → List ℕ → List ℕ → Columns
-columnsOf v j t s y n = record { value = v; feature = j; threshold = t; score = s; trueChild = y; falseChild = n }
-
-abbrev pub tableOf : ℕ → List ℕ → Columns → ForestTable
-tableOf trees starts c = record { trees = trees; nodes = c; starts = starts }
 
 abbrev pub entryIs : Float → ℕ → Float → Float → ℕ → ℕ → Entry
 entryIs v j t s y n = record { value = v; feature = j; threshold = t; score = s; trueChild = y; falseChild = n }

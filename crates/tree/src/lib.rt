@@ -1,8 +1,7 @@
 // The fit of one tree: checks, set-up, growth, and the rooms as they are left.
 ghost use mathlib.Core.Path.{_≡_};
-ghost use Rattle.rules.specs.Lent.{Columns, Work, TreeRooms, Outcome, Stack, stack, zeroColumns, zeroWork};
+ghost use Rattle.rules.specs.Lent.{Columns, Work, TreeRooms, Outcome, Stack, stack, zeroColumns, zeroWork, givenOf};
 ghost use Rattle.rules.specs.Fit.{fitTree};
-ghost use Rattle.checks.specs.Lent.{givenOf};
 ghost use Rattle.tree.specs.Ends.{finished};
 use checks::Lengths;
 use plant::Planted;

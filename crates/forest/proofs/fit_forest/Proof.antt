@@ -9,10 +9,9 @@ use lib.ListN.{drop}
 use lib.Seq.{length-front}
 use lib.Dec.{T}
 use lib.Ieee.{nan, binary64, fits}
-use Rattle.rules.specs.Lent.{ForestRooms, Stack, stack}
+use Rattle.rules.specs.Lent.{ForestRooms, Stack, stack, givenOf}
 use Rattle.rules.specs.Checks.{firstFailed}
 use Rattle.rules.specs.Forest.{ForestCall, forestTests}
-use Rattle.checks.specs.Lent.{givenOf}
 use Rattle.plant.specs.Plant.{ParamsMade}
 use Rattle.tree.specs.Ends.{every-each, lent-long}
 use Rattle.forest.specs.Ends.{Made, fit-refused, fit-finished}

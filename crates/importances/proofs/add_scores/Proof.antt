@@ -5,8 +5,7 @@ use mathlib.Core.Path.{sym, subst}
 use Prim.Native.Nat.{_<_, _-_, _+_}
 use denote.Ref.{now}
 use lib.ListN.{getD}
-use Rattle.rules.specs.Lent.{Columns}
-use Rattle.tables.specs.Table.{columnsOf}
+use Rattle.rules.specs.Lent.{Columns, columnsOf}
 use Rattle.importances.specs.Scores.{Adding, adding-start, adding-turn, adding-done, split-known}
 use Rattle.importances.proofs.add_scores.Statement.{statement}
 use Rattle.importances.proofs.add_scores.Tie as tie

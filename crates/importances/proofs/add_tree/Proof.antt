@@ -3,9 +3,8 @@ use borrow.Author.Needs.{needs}
 use native.Mathlib.Omega.{arith}
 use mathlib.Core.Path.{sym, ap, _∙_, subst}
 use denote.Ref.{now}
-use Rattle.rules.specs.Lent.{Columns, entriesAt}
+use Rattle.rules.specs.Lent.{Columns, entriesAt, columnsOf}
 use Rattle.rules.specs.Reading.{scoresOf, normalised, addEach}
-use Rattle.tables.specs.Table.{columnsOf}
 use Rattle.importances.specs.Scores.{TreeLies}
 use Rattle.importances.proofs.add_tree.Statement.{statement}
 use Rattle.importances.proofs.add_tree.Tie as tie

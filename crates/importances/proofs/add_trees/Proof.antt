@@ -6,10 +6,9 @@ use mathlib.Core.Path.{_≡_, sym, ap, _∙_, subst}
 use Prim.Native.Nat.{ℕ, suc, _≤_, _<_, _-_}
 use denote.Ref.{now}
 use lib.ListN.{length, getD}
-use Rattle.rules.specs.Lent.{Columns, entriesAt}
-use Rattle.rules.specs.Table.{ForestTable, treeAt}
+use Rattle.rules.specs.Lent.{Columns, entriesAt, columnsOf}
+use Rattle.rules.specs.Table.{ForestTable, treeAt, tableOf}
 use Rattle.rules.specs.Reading.{scoresOf, normalised, addEach}
-use Rattle.tables.specs.Table.{columnsOf, tableOf}
 use Rattle.tables.specs.Laws.{start-below}
 use Rattle.importances.specs.Scores.{TreeLies, Gathering, gather-start, gather-turn, gather-done, tree-lies}
 use Rattle.importances.proofs.add_trees.Statement.{statement}

@@ -3,9 +3,8 @@ use borrow.Author.Needs.{needs}
 use native.Mathlib.Omega.{arith}
 use mathlib.Core.Path.{refl, sym, _∙_, subst}
 use denote.Ref.{now}
-use Rattle.rules.specs.Lent.{Columns}
-use Rattle.rules.specs.Table.{ForestTable}
-use Rattle.tables.specs.Table.{columnsOf, tableOf}
+use Rattle.rules.specs.Lent.{Columns, columnsOf}
+use Rattle.rules.specs.Table.{ForestTable, tableOf}
 use Rattle.importances.specs.Scores.{TreesLie}
 use Rattle.importances.specs.Calls.{few-float, front-long, Passes, forest-refused, forest-passed, forest-told}
 use Rattle.importances.proofs.forest_importances.Statement.{statement}

@@ -3,9 +3,8 @@ use borrow.Author.Needs.{needs}
 use mathlib.Core.Path.{sym, ap, _∙_, subst}
 use denote.Ref.{now}
 use Rattle.rules.specs.Words.{nought}
-use Rattle.rules.specs.Lent.{Columns, entriesAt}
+use Rattle.rules.specs.Lent.{Columns, entriesAt, columnsOf}
 use Rattle.rules.specs.Reading.{addScores, scoresOf}
-use Rattle.tables.specs.Table.{columnsOf}
 use Rattle.importances.specs.Lists.{filled-is}
 use Rattle.importances.specs.Scores.{TreeLies}
 use Rattle.importances.proofs.score_tree.Statement.{statement}

@@ -3,8 +3,7 @@ use borrow.Author.Needs.{needs}
 use mathlib.Core.Path.{refl}
 use native.Mathlib.Omega.{arith}
 use denote.Ref.{now}
-use Rattle.rules.specs.Lent.{Columns}
-use Rattle.tables.specs.Table.{columnsOf}
+use Rattle.rules.specs.Lent.{Columns, columnsOf}
 use Rattle.importances.specs.Calls.{tree-refused, tree-good, tree-told}
 use Rattle.importances.proofs.tree_importances.Statement.{statement}
 use Rattle.importances.proofs.tree_importances.Tie as tie

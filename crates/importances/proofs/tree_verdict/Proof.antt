@@ -5,12 +5,11 @@ use borrow.Author.Tests.{eq-eqb, ne-eqb, not-true, not-false}
 use mathlib.Core.Path.{_≡_, sym, ap, _∙_}
 use mathlib.Core.Bool.{true}
 use denote.Ref.{now}
-use Rattle.rules.specs.Lent.{Columns, entriesAt}
+use Rattle.rules.specs.Lent.{Columns, entriesAt, columnsOf}
 use Rattle.rules.specs.Checks.{featuresIn}
 use Rattle.rules.specs.Table.{goodTree, treeIn}
 use Rattle.rules.specs.Reading.{treeImportanceTests}
 use Rattle.checks.specs.Tests.{passes, fails, none-failed}
-use Rattle.tables.specs.Table.{columnsOf}
 use Rattle.importances.proofs.tree_verdict.Statement.{statement}
 use Rattle.importances.proofs.tree_verdict.Tie as tie
 

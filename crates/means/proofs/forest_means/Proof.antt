@@ -5,11 +5,10 @@ use mathlib.Core.List.{List, map}
 use denote.Ref.{now}
 use lib.Ieee.{Float}
 use Rattle.rules.specs.Words.{from}
-use Rattle.rules.specs.Lent.{valuesAt}
+use Rattle.rules.specs.Lent.{valuesAt, columnsOf}
 use Rattle.rules.specs.Checks.{firstFailed}
-use Rattle.rules.specs.Table.{ForestTable, treesOf}
+use Rattle.rules.specs.Table.{ForestTable, treesOf, tableOf}
 use Rattle.rules.specs.Reading.{reads, meanOf, meanTests, forestMeans}
-use Rattle.tables.specs.Table.{columnsOf, tableOf}
 use Rattle.reading.specs.Ends.{reads-refused, reads-done}
 use Rattle.means.specs.Means.{mean-passed, all-means}
 use Rattle.means.proofs.forest_means.Statement.{statement}

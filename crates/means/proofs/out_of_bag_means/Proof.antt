@@ -5,11 +5,11 @@ use mathlib.Core.List.{List, map}
 use denote.Ref.{now}
 use lib.Ieee.{Float}
 use Rattle.rules.specs.Words.{from}
+use Rattle.rules.specs.Lent.{columnsOf}
 use Rattle.rules.specs.Checks.{firstFailed}
-use Rattle.rules.specs.Table.{ForestTable}
+use Rattle.rules.specs.Table.{ForestTable, tableOf}
 use Rattle.rules.specs.Reading.{reads}
 use Rattle.rules.specs.OutOfBag.{outTests, outOfBagMean, outOfBagMeans}
-use Rattle.tables.specs.Table.{columnsOf, tableOf}
 use Rattle.reading.specs.Ends.{reads-refused, reads-done}
 use Rattle.means.specs.Means.{out-passed}
 use Rattle.means.proofs.out_of_bag_means.Statement.{statement}

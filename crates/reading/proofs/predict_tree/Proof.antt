@@ -6,11 +6,10 @@ use Prim.Native.Nat.{ℕ}
 use denote.Ref.{now}
 use lib.Ieee.{Float}
 use Rattle.rules.specs.Words.{from}
-use Rattle.rules.specs.Lent.{Columns, shortest, entriesAt}
+use Rattle.rules.specs.Lent.{Columns, shortest, entriesAt, columnsOf}
 use Rattle.rules.specs.Checks.{firstFailed}
 use Rattle.rules.specs.Table.{treeIn}
 use Rattle.rules.specs.Reading.{reads, predictTests, predictTree}
-use Rattle.tables.specs.Table.{columnsOf}
 use Rattle.reading.specs.Walks.{Readable, leafAt}
 use Rattle.reading.specs.Ends.{reads-refused, reads-done, predict-passed}
 use Rattle.reading.proofs.predict_tree.Statement.{statement}

@@ -5,12 +5,11 @@ use native.Mathlib.Omega.{arith}
 use mathlib.Core.Path.{_≡_, sym, ap, _∙_}
 use mathlib.Core.Bool.{true}
 use denote.Ref.{now}
-use Rattle.rules.specs.Lent.{Columns, entriesAt}
+use Rattle.rules.specs.Lent.{Columns, entriesAt, columnsOf}
 use Rattle.rules.specs.Checks.{shapeIn, valuesLong}
 use Rattle.rules.specs.Table.{goodTree, treeIn}
 use Rattle.rules.specs.Reading.{predictTests}
 use Rattle.checks.specs.Tests.{passes, fails, none-failed}
-use Rattle.tables.specs.Table.{columnsOf}
 use Rattle.reading.proofs.predict_verdict.Statement.{statement}
 use Rattle.reading.proofs.predict_verdict.Tie as tie
 

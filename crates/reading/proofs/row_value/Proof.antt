@@ -8,10 +8,9 @@ use denote.Ref.{now}
 use lib.ListN.{length, getD}
 use lib.Ieee.{nan, le}
 use Rattle.rules.specs.Threshold.{threshold}
-use Rattle.rules.specs.Lent.{Columns, cell, valuesAt, shortest, entryAt, entriesAt}
+use Rattle.rules.specs.Lent.{Columns, cell, valuesAt, shortest, entryAt, entriesAt, columnsOf}
 use Rattle.laws.specs.Tables.{Onward}
 use Rattle.checks.specs.Cells.{cell-lies}
-use Rattle.tables.specs.Table.{columnsOf}
 use Rattle.reading.specs.Walks.{Reached, onward, walk-starts, walk-stops, walk-goes, sent, sent-up}
 use Rattle.reading.proofs.row_value.Statement.{statement}
 use Rattle.reading.proofs.row_value.Tie as tie

@@ -2,10 +2,9 @@
 use borrow.Author.Needs.{needs}
 use mathlib.Core.Path.{sym, _∙_}
 use denote.Ref.{now}
-use Rattle.rules.specs.Table.{ForestTable, goodForest}
-use Rattle.rules.specs.Lent.{Columns}
+use Rattle.rules.specs.Table.{ForestTable, goodForest, tableOf}
+use Rattle.rules.specs.Lent.{Columns, columnsOf}
 use Rattle.checks.specs.Tests.{and-on, and-off}
-use Rattle.tables.specs.Table.{columnsOf, tableOf}
 use Rattle.tables.proofs.forest_good.Statement.{statement}
 use Rattle.tables.proofs.forest_good.Tie as tie
 

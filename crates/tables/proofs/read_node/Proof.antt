@@ -5,9 +5,8 @@ use mathlib.Core.Path.{ap, _∙_, subst}
 use Prim.Native.Nat.{_≤_, _<_}
 use denote.Ref.{now}
 use Rattle.rules.specs.Table.{nodeRead, readNode}
-use Rattle.rules.specs.Lent.{Columns}
+use Rattle.rules.specs.Lent.{Columns, columnsOf}
 use Rattle.rules.specs.declared.NodeReply.{NodeReply}
-use Rattle.tables.specs.Table.{columnsOf}
 use Rattle.tables.specs.Laws.{read-refused, read-missing, read-there}
 use Rattle.tables.proofs.read_node.Statement.{statement}
 use Rattle.tables.proofs.read_node.Tie as tie

@@ -9,12 +9,11 @@ use mathlib.Core.List.{List}
 use Prim.Native.Nat.{ℕ, suc, _≤_, _<_, _-_, _+_}
 use denote.Ref.{now}
 use lib.ListN.{getD}
-use Rattle.rules.specs.Table.{goodTree, ForestTable, treeAt, treesOf}
+use Rattle.rules.specs.Table.{goodTree, ForestTable, treeAt, treesOf, tableOf}
 use Rattle.rules.specs.Threshold.{threshold}
 use Rattle.rules.specs.Words.{from, every}
-use Rattle.rules.specs.Lent.{Columns, entriesAt}
+use Rattle.rules.specs.Lent.{Columns, entriesAt, columnsOf}
 use Rattle.checks.specs.Scans.{everyOn, count-goes, count-stops, count-ends, count-starts}
-use Rattle.tables.specs.Table.{columnsOf, tableOf}
 use Rattle.tables.specs.Laws.{every-mapped, start-below, start-inside}
 use Rattle.tables.proofs.trees_good.Statement.{statement}
 use Rattle.tables.proofs.trees_good.Tie as tie

@@ -7,10 +7,9 @@ use borrow.Author.Needs.{needs}
 use lib.Seq.{length-front}
 use lib.Dec.{T}
 use lib.Ieee.{nan, binary64, fits}
-use Rattle.rules.specs.Lent.{TreeRooms, Stack, stack}
+use Rattle.rules.specs.Lent.{TreeRooms, Stack, stack, givenOf}
 use Rattle.rules.specs.Checks.{firstFailed}
 use Rattle.rules.specs.Fit.{TreeCall, treeTests}
-use Rattle.checks.specs.Lent.{givenOf}
 use Rattle.tree.specs.Ends.{every-each, lent-long, fit-refused, fit-finished, few-features, size-low, size-room, plant-asks}
 use Rattle.tree.proofs.fit_tree.Statement.{statement}
 use Rattle.tree.proofs.fit_tree.Tie as tie

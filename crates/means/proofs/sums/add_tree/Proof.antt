@@ -5,8 +5,7 @@ use denote.Ref.{now}
 use lib.ListN.{length}
 use lib.Ieee.{Float}
 use Rattle.rules.specs.Threshold.{threshold}
-use Rattle.rules.specs.Lent.{Columns, entriesAt}
-use Rattle.tables.specs.Table.{columnsOf}
+use Rattle.rules.specs.Lent.{Columns, entriesAt, columnsOf}
 use Rattle.reading.specs.Walks.{leafAt, walkable}
 use Rattle.reading.specs.Rows.{Written, row-first, row-next, row-last}
 use Rattle.means.specs.Sums.{withTree}

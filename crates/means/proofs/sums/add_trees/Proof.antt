@@ -8,9 +8,8 @@ use mathlib.Core.List.{List}
 use denote.Ref.{now}
 use lib.ListN.{getD}
 use Rattle.rules.specs.Threshold.{threshold}
-use Rattle.rules.specs.Lent.{Entry, entriesAt}
-use Rattle.rules.specs.Table.{ForestTable, treeAt}
-use Rattle.tables.specs.Table.{columnsOf, tableOf}
+use Rattle.rules.specs.Lent.{Entry, entriesAt, columnsOf}
+use Rattle.rules.specs.Table.{ForestTable, treeAt, tableOf}
 use Rattle.tables.specs.Laws.{start-below}
 use Rattle.reading.specs.Walks.{leafAt}
 use Rattle.reading.specs.Rows.{rewritten}

@@ -6,8 +6,8 @@ use denote.Ref.{now}
 use lib.ListN.{length}
 use lib.Ieee.{Float, binary64, div}
 use Rattle.rules.specs.Words.{nought, float}
-use Rattle.rules.specs.Table.{ForestTable}
-use Rattle.tables.specs.Table.{columnsOf, tableOf}
+use Rattle.rules.specs.Lent.{columnsOf}
+use Rattle.rules.specs.Table.{ForestTable, tableOf}
 use Rattle.reading.specs.Rows.{rewritten, length-rewritten}
 use Rattle.means.specs.Sums.{outNumber, sumsAll, means-are}
 use Rattle.means.proofs.sums.means.Statement.{statement}

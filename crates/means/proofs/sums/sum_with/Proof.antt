@@ -4,8 +4,7 @@ use mathlib.Core.Path.{sym, ap, _∙_}
 use mathlib.Core.Bool.{cond}
 use denote.Ref.{now}
 use lib.Ieee.{Float, binary64, add}
-use Rattle.rules.specs.Lent.{entriesAt}
-use Rattle.tables.specs.Table.{columnsOf}
+use Rattle.rules.specs.Lent.{entriesAt, columnsOf}
 use Rattle.reading.specs.Walks.{leafAt}
 use Rattle.means.proofs.sums.sum_with.Statement.{statement}
 use Rattle.means.proofs.sums.sum_with.Tie as tie

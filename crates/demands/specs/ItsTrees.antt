@@ -1,0 +1,296 @@
+-- A forest is its trees. Tree t of a forest fit that answers is the tree that the fit of one tree gives for the same data, settings and weights, t's own counts and
+-- t's own parts of both tapes, in whatever rooms: its nodes entry by entry, and all six reports. No check but that of the room refuses that fit, and the forest's own
+-- rooms are enough for it. So trees can be grown some at a time: of two forests that have a tree with the same counts and draws, both have the same tree. It holds
+-- because nothing is handed on from one tree to the next. Assumes nothing.
+use Prim.Native.Nat.{ℕ, zero, suc, _-_, _*_, _<_, _≤_}
+use native.Mathlib.Nat.{zero-add, one-mul, suc-mul, le-trans}
+use native.Mathlib.Omega.{arith}
+use mathlib.Core.Path.{_≡_, refl, sym, ap, _∙_, subst}
+use mathlib.Core.Logic.{_≢_}
+use mathlib.Core.Bool.{Bool, true, false, _&&_, _||_, cond}
+use mathlib.Core.List.{List, [], _∷_, _++_, map, map-map, append-nil}
+use lib.ListN.{length, getD, take, drop}
+use lib.Dec.{T, leb, eqb, eqb-refl, le→leb}
+use lib.Ieee.{nan}
+use lib.Ieee.Fits.{and-l, and-i}
+use Rattle.rules.specs.declared.Report.{Report}
+use Rattle.rules.specs.declared.TreeAnswer.{TreeAnswer}
+use Rattle.rules.specs.declared.ForestAnswer.{ForestAnswer}
+use Rattle.rules.specs.Words.{front, total}
+use Rattle.rules.specs.Lent.{Frame, Reports, Waits, TreeRooms, ForestRooms, Outcome, unweighted, shortest, entriesAt}
+use Rattle.rules.specs.Checks.{Test, test, firstFailed, shapeIn, treesIn, valuesLong, listingsLong, lengths, numbersGood, countsGood, countsOne, roomFor, workEnough}
+use Rattle.rules.specs.Draws.{Out, bad, ok}
+use Rattle.rules.specs.Fit.{Tree, fit, entries, paramsOf, TreeCall, frameOf, grownTree, treeTests, treeDone, treeEnds, fitTree}
+use Rattle.rules.specs.Table.{treeAt, treesOf}
+use Rattle.rules.specs.Forest.{ForestCall, triedOf, part, frameAt, frames, grownForest, cutsGood, forestTests, forestEnds, fitForest}
+use Rattle.laws.specs.Lists.{is-true, each, all-pass, every-take, every-drop, drop-take, total-from, getD-from}
+use Rattle.laws.specs.Outs.{then-of}
+use Rattle.laws.specs.Root.{fit-reported}
+use Rattle.laws.specs.Passed.{past, ForestPassed, forest-passed}
+use Rattle.laws.specs.Written.{tree-written, tables, trees-written}
+use Rattle.laws.specs.Answered.{reportOr, GrewAt, ForestAnswered, forest-answered, trees-length, tree-at}
+use Rattle.demands.specs.LeftOut.{Unrefused}
+use Rattle.demands.specs.Parts.{tree-parts}
+
+-- ---- the statements
+
+-- the entries from place a up to place b
+abbrev pub between {ℓ} : {A : Type ℓ} → ℕ → ℕ → List A → List A
+between a b l = drop a (take b l)
+
+-- the call that fits tree t alone
+abbrev pub treeCallAt : ForestCall → ℕ → TreeCall
+treeCallAt C t =
+    record {
+      shape = C .shape;
+      settings = C .settings;
+      tried = triedOf (C .shape .features) (C .tried);
+      given = record {
+        inputs = C .given .inputs;
+        weights = C .given .weights;
+        counts = between (t * C .shape .rows) (suc t * C .shape .rows) (C .given .counts);
+      };
+      words = between (getD (C .wordCuts) t 0) (getD (C .wordCuts) (suc t) 0) (C .words);
+      thresholds = between (getD (C .thresholdCuts) t 0) (getD (C .thresholdCuts) (suc t) 0) (C .thresholds);
+    }
+
+-- place t of the six report columns
+abbrev pub reportAt : Reports → ℕ → Report
+reportAt c t =
+    record {
+      nodes = getD (c .nodes) t 0;
+      depth = getD (c .depth) t 0;
+      mass = getD (c .mass) t nan;
+      searches = getD (c .searches) t 0;
+      words = getD (c .words) t 0;
+      thresholds = getD (c .thresholds) t 0;
+    }
+
+-- what the fit of one tree leaves is tree t of what a forest fit left: the report, and the nodes between two starts
+pub record IsTree {W X : Type 0} (left : ForestRooms W) (t : ℕ) (o : Outcome TreeAnswer (TreeRooms X)) : Type 0 where
+  pub answer : o .answer ≡ TreeAnswer.Grown (reportAt (left .reports) t)
+  pub nodes : entriesAt (o .rooms .nodes) 0 (getD (left .reports .nodes) t 0) ≡ treeAt (left .nodes) (left .starts) t
+
+-- in any rooms that are not too small
+abbrev pub ItsTrees : Type 1
+ItsTrees =
+    (W X : Type 0) (K : Waits W) (L : Waits X) (C : ForestCall) (R : ForestRooms W) → fitForest K C R .answer ≡ ForestAnswer.Grown
+    → (t : ℕ) → t < C .trees → (Q : TreeRooms X) → fitTree L (treeCallAt C t) Q .answer ≢ TreeAnswer.Refused 6
+    → IsTree (fitForest K C R .rooms) t (fitTree L (treeCallAt C t) Q)
+
+-- not refused by 1 to 6
+abbrev pub ForestUnrefused : ForestAnswer → Type 0
+ForestUnrefused (ForestAnswer.Refused n) = ⊥
+ForestUnrefused (ForestAnswer.BadDraw d) = Unit {0}
+ForestUnrefused ForestAnswer.Grown = Unit {0}
+
+-- what is lent to a forest is not too small for any of its trees
+abbrev pub ownRooms : {W : Type 0} → ForestRooms W → TreeRooms W
+ownRooms R = record { nodes = R .nodes; work = R .work }
+
+abbrev pub RoomForEach : Type 1
+RoomForEach =
+    (W : Type 0) (K : Waits W) (C : ForestCall) (R : ForestRooms W) → ForestUnrefused (fitForest K C R .answer)
+    → (t : ℕ) → t < C .trees → Unrefused (fitTree K (treeCallAt C t) (ownRooms R) .answer)
+
+-- two forest fits that answer, one tree of each: where the calls that fit these trees alone are one, so are reports and nodes
+pub record SameTree {W X : Type 0} (left : ForestRooms W) (t : ℕ) (other : ForestRooms X) (u : ℕ) : Type 0 where
+  pub report : reportAt (left .reports) t ≡ reportAt (other .reports) u
+  pub nodes : treeAt (left .nodes) (left .starts) t ≡ treeAt (other .nodes) (other .starts) u
+
+abbrev pub SomeAtATime : Type 1
+SomeAtATime =
+    (W X : Type 0) (K : Waits W) (L : Waits X) (C E : ForestCall) (R : ForestRooms W) (Q : ForestRooms X)
+    → fitForest K C R .answer ≡ ForestAnswer.Grown → fitForest L E Q .answer ≡ ForestAnswer.Grown
+    → (t u : ℕ) → t < C .trees → u < E .trees → treeCallAt C t ≡ treeCallAt E u → SameTree (fitForest K C R .rooms) t (fitForest L E Q .rooms) u
+
+-- ---- a tree's frame
+
+frame-same : (C : ForestCall) (t : ℕ) → frameOf (treeCallAt C t) ≡ frameAt C t
+unfolding frameOf frameAt part
+frame-same C t =
+    λ i.
+    record {
+      rows = C .shape .rows;
+      params = paramsOf (C .settings) (triedOf (C .shape .features) (C .tried)) (C .shape .features);
+      weights = C .given .weights;
+      counts =
+          (drop-take (t * C .shape .rows) (suc t * C .shape .rows) (C .given .counts)
+          ∙ ap (λ n. take n (drop (t * C .shape .rows) (C .given .counts))) (wide t (C .shape .rows))) i;
+      words = drop-take (getD (C .wordCuts) t 0) (getD (C .wordCuts) (suc t) 0) (C .words) i;
+      thresholds = drop-take (getD (C .thresholdCuts) t 0) (getD (C .thresholdCuts) (suc t) 0) (C .thresholds) i;
+    }
+  where
+    wide : (t n : ℕ) → suc t * n - t * n ≡ n
+    wide t n = omega (arith, suc-mul t n)
+
+-- ---- its checks
+
+skips : (n : ℕ) (b : Bool) (ts : List Test) → T b → firstFailed (test n b ∷ ts) ≡ firstFailed ts
+unfolding firstFailed
+skips n true ts t = refl
+skips n false ts t = absurd t
+
+last-check : (n : ℕ) (b : Bool) → firstFailed (test n b ∷ []) ≡ cond b 0 n
+unfolding firstFailed
+last-check n b = refl
+
+eq-test : (a b : ℕ) → a ≡ b → eqb a b ≡ true
+eq-test a b q = is-true (eqb a b) (subst (λ n. T (eqb a n)) q (eqb-refl a))
+
+lengths-own : (C : ForestCall) (t : ℕ) → t < C .trees → length (C .given .counts) ≡ C .trees * C .shape .rows
+    → T (lengths (C .shape) (C .trees) (C .given) && cutsGood C) → T (lengths (C .shape) 1 (treeCallAt C t .given))
+unfolding lengths frameOf
+lengths-own C t h long g =
+    subst (λ b. T (valuesLong (C .shape) (C .given .inputs .values) && (eqb (length (C .given .inputs .targets)) (C .shape .rows)
+    && ((unweighted (C .given .weights) || eqb (length (C .given .weights)) (C .shape .rows)) && (b && listingsLong (C .shape) (C .given .inputs .listings))))))
+    (eq-test (length (C .given .counts)) (C .trees * C .shape .rows) long
+    ∙ sym (eq-test (length (treeCallAt C t .given .counts)) (1 * C .shape .rows)
+    (ap (λ (F : Frame). length (F .counts)) (frame-same C t) ∙ tree-parts C g .counts .sizes t h ∙ sym (one-mul (C .shape .rows)))))
+    (and-l (lengths (C .shape) (C .trees) (C .given)) (cutsGood C) g)
+
+module _ {W X : Type 0} (K : Waits W) (L : Waits X) (C : ForestCall) (R : ForestRooms W) (q : firstFailed (forestTests K C R) ≡ 0) (t : ℕ) (h : t < C .trees) where
+  abbrev enough : TreeRooms X → Bool
+  enough Q = leb (roomFor (frameOf (treeCallAt C t))) (shortest (Q .nodes)) && workEnough L (C .shape) (Q .work)
+
+  -- all but the last pass
+  checked : (Q : TreeRooms X) → firstFailed (treeTests L (treeCallAt C t) Q) ≡ cond (enough Q) 0 6
+  unfolding forestTests treeTests numbersGood countsGood
+  checked Q =
+      let (t₁, q₂) = past 0 _ _ q in let (t₂, q₃) = past 1 _ _ q₂ in let (t₃, q₄) = past 2 _ _ q₃ in
+      let (t₄, q₅) = past 3 _ _ q₄ in let (t₅, q₆) = past 4 _ _ q₅ in
+      skips 1 _ _ (and-l (shapeIn (C .shape)) (treesIn (C .trees)) t₁)
+      ∙ skips 2 _ _ (lengths-own C t h (forest-passed K C R q .passed .countsLong) t₂)
+      ∙ skips 3 _ _ t₃
+      ∙ skips 4 _ _ (all-pass (λ c. leb c 65535) _ (every-drop _ (t * C .shape .rows) _ (every-take _ (suc t * C .shape .rows) (C .given .counts)
+      (each (λ c. leb c 65535) (C .given .counts) (and-l (countsGood (C .given)) (countsOne (C .given)) t₄)))))
+      ∙ skips 5 _ _ t₅
+      ∙ last-check 6 (enough Q)
+
+  -- so in rooms that are not too small it is the growth of the forest's frame
+  pub own-fit : (Q : TreeRooms X) → fitTree L (treeCallAt C t) Q .answer ≢ TreeAnswer.Refused 6 → fitTree L (treeCallAt C t) Q ≡ treeDone L (fit (frameAt C t) (C .given .inputs)) Q
+  unfolding fitTree treeEnds grownTree
+  own-fit Q n = go (enough Q) (checked Q)
+    where
+      go : (b : Bool) → firstFailed (treeTests L (treeCallAt C t) Q) ≡ cond b 0 6 → fitTree L (treeCallAt C t) Q ≡ treeDone L (fit (frameAt C t) (C .given .inputs)) Q
+      go true e = λ i. treeEnds L (e i) (fit (frame-same C t i) (C .given .inputs)) Q
+      go false e = absurd (n (λ i. treeEnds L (e i) (grownTree (treeCallAt C t)) Q .answer))
+
+-- ---- what the forest left of it
+
+module _ {W : Type 0} (K : Waits W) (C : ForestCall) (R : ForestRooms W) (a : ForestAnswered K C R) (t : ℕ) (h : t < C .trees) where
+  abbrev grown : Tree
+  grown = tree-at K C R a t h .tree
+
+  report-left : reportAt (fitForest K C R .rooms .reports) t ≡ grown .report
+  report-left =
+      (λ i. reportAt (a .after i .reports) t)
+      ∙ (λ i.
+      record {
+        nodes = one (λ r. r .nodes) (R .reports .nodes) 0 i;
+        depth = one (λ r. r .depth) (R .reports .depth) 0 i;
+        mass = one (λ r. r .mass) (R .reports .mass) nan i;
+        searches = one (λ r. r .searches) (R .reports .searches) 0 i;
+        words = one (λ r. r .words) (R .reports .words) 0 i;
+        thresholds = one (λ r. r .thresholds) (R .reports .thresholds) 0 i;
+      })
+    where
+      reports : List Report
+      reports = map (λ (u : Tree). u .report) (a .trees)
+
+      one : {A : Type 0} (f : Report → A) (old : List A) (d : A) → getD (front (map f reports) old) t d ≡ f (grown .report)
+      one f old d =
+          ap (λ l. getD (l ++ drop (length (map f reports)) old) t d) (map-map f (λ (u : Tree). u .report) (a .trees))
+          ∙ tree-at K C R a t h .at (λ u. f (u .report)) (drop (length (map f reports)) old) d
+
+  nodes-left : treeAt (fitForest K C R .rooms .nodes) (fitForest K C R .rooms .starts) t ≡ entries (grown .nodes)
+  unfolding treesOf
+  nodes-left =
+      (λ i. treeAt (a .after i .nodes) (a .after i .starts) t)
+      ∙ ap (treeAt _ _) (sym (zero-add t))
+      ∙ sym (getD-from (treeAt _ _) 0 (C .trees) t [] h)
+      ∙ ap (λ l. getD l t []) (trees-written (R .nodes) (R .starts) (a .trees) (C .trees) (trees-length K C R a) ∙ sym (append-nil (tables (a .trees))))
+      ∙ tree-at K C R a t h .at (λ u. entries (u .nodes)) [] []
+
+pub its-trees : ItsTrees
+unfolding treeDone
+its-trees W X K L C R g t h Q n =
+    record {
+      answer = ap (λ (o : Outcome TreeAnswer (TreeRooms X)). o .answer) done ∙ ap TreeAnswer.Grown (sym (report-left K C R a t h));
+      nodes =
+          (λ i. entriesAt (done i .rooms .nodes) 0 (report-left K C R a t h i .nodes))
+          ∙ tree-written (u .tree) (Q .nodes)
+          (then-of (λ (x : Tree). x .report .nodes ≡ length (x .nodes)) (fit (frameAt C t) (C .given .inputs)) (u .tree) (u .grew) (fit-reported (frameAt C t) (C .given .inputs)))
+          ∙ sym (nodes-left K C R a t h);
+    }
+  where
+    a : ForestAnswered K C R
+    a = forest-answered K C R g
+
+    u : GrewAt (fit (frameAt C t) (C .given .inputs)) (a .trees) t
+    u = tree-at K C R a t h
+
+    done : fitTree L (treeCallAt C t) Q ≡ treeDone L (ok (u .tree)) Q
+    done = own-fit K L C R (a .passed) t h Q n ∙ ap (λ o. treeDone L o Q) (u .grew)
+
+-- ---- a forest that is not refused
+
+module _ {W : Type 0} (K : Waits W) (C : ForestCall) (R : ForestRooms W) where
+  pub passes : ForestUnrefused (fitForest K C R .answer) → firstFailed (forestTests K C R) ≡ 0
+  unfolding fitForest forestEnds
+  passes h = go (firstFailed (forestTests K C R)) refl h
+    where
+      go : (k : ℕ) → firstFailed (forestTests K C R) ≡ k → ForestUnrefused (forestEnds K k (grownForest C) R .answer) → firstFailed (forestTests K C R) ≡ 0
+      go zero q h = q
+      go (suc k) q h = absurd h
+
+done-unrefused : {W : Type 0} (K : Waits W) (o : Out Tree) (Q : TreeRooms W) → Unrefused (treeDone K o Q .answer)
+unfolding treeDone
+done-unrefused K (bad s) Q = tt
+done-unrefused K (ok x) Q = tt
+
+pub room-for-each : RoomForEach
+unfolding fitTree treeEnds frames
+room-for-each W K C R g t h =
+    subst (λ n. Unrefused (treeEnds K n (grownTree (treeCallAt C t)) (ownRooms R) .answer))
+    (sym (checked K K C R q t h (ownRooms R) ∙ ap (λ b. cond b 0 6) (is-true (enough K K C R q t h (ownRooms R)) all)))
+    (done-unrefused K (grownTree (treeCallAt C t)) (ownRooms R))
+  where
+    q : firstFailed (forestTests K C R) ≡ 0
+    q = passes K C R g
+
+    p : ForestPassed K C R
+    p = forest-passed K C R q
+
+    room : roomFor (frameOf (treeCallAt C t)) ≤ shortest (R .nodes)
+    room =
+        le-trans (subst (λ F. roomFor F ≤ total roomFor (frames C)) (ap (frameAt C) (zero-add t) ∙ sym (frame-same C t)) (total-from roomFor (frameAt C) 0 (C .trees) t h))
+        (p .room)
+
+    all : T (enough K K C R q t h (ownRooms R))
+    all = and-i (leb (roomFor (frameOf (treeCallAt C t))) (shortest (R .nodes))) (workEnough K (C .shape) (R .work)) (le→leb _ _ room) (p .work)
+
+-- ---- so each tree of a forest that answers is had in the forest's own rooms
+
+pub not-6 : (a : TreeAnswer) → Unrefused a → a ≢ TreeAnswer.Refused 6
+not-6 a h e = subst Unrefused e h
+
+pub tree-alone : {W : Type 0} (K : Waits W) (C : ForestCall) (R : ForestRooms W) → fitForest K C R .answer ≡ ForestAnswer.Grown → (t : ℕ) → t < C .trees
+    → IsTree (fitForest K C R .rooms) t (fitTree K (treeCallAt C t) (ownRooms R))
+tree-alone {W} K C R g t h =
+    its-trees W W K K C R g t h (ownRooms R) (not-6 _ (room-for-each W K C R (subst ForestUnrefused (sym g) tt) t h))
+
+pub some-at-a-time : SomeAtATime
+some-at-a-time W X K L C E R Q g k t u h l e =
+    record { report = report; nodes = sym (one .nodes) ∙ (λ i. entriesAt (fitTree K (treeCallAt C t) (ownRooms R) .rooms .nodes) 0 (report i .nodes)) ∙ other .nodes }
+  where
+    one : IsTree (fitForest K C R .rooms) t (fitTree K (treeCallAt C t) (ownRooms R))
+    one = tree-alone K C R g t h
+
+    other : IsTree (fitForest L E Q .rooms) u (fitTree K (treeCallAt C t) (ownRooms R))
+    other =
+        subst (λ (c : TreeCall). IsTree (fitForest L E Q .rooms) u (fitTree K c (ownRooms R))) (sym e)
+        (its-trees X W L K E Q k u l (ownRooms R) (not-6 _ (subst (λ (c : TreeCall). Unrefused (fitTree K c (ownRooms R) .answer)) e (subst Unrefused (sym (one .answer)) tt))))
+
+    report : reportAt (fitForest K C R .rooms .reports) t ≡ reportAt (fitForest L E Q .rooms .reports) u
+    report = ap (reportOr (reportAt (fitForest K C R .rooms .reports) t)) (sym (one .answer) ∙ other .answer)
