@@ -5,7 +5,7 @@ use native.Mathlib.Omega.{arith}
 use mathlib.Core.Path.{_≡_, refl, sym, ap, _∙_, subst}
 use mathlib.Core.Bool.{Bool, true, false, not, _&&_, _||_, cond}
 use mathlib.Core.List.{List, [], _∷_, _++_, map}
-use lib.ListN.{length, getD, take, drop, List·getD-map}
+use lib.ListN.{length, getD, set, take, drop, List·getD-map}
 use lib.Seq.{take-nil}
 use lib.Dec.{T}
 use lib.Ieee.Fits.{and-l, and-r, and-i}
@@ -80,6 +80,11 @@ module _ {ℓ} {A : Type ℓ} where
   every-drop Q zero l e = e
   every-drop Q (suc n) [] e = tt
   every-drop Q (suc n) (x ∷ l) e = every-drop Q n l (e .1)
+
+  pub every-set : (Q : A → Type 0) (l : List A) (i : ℕ) (x : A) → Every Q l → Q x → Every Q (set l i x)
+  every-set Q [] i x e h = tt
+  every-set Q (y ∷ l) zero x e h = (h, e .1)
+  every-set Q (y ∷ l) (suc i) x e h = (e .0, every-set Q l i x (e .1) h)
 
   every-put : (Q : A → Type 0) (b : Bool) (x : A) (l : List A) → Q x → Every Q l → Every Q (putIf b x l)
   unfolding putIf
