@@ -9,13 +9,13 @@ use mathlib.Core.List.{[]}
 use lib.ListN.{getD}
 use lib.Dec.{T}
 use lib.Ieee.{Float, binary64, mul, div, lt, le, ofBits}
-use Rattle.floats.specs.Signs.{mul-turn, square-turn, bare, square-bare, mul-bare, div-bare, bare-above, bare-not-below}
+use Rattle.floats.specs.Sign.{side, square-side, mul-side, div-side, not-below, not-at-most}
+use Rattle.floats.specs.Turned.{mul-turn, square-turn}
 use Rattle.rules.specs.declared.Totals.{Totals}
 use Rattle.rules.specs.Words.{nought}
 use Rattle.rules.specs.Totals.{empty, massless, gap, proxy, score}
 use Rattle.rules.specs.Search.{totals, tally, same, sideOf}
 use Rattle.rules.specs.Growth.{Waiting, child, splitting}
-use Rattle.laws.specs.Lists.{is-false}
 
 -- ---- the statements
 
@@ -61,26 +61,22 @@ either-side t f = (
 -- ---- never below 0
 
 -- either side weighs nothing, or neither has its sign set
-module _ (t f : Totals) (x : Float) (fine : T (bare (t .mass)) → T (bare (f .mass)) → T (bare x)) where
-  clear-unless : T (bare (cond (massless t f) nought x))
+module _ (t f : Totals) (x : Float) (fine : T (side false (t .mass)) → T (side false (f .mass)) → T (side false x)) where
+  clear-unless : T (side false (cond (massless t f) nought x))
   unfolding massless ofBits
   clear-unless = go (le (t .mass) nought) refl (le (f .mass) nought) refl
     where
-      go : (a : Bool) → le (t .mass) nought ≡ a → (b : Bool) → le (f .mass) nought ≡ b → T (bare (cond (a || b) nought x))
+      go : (a : Bool) → le (t .mass) nought ≡ a → (b : Bool) → le (f .mass) nought ≡ b → T (side false (cond (a || b) nought x))
       go true p b q = tt
       go false p true q = tt
-      go false p false q = fine (bare-above (t .mass) p) (bare-above (f .mass) q)
-
-not-below : (x : Float) → T (bare x) → lt x nought ≡ false
-unfolding ofBits
-not-below x h = is-false (lt x nought) (bare-not-below x h)
+      go false p false q = fine (not-at-most (t .mass) p) (not-at-most (f .mass) q)
 
 pub never-below : NeverBelow
 unfolding proxy score ofBits
 never-below t f = (
-  not-below (proxy t f) (clear-unless t f _ (λ p q. div-bare binary64 _ _ (square-bare binary64 (gap t f)) (mul-bare binary64 (t .mass) (f .mass) p q))),
+  not-below (proxy t f) (clear-unless t f _ (λ p q. div-side binary64 false _ _ (square-side binary64 (gap t f)) (mul-side binary64 (t .mass) (f .mass) p q))),
   (λ m w. not-below (score t f m) (clear-unless t f _
-      (λ p q. div-bare binary64 _ _ (square-bare binary64 (gap t f)) (mul-bare binary64 _ m (mul-bare binary64 (t .mass) (f .mass) p q) (bare-above m w))))),
+      (λ p q. div-side binary64 false _ _ (square-side binary64 (gap t f)) (mul-side binary64 _ m (mul-side binary64 (t .mass) (f .mass) p q) (not-at-most m w))))),
 )
 
 -- ---- the split column alone

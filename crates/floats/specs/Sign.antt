@@ -1,4 +1,4 @@
--- On which side of 0 a value stands by its sign, a NaN on either: sums, squares and quotients keep to it. What is added to 0, or divided by 1, stays as it is, but for a -0
+-- On which side of 0 a value stands by its sign, a NaN on either: sums, squares, products and quotients keep to it. What is added to 0, or divided by 1, stays as it is, but for a -0
 -- added to 0; and two values can be added to 0 in either order. Assumes nothing.
 use mathlib.Core.Path.{_≡_, refl, sym, ap, _∙_, subst}
 use Prim.Native.Nat.{ℕ, zero, suc, _+_, _-_, _*_, _≤_, _<_}
@@ -7,8 +7,9 @@ use native.Mathlib.Omega.{arith}
 use mathlib.Core.Bool.{Bool, true, false, not, _&&_, Bool·beq, cond, true≢false}
 use lib.IntN.{ℤ, pos}
 use lib.Dec.{T, ltb, eqb, ltb→lt, nltb→le}
-use lib.Ieee.{Float, nan, inf, fin, Format, up, down, unlike, round, neg, sum, add, mul, div, lt, fits}
+use lib.Ieee.{Float, nan, inf, fin, Format, up, down, unlike, round, neg, sum, add, mul, div, lt, eq, le, fits}
 use Rattle.floats.specs.Round.{round-self, round-neg, clear, round-clear}
+use Rattle.floats.specs.Between.{neg-below}
 use Rattle.floats.specs.Zero.{isMinusZero, isZero, add-zero64}
 
 -- a NaN, or its sign is s: set below 0, clear above
@@ -64,6 +65,27 @@ square-side f (inf true) = tt
 square-side f (inf false) = tt
 square-side f (fin true m e) = round-side f false (m * up e * (m * up e)) (down e * down e)
 square-side f (fin false m e) = round-side f false (m * up e * (m * up e)) (down e * down e)
+
+side-if : (s b : Bool) (x y : Float) → T (side s x) → T (side s y) → T (side s (cond b x y))
+side-if s true x y h k = h
+side-if s false x y h k = k
+
+-- nor is a product of two that are not
+pub mul-side : (f : Format) (x y : Float) → T (side false x) → T (side false y) → T (side false (mul f x y))
+unfolding mul
+mul-side f nan y h k = tt
+mul-side f (inf true) y h k = absurd h
+mul-side f (inf false) nan h k = tt
+mul-side f (inf false) (inf true) h k = absurd k
+mul-side f (inf false) (inf false) h k = tt
+mul-side f (inf false) (fin true n d) h k = absurd k
+mul-side f (inf false) (fin false n d) h k = side-if false (eqb n 0) nan (inf false) tt tt
+mul-side f (fin true m e) y h k = absurd h
+mul-side f (fin false m e) nan h k = tt
+mul-side f (fin false m e) (inf true) h k = absurd k
+mul-side f (fin false m e) (inf false) h k = side-if false (eqb m 0) nan (inf false) tt tt
+mul-side f (fin false m e) (fin true n d) h k = absurd k
+mul-side f (fin false m e) (fin false n d) h k = round-side f false (m * up e * (n * up d)) (down e * down d)
 
 -- a divisor on the upper side leaves each its side
 pub div-side : (f : Format) (s : Bool) (x y : Float) → T (side s x) → T (side false y) → T (side s (div f x y))
@@ -130,6 +152,14 @@ below-side (inf true) h = tt
 below-side (inf false) h = h
 below-side (fin true m e) h = tt
 below-side (fin false m e) h = subst T (none-less (m * up e * 1) (0 * 1 * down e) (nothing e)) h
+
+pub not-at-most : (x : Float) → le x (fin false 0 (pos 0)) ≡ false → T (side false x)
+unfolding le lt eq
+not-at-most nan h = tt
+not-at-most (inf true) h = absurd (true≢false h)
+not-at-most (inf false) h = tt
+not-at-most (fin true m e) h = absurd (subst T h (neg-below m e (fin false 0 (pos 0)) tt))
+not-at-most (fin false m e) h = tt
 
 pub above-side : (x : Float) → T (lt (fin false 0 (pos 0)) x) → T (side false x)
 unfolding lt
