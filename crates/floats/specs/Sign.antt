@@ -1,4 +1,4 @@
--- On which side of 0 a value stands by its sign, a NaN on either: sums, squares and quotients keep to it. What is added to 0, or divided by 1, stays as it is, but for a -0
+-- On which side of 0 a value stands by its sign, a NaN on either: sums, squares, products and quotients keep to it. What is added to 0, or divided by 1, stays as it is, but for a -0
 -- added to 0; and two values can be added to 0 in either order. Assumes nothing.
 use mathlib.Core.Path.{_≡_, refl, sym, ap, _∙_, subst}
 use Prim.Native.Nat.{ℕ, zero, suc, _+_, _-_, _*_, _≤_, _<_}
@@ -7,8 +7,9 @@ use native.Mathlib.Omega.{arith}
 use mathlib.Core.Bool.{Bool, true, false, not, _&&_, Bool·beq, cond, true≢false}
 use lib.IntN.{ℤ, pos}
 use lib.Dec.{T, ltb, eqb, ltb→lt, nltb→le}
-use lib.Ieee.{Float, nan, inf, fin, Format, up, down, unlike, round, neg, sum, add, mul, div, lt, fits}
+use lib.Ieee.{Float, nan, inf, fin, Format, up, down, unlike, round, neg, sum, add, mul, div, lt, eq, le, fits}
 use Rattle.floats.specs.Round.{round-self, round-neg, clear, round-clear}
+use Rattle.floats.specs.Between.{neg-below}
 use Rattle.floats.specs.Zero.{isMinusZero, isZero, add-zero64}
 
 -- a NaN, or its sign is s: set below 0, clear above
@@ -64,6 +65,27 @@ square-side f (inf true) = tt
 square-side f (inf false) = tt
 square-side f (fin true m e) = round-side f false (m * up e * (m * up e)) (down e * down e)
 square-side f (fin false m e) = round-side f false (m * up e * (m * up e)) (down e * down e)
+
+none-or : (b : Bool) → T (side false (cond b nan (inf false)))
+none-or true = tt
+none-or false = tt
+
+-- a product of two on the upper side stays there
+pub mul-side : (f : Format) (x y : Float) → T (side false x) → T (side false y) → T (side false (mul f x y))
+unfolding mul
+mul-side f nan y h k = tt
+mul-side f (inf true) y h k = absurd h
+mul-side f (inf false) nan h k = tt
+mul-side f (inf false) (inf true) h k = absurd k
+mul-side f (inf false) (inf false) h k = tt
+mul-side f (inf false) (fin true n d) h k = absurd k
+mul-side f (inf false) (fin false n d) h k = none-or (eqb n 0)
+mul-side f (fin true m e) y h k = absurd h
+mul-side f (fin false m e) nan h k = tt
+mul-side f (fin false m e) (inf true) h k = absurd k
+mul-side f (fin false m e) (inf false) h k = none-or (eqb m 0)
+mul-side f (fin false m e) (fin true n d) h k = absurd k
+mul-side f (fin false m e) (fin false n d) h k = round-side f false (m * up e * (n * up d)) (down e * down d)
 
 -- a divisor on the upper side leaves each its side
 pub div-side : (f : Format) (s : Bool) (x y : Float) → T (side s x) → T (side false y) → T (side s (div f x y))
@@ -138,6 +160,15 @@ above-side (inf true) h = h
 above-side (inf false) h = tt
 above-side (fin true m e) h = h
 above-side (fin false m e) h = tt
+
+-- what is not at most 0, a NaN among it
+pub over-side : (x : Float) → le x (fin false 0 (pos 0)) ≡ false → T (side false x)
+unfolding le lt eq
+over-side nan h = tt
+over-side (inf true) h = absurd (true≢false h)
+over-side (inf false) h = tt
+over-side (fin true m e) h = absurd (subst T h (neg-below m e (fin false 0 (pos 0)) tt))
+over-side (fin false m e) h = tt
 
 -- ---- 0 added, and divided by 1
 
