@@ -9,8 +9,8 @@ use mathlib.Core.List.{[]}
 use lib.ListN.{getD}
 use lib.Dec.{T}
 use lib.Ieee.{Float, binary64, mul, div, lt, le, ofBits}
-use Rattle.floats.specs.Sign.{side, square-side, mul-side, div-side, not-below, not-at-most}
-use Rattle.floats.specs.Turned.{mul-turn, square-turn}
+use Rattle.floats.specs.Sign.{side, square-side, mul-side, div-side, over-side, not-below}
+use Rattle.floats.specs.Turned.{mul-comm64, square-turned}
 use Rattle.rules.specs.declared.Totals.{Totals}
 use Rattle.rules.specs.Words.{nought}
 use Rattle.rules.specs.Totals.{empty, massless, gap, proxy, score}
@@ -53,40 +53,41 @@ either-side t f = (
     weighed = or-turn (le (t .mass) nought) (le (f .mass) nought)
 
     squared : mul binary64 (gap t f) (gap t f) ≡ mul binary64 (gap f t) (gap f t)
-    squared = square-turn binary64 (mul binary64 (t .sum) (f .mass)) (mul binary64 (f .sum) (t .mass))
+    squared = square-turned binary64 (mul binary64 (t .sum) (f .mass)) (mul binary64 (f .sum) (t .mass))
 
     masses : mul binary64 (t .mass) (f .mass) ≡ mul binary64 (f .mass) (t .mass)
-    masses = mul-turn binary64 (t .mass) (f .mass)
+    masses = mul-comm64 binary64 (t .mass) (f .mass)
 
 -- ---- never below 0
 
--- either side weighs nothing, or neither has its sign set
-module _ (t f : Totals) (x : Float) (fine : T (side false (t .mass)) → T (side false (f .mass)) → T (side false x)) where
-  clear-unless : T (side false (cond (massless t f) nought x))
-  unfolding massless ofBits
-  clear-unless = go (le (t .mass) nought) refl (le (f .mass) nought) refl
-    where
-      go : (a : Bool) → le (t .mass) nought ≡ a → (b : Bool) → le (f .mass) nought ≡ b → T (side false (cond (a || b) nought x))
-      go true p b q = tt
-      go false p true q = tt
-      go false p false q = fine (not-at-most (t .mass) p) (not-at-most (f .mass) q)
+-- either side weighs nothing, or both are on the upper side of 0
+not-under : (t f : Totals) (x : Float) → (T (side false (t .mass)) → T (side false (f .mass)) → T (side false x)) → lt (cond (massless t f) nought x) nought ≡ false
+unfolding massless ofBits
+not-under t f x fine = not-below (cond (massless t f) nought x) (go (le (t .mass) nought) refl (le (f .mass) nought) refl)
+  where
+    go : (a : Bool) → le (t .mass) nought ≡ a → (b : Bool) → le (f .mass) nought ≡ b → T (side false (cond (a || b) nought x))
+    go true p b q = tt
+    go false p true q = tt
+    go false p false q = fine (over-side (t .mass) p) (over-side (f .mass) q)
 
 pub never-below : NeverBelow
 unfolding proxy score ofBits
 never-below t f = (
-  not-below (proxy t f) (clear-unless t f _ (λ p q. div-side binary64 false _ _ (square-side binary64 (gap t f)) (mul-side binary64 (t .mass) (f .mass) p q))),
-  (λ m w. not-below (score t f m) (clear-unless t f _
-      (λ p q. div-side binary64 false _ _ (square-side binary64 (gap t f)) (mul-side binary64 _ m (mul-side binary64 (t .mass) (f .mass) p q) (not-at-most m w))))),
+  not-under t f _ (λ p q. over _ (mul-side binary64 (t .mass) (f .mass) p q)),
+  (λ m w. not-under t f _ (λ p q. over _ (mul-side binary64 _ m (mul-side binary64 (t .mass) (f .mass) p q) (over-side m w)))),
 )
+  where
+    over : (y : Float) → T (side false y) → T (side false (div binary64 (mul binary64 (gap t f) (gap t f)) y))
+    over y h = div-side binary64 false _ y (square-side binary64 (gap t f)) h
 
 -- ---- the split column alone
 
 pub column-alone : ColumnAlone
 unfolding splitting child
 column-alone w w′ cuts columns = (
-  (λ k i. record { cut = cuts i; score = score (side same i) (side not i) (totals empty (columns i) .mass); children = k }),
-  (λ b. (side b, (λ i. tally (sideOf b (cuts i) (columns i))))),
+  (λ k i. record { cut = cuts i; score = score (added same i) (added not i) (totals empty (columns i) .mass); children = k }),
+  (λ b. (added b, (λ i. tally (sideOf b (cuts i) (columns i))))),
 )
   where
-    side : (b : Bool → Bool) → child b w .totals ≡ child b w′ .totals
-    side b = λ i. totals empty (sideOf b (cuts i) (columns i))
+    added : (b : Bool → Bool) → child b w .totals ≡ child b w′ .totals
+    added b = λ i. totals empty (sideOf b (cuts i) (columns i))

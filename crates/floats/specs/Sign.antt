@@ -66,11 +66,11 @@ square-side f (inf false) = tt
 square-side f (fin true m e) = round-side f false (m * up e * (m * up e)) (down e * down e)
 square-side f (fin false m e) = round-side f false (m * up e * (m * up e)) (down e * down e)
 
-side-if : (s b : Bool) (x y : Float) → T (side s x) → T (side s y) → T (side s (cond b x y))
-side-if s true x y h k = h
-side-if s false x y h k = k
+none-or : (b : Bool) → T (side false (cond b nan (inf false)))
+none-or true = tt
+none-or false = tt
 
--- nor is a product of two that are not
+-- a product of two on the upper side stays there
 pub mul-side : (f : Format) (x y : Float) → T (side false x) → T (side false y) → T (side false (mul f x y))
 unfolding mul
 mul-side f nan y h k = tt
@@ -79,11 +79,11 @@ mul-side f (inf false) nan h k = tt
 mul-side f (inf false) (inf true) h k = absurd k
 mul-side f (inf false) (inf false) h k = tt
 mul-side f (inf false) (fin true n d) h k = absurd k
-mul-side f (inf false) (fin false n d) h k = side-if false (eqb n 0) nan (inf false) tt tt
+mul-side f (inf false) (fin false n d) h k = none-or (eqb n 0)
 mul-side f (fin true m e) y h k = absurd h
 mul-side f (fin false m e) nan h k = tt
 mul-side f (fin false m e) (inf true) h k = absurd k
-mul-side f (fin false m e) (inf false) h k = side-if false (eqb m 0) nan (inf false) tt tt
+mul-side f (fin false m e) (inf false) h k = none-or (eqb m 0)
 mul-side f (fin false m e) (fin true n d) h k = absurd k
 mul-side f (fin false m e) (fin false n d) h k = round-side f false (m * up e * (n * up d)) (down e * down d)
 
@@ -153,14 +153,6 @@ below-side (inf false) h = h
 below-side (fin true m e) h = tt
 below-side (fin false m e) h = subst T (none-less (m * up e * 1) (0 * 1 * down e) (nothing e)) h
 
-pub not-at-most : (x : Float) → le x (fin false 0 (pos 0)) ≡ false → T (side false x)
-unfolding le lt eq
-not-at-most nan h = tt
-not-at-most (inf true) h = absurd (true≢false h)
-not-at-most (inf false) h = tt
-not-at-most (fin true m e) h = absurd (subst T h (neg-below m e (fin false 0 (pos 0)) tt))
-not-at-most (fin false m e) h = tt
-
 pub above-side : (x : Float) → T (lt (fin false 0 (pos 0)) x) → T (side false x)
 unfolding lt
 above-side nan h = tt
@@ -168,6 +160,15 @@ above-side (inf true) h = h
 above-side (inf false) h = tt
 above-side (fin true m e) h = h
 above-side (fin false m e) h = tt
+
+-- what is not at most 0, a NaN among it
+pub over-side : (x : Float) → le x (fin false 0 (pos 0)) ≡ false → T (side false x)
+unfolding le lt eq
+over-side nan h = tt
+over-side (inf true) h = absurd (true≢false h)
+over-side (inf false) h = tt
+over-side (fin true m e) h = absurd (subst T h (neg-below m e (fin false 0 (pos 0)) tt))
+over-side (fin false m e) h = tt
 
 -- ---- 0 added, and divided by 1
 
