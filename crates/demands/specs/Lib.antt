@@ -5,5 +5,6 @@ pub mod Numbers
 pub mod OneOutcome
 pub mod Filled
 pub mod Refusals
+pub mod Rooms
 pub mod Tried
 pub mod Calls
