@@ -18,7 +18,7 @@ use Rattle.rules.specs.Checks.{firstFailed, roomFor, workEnough, reportsExact}
 use Rattle.rules.specs.Fit.{TreeCall, frameOf, grownTree, treeTests, treeEnds, fitTree}
 use Rattle.rules.specs.Forest.{ForestCall, frameAt, frames, grownForest, roomsGood, forestTests, forestEnds, fitForest}
 use Rattle.laws.specs.Lists.{is-true, total-map}
-use Rattle.laws.specs.Passed.{and2, and4, tree-passed, forest-passed}
+use Rattle.laws.specs.Passed.{and2, tree-passed, forest-passed}
 use Rattle.demands.specs.Refusals.{tree-refused, forest-refused, failed-within}
 
 -- ---- the statements
@@ -76,6 +76,24 @@ ForestRoomsTaken = (C : ForestCall) (R : ForestRooms Stack) → ForestLong C R �
 
 -- ---- what the tests say
 
+parts : {a b : Bool} → a && b ≡ true → (a ≡ true) × (b ≡ true)
+parts {a} {b} h = let (x, y) = and2 a b (subst T (sym h) tt) in (is-true a x, is-true b y)
+
+both : {a b : Bool} → a ≡ true → b ≡ true → a && b ≡ true
+both p q = λ i. p i && q i
+
+least : {m n : ℕ} → leb m n ≡ true → m ≤ n
+least {m} {n} h = leb→le m n (subst T (sym h) tt)
+
+enough : {m n : ℕ} → m ≤ n → leb m n ≡ true
+enough {m} {n} h = is-true (leb m n) (le→leb m n h)
+
+same : {m n : ℕ} → eqb m n ≡ true → m ≡ n
+same {m} {n} h = eqb→eq m n (subst T (sym h) tt)
+
+exact : {m n : ℕ} → m ≡ n → eqb m n ≡ true
+exact {m} {n} h = is-true (eqb m n) (subst (λ k. T (eqb m k)) h (eqb-refl m))
+
 nodes-long : (n : ℕ) (c : Columns) → n ≤ shortest c → NodesLong n c
 nodes-long n c h =
     record {
@@ -90,30 +108,20 @@ nodes-long n c h =
 nodes-fit : (n : ℕ) (c : Columns) → NodesLong n c → n ≤ shortest c
 nodes-fit n c h = omega (arith, h .value, h .feature, h .threshold, h .score, h .trueChild, h .falseChild)
 
-work-long : (S : Shape) (w : Work Stack) → T (workEnough stack S w) → WorkLong S w
+work-long : (S : Shape) (w : Work Stack) → workEnough stack S w ≡ true → WorkLong S w
 unfolding workEnough
 work-long S w t =
-    let (o, s, f, p) = and4 (leb (S .features * S .rows) (length (w .order))) (leb (S .rows) (length (w .scratch)))
-    (leb (max (S .rows) (S .features)) (length (w .flags))) (leb (S .rows) (stack .places (w .waiting))) t in
-    let flags = leb→le (max (S .rows) (S .features)) (length (w .flags)) f in
-    let places = leb→le (S .rows) (stack .places (w .waiting)) p in
+    let (order, t₂) = parts t in let (scratch, t₃) = parts t₂ in let (flags, places) = parts t₃ in
+    let f : max (S .rows) (S .features) ≤ length (w .flags) = least flags in
+    let p : S .rows ≤ stack .places (w .waiting) = least places in
     record {
-      order = leb→le (S .features * S .rows) (length (w .order)) o;
-      scratch = leb→le (S .rows) (length (w .scratch)) s;
-      flagsByRows = omega (arith, flags);
-      flagsByFeatures = omega (arith, flags);
-      wholes = omega (arith, places);
-      reals = omega (arith, places);
+      order = least order;
+      scratch = least scratch;
+      flagsByRows = omega (arith, f);
+      flagsByFeatures = omega (arith, f);
+      wholes = omega (arith, p);
+      reals = omega (arith, p);
     }
-
-both : {a b : Bool} → a ≡ true → b ≡ true → a && b ≡ true
-both p q = λ i. p i && q i
-
-enough : {m n : ℕ} → m ≤ n → leb m n ≡ true
-enough {m} {n} h = is-true (leb m n) (le→leb m n h)
-
-exact : {m n : ℕ} → m ≡ n → eqb m n ≡ true
-exact {m} {n} h = is-true (eqb m n) (subst (λ k. T (eqb m k)) h (eqb-refl m))
 
 work-fits : (S : Shape) (w : Work Stack) → WorkLong S w → workEnough stack S w ≡ true
 unfolding workEnough
@@ -122,20 +130,11 @@ work-fits S w h =
     let places : S .rows ≤ stack .places (w .waiting) = omega (arith, h .wholes, h .reals) in
     both (enough (h .order)) (both (enough (h .scratch)) (both (enough flags) (enough places)))
 
-reports-long : (trees : ℕ) (c : Reports) → T (reportsExact trees c) → ReportsLong trees c
+reports-long : (trees : ℕ) (c : Reports) → reportsExact trees c ≡ true → ReportsLong trees c
 unfolding reportsExact
 reports-long trees c t =
-    let (n, r₁) = and2 (eqb (length (c .nodes)) trees) _ t in
-    let (d, r₂) = and2 (eqb (length (c .depth)) trees) _ r₁ in
-    let (m, s, w, h) = and4 (eqb (length (c .mass)) trees) (eqb (length (c .searches)) trees) (eqb (length (c .words)) trees) (eqb (length (c .thresholds)) trees) r₂ in
-    record {
-      nodes = eqb→eq (length (c .nodes)) trees n;
-      depth = eqb→eq (length (c .depth)) trees d;
-      mass = eqb→eq (length (c .mass)) trees m;
-      searches = eqb→eq (length (c .searches)) trees s;
-      words = eqb→eq (length (c .words)) trees w;
-      thresholds = eqb→eq (length (c .thresholds)) trees h;
-    }
+    let (n, t₂) = parts t in let (d, t₃) = parts t₂ in let (m, t₄) = parts t₃ in let (s, t₅) = parts t₄ in let (w, h) = parts t₅ in
+    record { nodes = same n; depth = same d; mass = same m; searches = same s; words = same w; thresholds = same h }
 
 reports-fit : (trees : ℕ) (c : Reports) → ReportsLong trees c → reportsExact trees c ≡ true
 unfolding reportsExact
@@ -152,7 +151,7 @@ pub tree-rooms-long : TreeRoomsLong
 unfolding fitTree treeEnds roomFor
 tree-rooms-long C R un =
     let p = tree-passed stack C R (go (firstFailed (treeTests stack C R)) un refl) in
-    record { nodes = nodes-long (nodesAtMost (frameOf C)) (R .nodes) (p .room); work = work-long (C .shape) (R .work) (p .work) }
+    record { nodes = nodes-long (nodesAtMost (frameOf C)) (R .nodes) (p .room); work = work-long (C .shape) (R .work) (is-true (workEnough stack (C .shape) (R .work)) (p .work)) }
   where
     go : (k : ℕ) → ((n : ℕ) → treeEnds stack k (grownTree C) R .answer ≡ TreeAnswer.Refused n → ⊥) → firstFailed (treeTests stack C R) ≡ k → firstFailed (treeTests stack C R) ≡ 0
     go zero un q = q
@@ -181,8 +180,8 @@ forest-rooms-long C R un =
     record {
       nodes = nodes-long (total (λ t. nodesAtMost (frameAt C t)) (from 0 (C .trees))) (R .nodes) (subst (λ n. n ≤ shortest (R .nodes)) (room-same C) (p .room));
       starts = omega (arith, p .startsRoom);
-      reports = reports-long (C .trees) (R .reports) (p .reports);
-      work = work-long (C .shape) (R .work) (p .work);
+      reports = reports-long (C .trees) (R .reports) (is-true (reportsExact (C .trees) (R .reports)) (p .reports));
+      work = work-long (C .shape) (R .work) (is-true (workEnough stack (C .shape) (R .work)) (p .work));
     }
   where
     go : (k : ℕ) → ((n : ℕ) → forestEnds stack k (grownForest C) R .answer ≡ ForestAnswer.Refused n → ⊥) → firstFailed (forestTests stack C R) ≡ k → firstFailed (forestTests stack C R) ≡ 0
