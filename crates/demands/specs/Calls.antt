@@ -10,7 +10,7 @@ use Rattle.rules.specs.declared.Place.{Place}
 use Rattle.rules.specs.declared.TreeAnswer.{TreeAnswer}
 use Rattle.rules.specs.declared.ForestAnswer.{ForestAnswer}
 use Rattle.rules.specs.declared.Reply.{Reply}
-use Rattle.rules.specs.Lent.{Data, Waits, TreeRooms, ForestRooms, Outcome, entriesAt, zeroColumns, zeroWork}
+use Rattle.rules.specs.Lent.{Data, Waits, Stack, stack, TreeRooms, ForestRooms, Outcome, entriesAt}
 use Rattle.rules.specs.Fit.{entries, TreeCall, frameOf, grownTree, fitTree}
 use Rattle.rules.specs.Forest.{ForestCall, fitForest}
 use Rattle.rules.specs.OutOfBag.{outOfBagMeans}
@@ -18,13 +18,10 @@ use Rattle.laws.specs.Passed.{Binary64}
 use Rattle.laws.specs.Answered.{TreeAnswered, tree-answered}
 use Rattle.demands.specs.LeftOut.{Alike, over, Unrefused, SameFit, demand3}
 use Rattle.demands.specs.OutOfBag.{retarget, ButOne, SameMean, ok-same, own-target}
-use Rattle.demands.specs.Refusals.{tree-bad}
+use Rattle.demands.specs.Refusals.{TreeZero, tree-bad}
 use Rattle.demands.specs.Walks.{tableAfter, tree-left}
 
 module _ {W : Type 0} (K : Waits W) where
-  abbrev zeroed : TreeRooms W → TreeRooms W
-  zeroed R = record { nodes = zeroColumns (R .nodes); work = zeroWork K (R .work) }
-
   -- ---- demand 3: two calls that fit one tree, alike but for rows that the tree leaves out
 
   module _ (C : TreeCall) (E : Data) (R R′ : TreeRooms W) (x y : Outcome TreeAnswer (TreeRooms W)) (met : x ≡ fitTree K C R) (met′ : y ≡ fitTree K (over C E) R′)
@@ -54,13 +51,6 @@ module _ {W : Type 0} (K : Waits W) where
         b : TreeAnswered K (over C E) R′ r
         b = tree-answered K (over C E) R′ r (sym (same .answers) ∙ (λ i. sym met i .answer) ∙ h)
 
-    -- after a bad draw both leave all rooms zero
-    pub calls-clear : (d : Place) → x .answer ≡ TreeAnswer.BadDraw d → (x .rooms ≡ zeroed R) × (y .rooms ≡ zeroed R′)
-    calls-clear d h = (
-      (λ i. met i .rooms) ∙ tree-bad W K C R d ((λ i. sym met i .answer) ∙ h),
-      (λ i. met′ i .rooms) ∙ tree-bad W K (over C E) R′ d (sym (same .answers) ∙ (λ i. sym met i .answer) ∙ h),
-    )
-
   -- in rooms that held the same they leave the same, every node among it
   pub calls-leave : (C : TreeCall) (E : Data) (R : TreeRooms W) (x y : Outcome TreeAnswer (TreeRooms W)) → x ≡ fitTree K C R → y ≡ fitTree K (over C E) R
       → Alike (frameOf C) (C .given .inputs) E → Unrefused (x .answer) → Unrefused (y .answer) → x ≡ y
@@ -80,3 +70,14 @@ module _ {W : Type 0} (K : Waits W) where
       subst (λ m. SameMean i m m′) (sym (r ∙ (λ k. outOfBagMeans (C .shape) (C .given .inputs .values) (C .given .counts) (tableAfter C (met k .rooms)) out)))
       (subst (SameMean i _) (sym (r′ ∙ (λ k. outOfBagMeans (C .shape) (C .given .inputs .values) (C .given .counts) (tableAfter (retarget C ys) (met′ k .rooms)) out′)))
       (own-target W K C ys i b but held R R′ ((λ k. sym met k .answer) ∙ h) ((λ k. sym met′ k .answer) ∙ h′) out out′ o o′))
+
+-- ---- a bad draw, in whatever rooms: both calls leave 0 at every place
+
+zero-left : (C : TreeCall) (R : TreeRooms Stack) (x : Outcome TreeAnswer (TreeRooms Stack)) → x ≡ fitTree stack C R → (d : Place) → x .answer ≡ TreeAnswer.BadDraw d → TreeZero R (x .rooms)
+zero-left C R x met d h = subst (λ (o : Outcome TreeAnswer (TreeRooms Stack)). TreeZero R (o .rooms)) (sym met) (tree-bad C R d ((λ i. sym met i .answer) ∙ h))
+
+pub calls-clear : (C : TreeCall) (E : Data) (R R′ : TreeRooms Stack) (x y : Outcome TreeAnswer (TreeRooms Stack)) → x ≡ fitTree stack C R → y ≡ fitTree stack (over C E) R′
+    → Alike (frameOf C) (C .given .inputs) E → Unrefused (x .answer) → Unrefused (y .answer) → (d : Place) → x .answer ≡ TreeAnswer.BadDraw d
+    → TreeZero R (x .rooms) × TreeZero R′ (y .rooms)
+calls-clear C E R R′ x y met met′ like u u′ d h =
+    (zero-left C R x met d h, zero-left (over C E) R′ y met′ d (sym (calls-answer stack C E R R′ x y met met′ like u u′) ∙ h))

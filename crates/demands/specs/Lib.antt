@@ -9,6 +9,7 @@ pub mod DrawsUsed
 pub mod OneOutcome
 pub mod Filled
 pub mod Refusals
+pub mod Rooms
 pub mod Tried
 pub mod Sides
 pub mod Limits

@@ -1,27 +1,30 @@
 -- Demand 1: in which order each call makes its checks, and what a refusal leaves. A fit that is refused by 1 to 6 leaves every lent room as it was, and tells the first
--- test that failed. One that meets a bad draw leaves all output and work room zero. A reader that is refused leaves its result room as it was. Assumes nothing.
-use Prim.Native.Nat.{ℕ, zero, suc, _≤_}
+-- test that failed. One that meets a bad draw leaves every lent slice as long as it was, with 0 at each place. Each reader that is refused leaves its result room as it was, and
+-- tells the first test that failed. Assumes nothing.
+use Prim.Native.Nat.{ℕ, zero, suc, _<_, _≤_}
 use native.Mathlib.Omega.{arith}
 use mathlib.Core.Path.{_≡_, refl, subst}
 use mathlib.Core.Bool.{Bool, true, false, cond}
 use mathlib.Core.List.{List, [], _∷_, map}
+use lib.ListN.{length, getD, length-map}
 use lib.Dec.{lit≤}
 use lib.Ieee.{Float}
 use Rattle.rules.specs.declared.Shape.{Shape}
+use Rattle.rules.specs.declared.Scale.{Scale}
 use Rattle.rules.specs.declared.Place.{Place}
 use Rattle.rules.specs.declared.TreeAnswer.{TreeAnswer}
 use Rattle.rules.specs.declared.ForestAnswer.{ForestAnswer}
 use Rattle.rules.specs.declared.Reply.{Reply}
-use Rattle.rules.specs.Words.{filled}
-use Rattle.rules.specs.Lent.{Columns, Waits, TreeRooms, ForestRooms, zeroColumns, zeroReports, zeroWork}
+use Rattle.rules.specs.Words.{nought, filled}
+use Rattle.rules.specs.Lent.{Columns, Reports, Waits, Stack, stack, Work, TreeRooms, ForestRooms, Outcome, zeroColumns, zeroReports, zeroWork}
 use Rattle.rules.specs.Checks.{Test, firstFailed}
 use Rattle.rules.specs.Listing.{listingTests}
 use Rattle.rules.specs.Draws.{Out, bad, ok}
 use Rattle.rules.specs.Fit.{Tree, TreeCall, grownTree, treeTests, treeDone, treeEnds, fitTree}
 use Rattle.rules.specs.Table.{treeTableTests, ForestTable, forestTableTests}
-use Rattle.rules.specs.Reading.{reads, predictTests, meanTests, treeImportanceTests, forestImportanceTests}
+use Rattle.rules.specs.Reading.{reads, predictTests, predictTree, meanTests, forestMeans, treeImportanceTests, treeImportances, forestImportanceTests, forestImportances}
 use Rattle.rules.specs.Forest.{ForestCall, Forest, stopped, grownAll, grownForest, forestTests, forestDone, forestEnds, fitForest}
-use Rattle.rules.specs.OutOfBag.{outTests, errorTests}
+use Rattle.rules.specs.OutOfBag.{outTests, outOfBagMeans, errorTests}
 use Rattle.laws.specs.Lists.{Every}
 
 -- ---- the statements
@@ -47,20 +50,54 @@ TreeRefused =
     (W : Type 0) (K : Waits W) (C : TreeCall) (R : TreeRooms W) (n : ℕ) → fitTree K C R .answer ≡ TreeAnswer.Refused n
     → (fitTree K C R .rooms ≡ R) × (firstFailed (treeTests K C R) ≡ n)
 
-abbrev pub TreeBad : Type 1
-TreeBad =
-    (W : Type 0) (K : Waits W) (C : TreeCall) (R : TreeRooms W) (d : Place) → fitTree K C R .answer ≡ TreeAnswer.BadDraw d
-    → fitTree K C R .rooms ≡ record { nodes = zeroColumns (R .nodes); work = zeroWork K (R .work) }
+-- a slice is as long as it was, and x stands at each of its places, whatever a place beyond them is taken to hold
+abbrev pub Everywhere : {A : Type 0} → A → List A → List A → Type 0
+Everywhere {A} x before after = (length after ≡ length before) × ((k : ℕ) → k < length before → (beyond : A) → getD after k beyond ≡ x)
+
+pub record NodesZero (before after : Columns) : Type 0 where
+  pub value : Everywhere nought (before .value) (after .value)
+  pub feature : Everywhere 0 (before .feature) (after .feature)
+  pub threshold : Everywhere nought (before .threshold) (after .threshold)
+  pub score : Everywhere nought (before .score) (after .score)
+  pub trueChild : Everywhere 0 (before .trueChild) (after .trueChild)
+  pub falseChild : Everywhere 0 (before .falseChild) (after .falseChild)
+
+pub record ReportsZero (before after : Reports) : Type 0 where
+  pub nodes : Everywhere 0 (before .nodes) (after .nodes)
+  pub depth : Everywhere 0 (before .depth) (after .depth)
+  pub mass : Everywhere nought (before .mass) (after .mass)
+  pub searches : Everywhere 0 (before .searches) (after .searches)
+  pub words : Everywhere 0 (before .words) (after .words)
+  pub thresholds : Everywhere 0 (before .thresholds) (after .thresholds)
+
+-- of the waiting list each place: its six whole numbers and its three floats
+pub record WorkZero (before after : Work Stack) : Type 0 where
+  pub order : Everywhere 0 (before .order) (after .order)
+  pub scratch : Everywhere 0 (before .scratch) (after .scratch)
+  pub flags : Everywhere false (before .flags) (after .flags)
+  pub wholes : Everywhere (0 ∷ 0 ∷ 0 ∷ 0 ∷ 0 ∷ 0 ∷ []) (before .waiting .wholes) (after .waiting .wholes)
+  pub reals : Everywhere (nought ∷ nought ∷ nought ∷ []) (before .waiting .reals) (after .waiting .reals)
+
+pub record TreeZero (before after : TreeRooms Stack) : Type 0 where
+  pub nodes : NodesZero (before .nodes) (after .nodes)
+  pub work : WorkZero (before .work) (after .work)
+
+abbrev pub TreeBad : Type 0
+TreeBad = (C : TreeCall) (R : TreeRooms Stack) (d : Place) → fitTree stack C R .answer ≡ TreeAnswer.BadDraw d → TreeZero R (fitTree stack C R .rooms)
 
 abbrev pub ForestRefused : Type 1
 ForestRefused =
     (W : Type 0) (K : Waits W) (C : ForestCall) (R : ForestRooms W) (n : ℕ) → fitForest K C R .answer ≡ ForestAnswer.Refused n
     → (fitForest K C R .rooms ≡ R) × (firstFailed (forestTests K C R) ≡ n)
 
-abbrev pub ForestBad : Type 1
-ForestBad =
-    (W : Type 0) (K : Waits W) (C : ForestCall) (R : ForestRooms W) (d : Place) → fitForest K C R .answer ≡ ForestAnswer.BadDraw d
-    → fitForest K C R .rooms ≡ record { nodes = zeroColumns (R .nodes); starts = filled 0 (R .starts); reports = zeroReports (R .reports); work = zeroWork K (R .work) }
+pub record ForestZero (before after : ForestRooms Stack) : Type 0 where
+  pub nodes : NodesZero (before .nodes) (after .nodes)
+  pub starts : Everywhere 0 (before .starts) (after .starts)
+  pub reports : ReportsZero (before .reports) (after .reports)
+  pub work : WorkZero (before .work) (after .work)
+
+abbrev pub ForestBad : Type 0
+ForestBad = (C : ForestCall) (R : ForestRooms Stack) (d : Place) → fitForest stack C R .answer ≡ ForestAnswer.BadDraw d → ForestZero R (fitForest stack C R .rooms)
 
 -- so no answer is told as another: a refusal before growth has a number from 1 to 6, where 0 is an answer and 7 a bad draw
 abbrev pub ToldApart : Type 1
@@ -69,9 +106,16 @@ ToldApart =
     → ((C : TreeCall) (R : TreeRooms W) (n : ℕ) → fitTree K C R .answer ≡ TreeAnswer.Refused n → (1 ≤ n) × (n ≤ 6))
     × ((C : ForestCall) (R : ForestRooms W) (n : ℕ) → fitForest K C R .answer ≡ ForestAnswer.Refused n → (1 ≤ n) × (n ≤ 6))
 
--- every reader that writes goes through `reads`
-abbrev pub ReaderRefused : Type 0
-ReaderRefused = (k : ℕ) (new old : List Float) (n : ℕ) → reads k new old .answer ≡ Reply.Refused n → (reads k new old .rooms ≡ old) × (k ≡ n)
+-- what a reader of these tests that is lent `out` leaves where it refuses
+abbrev pub Kept : List Test → List Float → Outcome Reply (List Float) → Type 0
+Kept ts out o = (n : ℕ) → o .answer ≡ Reply.Refused n → (o .rooms ≡ out) × (firstFailed ts ≡ n)
+
+pub record ReaderRefused : Type 0 where
+  pub predictions : (S : Shape) (xs : List Float) (c : Columns) (out : List Float) → Kept (predictTests S xs c out) out (predictTree S xs c out)
+  pub means : (S : Shape) (xs : List Float) (T : ForestTable) (out : List Float) → Kept (meanTests S xs T out) out (forestMeans S xs T out)
+  pub outOfBag : (S : Shape) (xs : List Float) (ks : List ℕ) (T : ForestTable) (out : List Float) → Kept (outTests S xs ks T out) out (outOfBagMeans S xs ks T out)
+  pub treeImportances : (features : ℕ) (by : Scale) (c : Columns) (out : List Float) → Kept (treeImportanceTests features c out) out (treeImportances features by c out)
+  pub forestImportances : (features : ℕ) (T : ForestTable) (out : List Float) → Kept (forestImportanceTests features T out) out (forestImportances features T out)
 
 -- ---- the order
 
@@ -92,76 +136,116 @@ order-of-checks K =
       forestTable = λ features T. refl;
     }
 
+-- ---- rooms filled with zero
+
+all-filled : {A : Type 0} (x : A) (l : List A) → Everywhere x l (filled x l)
+all-filled {A} x l = (length-map l (λ _. x), λ k h beyond. at l k h beyond)
+  where
+    at : (l : List A) (k : ℕ) → k < length l → (beyond : A) → getD (filled x l) k beyond ≡ x
+    at [] k h beyond = absurd (omega arith)
+    at (y ∷ l) zero h beyond = refl
+    at (y ∷ l) (suc k) h beyond = at l k (omega arith) beyond
+
+nodes-zero : (c : Columns) → NodesZero c (zeroColumns c)
+nodes-zero c =
+    record {
+      value = all-filled nought (c .value);
+      feature = all-filled 0 (c .feature);
+      threshold = all-filled nought (c .threshold);
+      score = all-filled nought (c .score);
+      trueChild = all-filled 0 (c .trueChild);
+      falseChild = all-filled 0 (c .falseChild);
+    }
+
+reports-zero : (c : Reports) → ReportsZero c (zeroReports c)
+reports-zero c =
+    record {
+      nodes = all-filled 0 (c .nodes);
+      depth = all-filled 0 (c .depth);
+      mass = all-filled nought (c .mass);
+      searches = all-filled 0 (c .searches);
+      words = all-filled 0 (c .words);
+      thresholds = all-filled 0 (c .thresholds);
+    }
+
+work-zero : (w : Work Stack) → WorkZero w (zeroWork stack w)
+work-zero w =
+    record {
+      order = all-filled 0 (w .order);
+      scratch = all-filled 0 (w .scratch);
+      flags = all-filled false (w .flags);
+      wholes = all-filled (0 ∷ 0 ∷ 0 ∷ 0 ∷ 0 ∷ 0 ∷ []) (w .waiting .wholes);
+      reals = all-filled (nought ∷ nought ∷ nought ∷ []) (w .waiting .reals);
+    }
+
 -- ---- one tree
 
-module _ {W : Type 0} (K : Waits W) (C : TreeCall) (R : TreeRooms W) where
-  abbrev treeLeft : ℕ → Out Tree → TreeRooms W
-  treeLeft k o = treeEnds K k o R .rooms
-
-  refused-tree : (n k : ℕ) (o : Out Tree) → treeEnds K k o R .answer ≡ TreeAnswer.Refused n → (treeLeft k o ≡ R) × (k ≡ n)
-  unfolding treeEnds treeDone
-  refused-tree n zero (bad s) h = let z : _≡_ {A = ℕ} 0 1 = cc in absurd (omega arith)
-  refused-tree n zero (ok t) h = let z : _≡_ {A = ℕ} 0 1 = cc in absurd (omega arith)
-  refused-tree n (suc k) o h = (refl, cc)
-
-  bad-tree : (d : Place) (k : ℕ) (o : Out Tree) → treeEnds K k o R .answer ≡ TreeAnswer.BadDraw d → treeLeft k o ≡ record { nodes = zeroColumns (R .nodes); work = zeroWork K (R .work) }
-  unfolding treeEnds treeDone
-  bad-tree d zero (bad s) h = refl
-  bad-tree d zero (ok t) h = let z : _≡_ {A = ℕ} 0 1 = cc in absurd (omega arith)
-  bad-tree d (suc k) o h = let z : _≡_ {A = ℕ} 0 1 = cc in absurd (omega arith)
-
 pub tree-refused : TreeRefused
-unfolding fitTree
-tree-refused W K C R n h = refused-tree K C R n (firstFailed (treeTests K C R)) (grownTree C) h
+unfolding fitTree treeEnds treeDone
+tree-refused W K C R n h = go (firstFailed (treeTests K C R)) (grownTree C) h
+  where
+    go : (k : ℕ) (o : Out Tree) → treeEnds K k o R .answer ≡ TreeAnswer.Refused n → (treeEnds K k o R .rooms ≡ R) × (k ≡ n)
+    go zero (bad s) h = let z : _≡_ {A = ℕ} 0 1 = cc in absurd (omega arith)
+    go zero (ok t) h = let z : _≡_ {A = ℕ} 0 1 = cc in absurd (omega arith)
+    go (suc k) o h = (refl, cc)
 
 pub tree-bad : TreeBad
-unfolding fitTree
-tree-bad W K C R d h = bad-tree K C R d (firstFailed (treeTests K C R)) (grownTree C) h
+unfolding fitTree treeEnds treeDone
+tree-bad C R d h = go (firstFailed (treeTests stack C R)) (grownTree C) h
+  where
+    go : (k : ℕ) (o : Out Tree) → treeEnds stack k o R .answer ≡ TreeAnswer.BadDraw d → TreeZero R (treeEnds stack k o R .rooms)
+    go zero (bad s) h = record { nodes = nodes-zero (R .nodes); work = work-zero (R .work) }
+    go zero (ok t) h = let z : _≡_ {A = ℕ} 0 1 = cc in absurd (omega arith)
+    go (suc k) o h = let z : _≡_ {A = ℕ} 0 1 = cc in absurd (omega arith)
 
 -- ---- a forest
 
-module _ {W : Type 0} (K : Waits W) (C : ForestCall) (R : ForestRooms W) where
-  abbrev forestLeft : ℕ → Forest → ForestRooms W
-  forestLeft k f = forestEnds K k f R .rooms
-
-  refused-forest : (n k : ℕ) (f : Forest) → forestEnds K k f R .answer ≡ ForestAnswer.Refused n → (forestLeft k f ≡ R) × (k ≡ n)
-  unfolding forestEnds forestDone
-  refused-forest n zero (stopped d) h = let z : _≡_ {A = ℕ} 0 1 = cc in absurd (omega arith)
-  refused-forest n zero (grownAll ts) h = let z : _≡_ {A = ℕ} 0 1 = cc in absurd (omega arith)
-  refused-forest n (suc k) f h = (refl, cc)
-
-  bad-forest : (d : Place) (k : ℕ) (f : Forest) → forestEnds K k f R .answer ≡ ForestAnswer.BadDraw d
-      → forestLeft k f ≡ record { nodes = zeroColumns (R .nodes); starts = filled 0 (R .starts); reports = zeroReports (R .reports); work = zeroWork K (R .work) }
-  unfolding forestEnds forestDone
-  bad-forest d zero (stopped e) h = refl
-  bad-forest d zero (grownAll ts) h = let z : _≡_ {A = ℕ} 0 1 = cc in absurd (omega arith)
-  bad-forest d (suc k) f h = let z : _≡_ {A = ℕ} 0 1 = cc in absurd (omega arith)
-
 pub forest-refused : ForestRefused
-unfolding fitForest
-forest-refused W K C R n h = refused-forest K C R n (firstFailed (forestTests K C R)) (grownForest C) h
+unfolding fitForest forestEnds forestDone
+forest-refused W K C R n h = go (firstFailed (forestTests K C R)) (grownForest C) h
+  where
+    go : (k : ℕ) (f : Forest) → forestEnds K k f R .answer ≡ ForestAnswer.Refused n → (forestEnds K k f R .rooms ≡ R) × (k ≡ n)
+    go zero (stopped d) h = let z : _≡_ {A = ℕ} 0 1 = cc in absurd (omega arith)
+    go zero (grownAll ts) h = let z : _≡_ {A = ℕ} 0 1 = cc in absurd (omega arith)
+    go (suc k) f h = (refl, cc)
 
 pub forest-bad : ForestBad
-unfolding fitForest
-forest-bad W K C R d h = bad-forest K C R d (firstFailed (forestTests K C R)) (grownForest C) h
+unfolding fitForest forestEnds forestDone
+forest-bad C R d h = go (firstFailed (forestTests stack C R)) (grownForest C) h
+  where
+    go : (k : ℕ) (f : Forest) → forestEnds stack k f R .answer ≡ ForestAnswer.BadDraw d → ForestZero R (forestEnds stack k f R .rooms)
+    go zero (stopped e) h = record { nodes = nodes-zero (R .nodes); starts = all-filled 0 (R .starts); reports = reports-zero (R .reports); work = work-zero (R .work) }
+    go zero (grownAll ts) h = let z : _≡_ {A = ℕ} 0 1 = cc in absurd (omega arith)
+    go (suc k) f h = let z : _≡_ {A = ℕ} 0 1 = cc in absurd (omega arith)
 
 -- ---- a reader
 
 pub reader-refused : ReaderRefused
-unfolding reads
-reader-refused zero new old n h = let z : _≡_ {A = ℕ} 0 1 = cc in absurd (omega arith)
-reader-refused (suc k) new old n h = (refl, cc)
+unfolding predictTree forestMeans outOfBagMeans treeImportances forestImportances reads
+reader-refused =
+    record {
+      predictions = λ S xs c out n h. go (firstFailed (predictTests S xs c out)) _ out n h;
+      means = λ S xs T out n h. go (firstFailed (meanTests S xs T out)) _ out n h;
+      outOfBag = λ S xs ks T out n h. go (firstFailed (outTests S xs ks T out)) _ out n h;
+      treeImportances = λ features by c out n h. go (firstFailed (treeImportanceTests features c out)) _ out n h;
+      forestImportances = λ features T out n h. go (firstFailed (forestImportanceTests features T out)) _ out n h;
+    }
+  where
+    go : (k : ℕ) (new old : List Float) (n : ℕ) → reads k new old .answer ≡ Reply.Refused n → (reads k new old .rooms ≡ old) × (k ≡ n)
+    go zero new old n h = let z : _≡_ {A = ℕ} 0 1 = cc in absurd (omega arith)
+    go (suc k) new old n h = (refl, cc)
 
 -- ---- told apart
 
-failed-within : (top : ℕ) (ts : List Test) → Every (λ (t : Test). t .number ≤ top) ts → firstFailed ts ≤ top
+-- the first test to fail has at most the number that all those that fail have at most
+pub failed-within : (top : ℕ) (ts : List Test) → Every (λ (t : Test). t .passes ≡ false → t .number ≤ top) ts → firstFailed ts ≤ top
 unfolding firstFailed
 failed-within top [] e = omega arith
-failed-within top (t ∷ ts) e = go (t .passes) (failed-within top ts (e .1))
+failed-within top (t ∷ ts) e = go (t .passes) (e .0) (failed-within top ts (e .1))
   where
-    go : (b : Bool) → firstFailed ts ≤ top → cond b (firstFailed ts) (t .number) ≤ top
-    go true h = h
-    go false h = e .0
+    go : (b : Bool) → (b ≡ false → t .number ≤ top) → firstFailed ts ≤ top → cond b (firstFailed ts) (t .number) ≤ top
+    go true h r = r
+    go false h r = h refl
 
 -- a refusal's number is not 0
 some-tree : {W : Type 0} (K : Waits W) (R : TreeRooms W) (n k : ℕ) (o : Out Tree) → treeEnds K k o R .answer ≡ TreeAnswer.Refused n → 1 ≤ k
@@ -182,11 +266,11 @@ told-apart W K = (
   (λ C R n h.
       let q = tree-refused W K C R n h .1 in (
         subst (λ m. 1 ≤ m) q (some-tree K R n (firstFailed (treeTests K C R)) (grownTree C) h),
-        subst (λ m. m ≤ 6) q (failed-within 6 (treeTests K C R) (lit≤ tt, (lit≤ tt, (lit≤ tt, (lit≤ tt, (lit≤ tt, (lit≤ tt, tt))))))),
+        subst (λ m. m ≤ 6) q (failed-within 6 (treeTests K C R) (λ f. lit≤ tt, (λ f. lit≤ tt, (λ f. lit≤ tt, (λ f. lit≤ tt, (λ f. lit≤ tt, (λ f. lit≤ tt, tt))))))),
       )),
   (λ C R n h.
       let q = forest-refused W K C R n h .1 in (
         subst (λ m. 1 ≤ m) q (some-forest K R n (firstFailed (forestTests K C R)) (grownForest C) h),
-        subst (λ m. m ≤ 6) q (failed-within 6 (forestTests K C R) (lit≤ tt, (lit≤ tt, (lit≤ tt, (lit≤ tt, (lit≤ tt, (lit≤ tt, tt))))))),
+        subst (λ m. m ≤ 6) q (failed-within 6 (forestTests K C R) (λ f. lit≤ tt, (λ f. lit≤ tt, (λ f. lit≤ tt, (λ f. lit≤ tt, (λ f. lit≤ tt, (λ f. lit≤ tt, tt))))))),
       )),
 )

@@ -1,12 +1,12 @@
 -- The rehearsal table: P1 to P10, with P1's importances and node rooms, over the whole calls, rooms included. One list and one theorem, by computation.
--- Beside it the two corners of the threshold. Assumes nothing.
+-- What a call leaves is written out to the last float, so that a wrong one differs at once. Beside it the two corners of the threshold. Assumes nothing.
 use Prim.Native.Nat.{ℕ}
 use mathlib.Core.Path.{_≡_, refl}
 use mathlib.Core.Bool.{Bool, true, false}
 use mathlib.Core.List.{List, [], _∷_, _++_, map}
 use lib.ListN.{length, replicate}
-use lib.IntN.{negsuc}
-use lib.Ieee.{Float, nan, binary64, add, sub, mul, div, lt, le, eq, isNan, ofInt, ofBits}
+use lib.IntN.{pos, negsuc}
+use lib.Ieee.{Float, nan, fin, binary64, add, sub, mul, div, lt, le, eq, isNan, ofInt, ofBits}
 use Rattle.rules.specs.declared.Splitter.the-variants.{Best}
 use Rattle.rules.specs.declared.Depth.{Depth}
 use Rattle.rules.specs.declared.Depth.the-variants.{Unlimited, AtMost}
@@ -14,8 +14,9 @@ use Rattle.rules.specs.declared.Tried.the-variants.{Unsaid}
 use Rattle.rules.specs.declared.Scale.{Scale}
 use Rattle.rules.specs.declared.Scale.the-variants.{Normalised, ByMass}
 use Rattle.rules.specs.declared.TreeAnswer.{TreeAnswer}
+use Rattle.rules.specs.declared.ForestAnswer.{ForestAnswer}
 use Rattle.rules.specs.declared.Reply.{Reply}
-use Rattle.rules.specs.Words.{nought, float, from, putIf, keep, every, alongFrom, along, total, member, fresh, eachOnce}
+use Rattle.rules.specs.Words.{float, from, putIf, keep, every, alongFrom, along, total, member, fresh, eachOnce}
 use Rattle.rules.specs.Totals.{takeIn, less, valueOf, massless, gap, proxy, score}
 use Rattle.rules.specs.Threshold.{midpoint, threshold}
 use Rattle.rules.specs.Lent.{Given, Columns, Stack, stack, Work, TreeRooms, ForestRooms, Outcome, valuesAt, listingAt, unweighted, entriesAt, kept, keptRows, cell, countIn, massIn, keptIn}
@@ -42,22 +43,20 @@ pub data Call : Type 0 where
 pub data Seen : Type 0 where
   fitted : Outcome TreeAnswer (TreeRooms Stack) → Seen
   read : Outcome Reply (List Float) → Seen
+  bagged : Outcome ForestAnswer (ForestRooms Stack) → Outcome Reply (List Float) → Seen
 
 unfoldable pub run : Call → Seen
 unfolding from putIf keep every alongFrom along total member fresh eachOnce takeIn less valueOf massless gap proxy score midpoint threshold valuesAt cell listingAt unweighted entriesAt firstFailed within lengths goodCuts goodWeight numbersGood countsGood countsOne countIn massIn keptIn kept keptRows roomFor workEnough reportsExact neverFalls goodListing listingsGood bind takeWords takeThreshold nextThreshold tape at totals goesTrue better judge candidateAt step walk bestIn final drawn drawIn randomIn tryOne tryAll search child leafOf splitting splitOf withChildren searchable joins runs searchIf expand grow growAll fromRoot listing elementIn element column root treeOf rooted fit entryOf entries limitOf paramsOf frameOf grownTree treeTests treeDone treeEnds fitTree isLeaf goodEntry goodFrom goodTree treeIn startsGood treeAt treesOf goodForest onto walked leafValue reads addTrees meanOf scored addScores sumFrom dividedIf normalised scoresOf scaled treeImportanceTests treeImportances squares triedOf part frameAt frames withTree nextTree growTrees grownForest startsFrom forestEntries cutsGood roomsGood forestTests forestDone forestEnds fitForest outTrees outOfBagMean outTests outOfBagMeans add sub mul div lt le eq isNan ofInt ofBits
 run (fits C R) = fitted (fitTree stack C R)
 run (weighs by C R out) = read (treeImportances (C .shape .features) by (fitTree stack C R .rooms .nodes) out)
 run (bags C R out) =
-    let F = fitForest stack C R .rooms in
-    read (outOfBagMeans (C .shape) (C .given .inputs .values) (C .given .counts) (record { trees = C .trees; nodes = F .nodes; starts = F .starts }) out)
+    let F = fitForest stack C R in
+    bagged F (outOfBagMeans (C .shape) (C .given .inputs .values) (C .given .counts) (record { trees = C .trees; nodes = F .rooms .nodes; starts = F .rooms .starts }) out)
 
 -- ---- the table's calls
 
 abbrev floats : List ℕ → List Float
 floats l = map float l
-
-abbrev half : ℕ → Float
-half n = div binary64 (float n) (float 2)
 
 -- one feature, four rows
 abbrev given : List ℕ → List Float → List ℕ → List ℕ → Given
@@ -114,44 +113,67 @@ forest G =
       thresholdCuts = 0 ∷ 0 ∷ [];
     }
 
+-- floats written out: an odd whole number, or 0, times a power of two
+abbrev times : ℕ → ℕ → Float
+times m k = fin false m (pos k)
+
+abbrev half : ℕ → Float
+half m = fin false m (negsuc 0)
+
+abbrev f0 : Float
+f0 = times 0 0
+
+abbrev f5 : Float
+f5 = times 5 0
+
+abbrev f10 : Float
+f10 = times 5 1
+
+abbrev f100 : Float
+f100 = times 25 2
+
 -- rooms with nines in them
 abbrev nines : ℕ → List ℕ
 nines n = replicate n 9
 
-abbrev room : ℕ → Columns
-room n = record { value = floats (nines n); feature = nines n; threshold = floats (nines n); score = floats (nines n); trueChild = nines n; falseChild = nines n }
+abbrev nineFloats : ℕ → List Float
+nineFloats n = replicate n (times 9 0)
 
-abbrev work : ℕ → Bool → Work Stack
-work k b =
+abbrev room : ℕ → Columns
+room n = record { value = nineFloats n; feature = nines n; threshold = nineFloats n; score = nineFloats n; trueChild = nines n; falseChild = nines n }
+
+-- with k, b and x at every place
+abbrev work : ℕ → Bool → Float → Work Stack
+work k b x =
     record {
       order = replicate 4 k;
       scratch = replicate 4 k;
       flags = replicate 4 b;
-      waiting = record { wholes = replicate 4 (replicate 6 k); reals = replicate 4 (replicate 3 (float k)) };
+      waiting = record { wholes = replicate 4 (replicate 6 k); reals = replicate 4 (replicate 3 x) };
     }
 
 abbrev lent : ℕ → TreeRooms Stack
-lent n = record { nodes = room n; work = work 9 true }
+lent n = record { nodes = room n; work = work 9 true (times 9 0) }
 
 abbrev lentAll : ℕ → ForestRooms Stack
 lentAll n =
     record {
       nodes = room n;
       starts = nines 2;
-      reports = record { nodes = nines 1; depth = nines 1; mass = floats (nines 1); searches = nines 1; words = nines 1; thresholds = nines 1 };
-      work = work 9 true;
+      reports = record { nodes = nines 1; depth = nines 1; mass = nineFloats 1; searches = nines 1; words = nines 1; thresholds = nines 1 };
+      work = work 9 true (times 9 0);
     }
 
 -- ---- what they leave
 
 -- values, thresholds, scores and children of the nodes, then k places as they were
-abbrev nodes : List ℕ → List Float → List ℕ → List ℕ → List ℕ → ℕ → Columns
+abbrev nodes : List Float → List Float → List Float → List ℕ → List ℕ → ℕ → Columns
 nodes vs ts ss trues falses k =
     record {
-      value = floats (vs ++ nines k);
+      value = vs ++ nineFloats k;
       feature = replicate (length vs) 0 ++ nines k;
-      threshold = ts ++ floats (nines k);
-      score = floats (ss ++ nines k);
+      threshold = ts ++ nineFloats k;
+      score = ss ++ nineFloats k;
       trueChild = trues ++ nines k;
       falseChild = falses ++ nines k;
     }
@@ -159,35 +181,48 @@ nodes vs ts ss trues falses k =
 -- P1's seven nodes
 abbrev seven : ℕ → Columns
 seven k =
-    nodes (5 ∷ 0 ∷ 10 ∷ 10 ∷ 10 ∷ 0 ∷ 0 ∷ []) (half 5 ∷ half 3 ∷ half 7 ∷ nought ∷ nought ∷ nought ∷ nought ∷ [])
-    (100 ∷ 0 ∷ 0 ∷ 0 ∷ 0 ∷ 0 ∷ 0 ∷ []) (1 ∷ 5 ∷ 3 ∷ 0 ∷ 0 ∷ 0 ∷ 0 ∷ []) (2 ∷ 6 ∷ 4 ∷ 0 ∷ 0 ∷ 0 ∷ 0 ∷ []) k
+    nodes (f5 ∷ f0 ∷ f10 ∷ f10 ∷ f10 ∷ f0 ∷ f0 ∷ []) (half 5 ∷ half 3 ∷ half 7 ∷ f0 ∷ f0 ∷ f0 ∷ f0 ∷ [])
+    (f100 ∷ f0 ∷ f0 ∷ f0 ∷ f0 ∷ f0 ∷ f0 ∷ []) (1 ∷ 5 ∷ 3 ∷ 0 ∷ 0 ∷ 0 ∷ 0 ∷ []) (2 ∷ 6 ∷ 4 ∷ 0 ∷ 0 ∷ 0 ∷ 0 ∷ []) k
 
--- P8's five
-abbrev five : ℕ → Columns
-five k =
-    nodes (5 ∷ 0 ∷ 10 ∷ 10 ∷ 10 ∷ []) (float 2 ∷ nought ∷ half 7 ∷ nought ∷ nought ∷ [])
-    (100 ∷ 0 ∷ 0 ∷ 0 ∷ 0 ∷ []) (1 ∷ 0 ∷ 3 ∷ 0 ∷ 0 ∷ []) (2 ∷ 0 ∷ 4 ∷ 0 ∷ 0 ∷ []) k
+-- P8's five, and no place more
+abbrev five : Columns
+five =
+    nodes (f5 ∷ f0 ∷ f10 ∷ f10 ∷ f10 ∷ []) (times 1 1 ∷ f0 ∷ half 7 ∷ f0 ∷ f0 ∷ []) (f100 ∷ f0 ∷ f0 ∷ f0 ∷ f0 ∷ []) (1 ∷ 0 ∷ 3 ∷ 0 ∷ 0 ∷ []) (2 ∷ 0 ∷ 4 ∷ 0 ∷ 0 ∷ []) 0
 
-abbrev three : ℕ → Columns
-three k = nodes (5 ∷ 0 ∷ 10 ∷ []) (half 5 ∷ nought ∷ nought ∷ []) (100 ∷ 0 ∷ 0 ∷ []) (1 ∷ 0 ∷ 0 ∷ []) (2 ∷ 0 ∷ 0 ∷ []) k
+abbrev three : Columns
+three = nodes (f5 ∷ f0 ∷ f10 ∷ []) (half 5 ∷ f0 ∷ f0 ∷ []) (f100 ∷ f0 ∷ f0 ∷ []) (1 ∷ 0 ∷ 0 ∷ []) (2 ∷ 0 ∷ 0 ∷ []) 4
 
-abbrev lone : ℕ → ℕ → Columns
-lone v k = nodes (v ∷ []) (nought ∷ []) (0 ∷ []) (0 ∷ []) (0 ∷ []) k
+abbrev lone : Float → ℕ → Columns
+lone v k = nodes (v ∷ []) (f0 ∷ []) (f0 ∷ []) (0 ∷ []) (0 ∷ []) k
 
 -- node count, depth, root mass and searches; a choice word a search, and no thresholds
-abbrev says : ℕ → ℕ → ℕ → ℕ → Columns → Seen
+abbrev says : ℕ → ℕ → Float → ℕ → Columns → Seen
 says n depth mass searches c =
     fitted (record {
-      answer = TreeAnswer.Grown (record { nodes = n; depth = depth; mass = float mass; searches = searches; words = searches; thresholds = 0 });
-      rooms = record { nodes = c; work = work 0 false };
+      answer = TreeAnswer.Grown (record { nodes = n; depth = depth; mass = mass; searches = searches; words = searches; thresholds = 0 });
+      rooms = record { nodes = c; work = work 0 false f0 };
     })
 
 -- refused, and all as it was
 abbrev no : ℕ → TreeRooms Stack → Seen
 no n R = fitted (record { answer = TreeAnswer.Refused n; rooms = R })
 
-abbrev results : List Float → Seen
-results l = read (record { answer = Reply.Done; rooms = l })
+abbrev results : List Float → Outcome Reply (List Float)
+results l = record { answer = Reply.Done; rooms = l }
+
+-- P8's forest, with the means of its one tree for the rows that it leaves out
+abbrev oneTree : List Float → Seen
+oneTree means =
+    bagged (record {
+      answer = ForestAnswer.Grown;
+      rooms = record {
+        nodes = five;
+        starts = 0 ∷ 5 ∷ [];
+        reports = record { nodes = 5 ∷ []; depth = 3 ∷ []; mass = times 1 2 ∷ []; searches = 3 ∷ []; words = 3 ∷ []; thresholds = 0 ∷ [] };
+        work = work 0 false f0;
+      };
+    })
+    (results means)
 
 -- ---- the table
 
@@ -201,40 +236,44 @@ case c s = record { call = c; leaves = s }
 unfoldable pub cases : List Case
 cases =
     -- P1, with two places more than it needs
-    case (fits (tree Unlimited 1 2 plain) (lent 9)) (says 7 3 4 3 (seven 2))
+    case (fits (tree Unlimited 1 2 plain) (lent 9)) (says 7 3 (times 1 2) 3 (seven 2))
     -- P2
-    ∷ case (fits (tree (AtMost 2) 1 2 plain) (lent 7)) (says 3 2 4 1 (three 4))
+    ∷ case (fits (tree (AtMost 2) 1 2 plain) (lent 7)) (says 3 2 (times 1 2) 1 three)
     -- P3
-    ∷ case (fits (tree (AtMost 1) 1 2 plain) (lent 7)) (says 1 0 4 0 (lone 5 6))
-    ∷ case (fits (tree (AtMost 0) 1 2 plain) (lent 7)) (says 1 0 4 0 (lone 5 6))
+    ∷ case (fits (tree (AtMost 1) 1 2 plain) (lent 7)) (says 1 0 (times 1 2) 0 (lone f5 6))
+    ∷ case (fits (tree (AtMost 0) 1 2 plain) (lent 7)) (says 1 0 (times 1 2) 0 (lone f5 6))
     -- P4
-    ∷ case (fits (tree Unlimited 2 2 plain) (lent 7)) (says 3 2 4 3 (three 4))
+    ∷ case (fits (tree Unlimited 2 2 plain) (lent 7)) (says 3 2 (times 1 2) 3 three)
     -- P5
-    ∷ case (fits (tree Unlimited 3 2 plain) (lent 7)) (says 1 0 4 1 (lone 5 6))
+    ∷ case (fits (tree Unlimited 3 2 plain) (lent 7)) (says 1 0 (times 1 2) 1 (lone f5 6))
     -- P6
-    ∷ case (fits (tree Unlimited 1 5 plain) (lent 7)) (says 1 0 4 0 (lone 5 6))
+    ∷ case (fits (tree Unlimited 1 5 plain) (lent 7)) (says 1 0 (times 1 2) 0 (lone f5 6))
     -- P7
-    ∷ case (fits (tree Unlimited 1 2 (given (7 ∷ 7 ∷ 7 ∷ 7 ∷ []) flats ones sorted)) (lent 7)) (says 1 0 4 1 (lone 5 6))
-    -- P8: the tree, and the second row's out-of-bag value, also if its target is -1000
-    ∷ case (fits (tree Unlimited 1 2 (sampled flats)) (lent 7)) (says 5 3 4 3 (five 2))
-    ∷ case (fits (tree Unlimited 1 2 (sampled deep)) (lent 7)) (says 5 3 4 3 (five 2))
-    ∷ case (bags (forest (sampled flats)) (lentAll 7) (floats (nines 4))) (results (nan ∷ float 0 ∷ nan ∷ nan ∷ []))
-    ∷ case (bags (forest (sampled deep)) (lentAll 7) (floats (nines 4))) (results (nan ∷ float 0 ∷ nan ∷ nan ∷ []))
+    ∷ case (fits (tree Unlimited 1 2 (given (7 ∷ 7 ∷ 7 ∷ 7 ∷ []) flats ones sorted)) (lent 7)) (says 1 0 (times 1 2) 1 (lone f5 6))
+    -- P8, in the five places that are asked: the tree, and the forest of it alone with the second row's out-of-bag value, also if that row's target is -1000
+    ∷ case (fits (tree Unlimited 1 2 (sampled flats)) (lent 5)) (says 5 3 (times 1 2) 3 five)
+    ∷ case (fits (tree Unlimited 1 2 (sampled deep)) (lent 5)) (says 5 3 (times 1 2) 3 five)
+    ∷ case (bags (forest (sampled flats)) (lentAll 5) (nineFloats 4)) (oneTree (nan ∷ f0 ∷ nan ∷ nan ∷ []))
+    ∷ case (bags (forest (sampled deep)) (lentAll 5) (nineFloats 4)) (oneTree (nan ∷ f0 ∷ nan ∷ nan ∷ []))
     -- P9: node room 1 is enough
-    ∷ case (fits (tree Unlimited 1 2 (given rise flats (0 ∷ 0 ∷ 0 ∷ 0 ∷ []) sorted)) (lent 1)) (says 1 0 0 0 (lone 0 0))
+    ∷ case (fits (tree Unlimited 1 2 (given rise flats (0 ∷ 0 ∷ 0 ∷ 0 ∷ []) sorted)) (lent 1)) (says 1 0 f0 0 (lone f0 0))
     -- P10
     ∷ case (fits (tree Unlimited 1 2 (given rise flats ones (0 ∷ 1 ∷ 1 ∷ 3 ∷ []))) (lent 7)) (no 5 (lent 7))
     -- P1's importance: 1 normalised, 25 not
-    ∷ case (weighs Normalised (tree Unlimited 1 2 plain) (lent 7) (floats (nines 1))) (results (float 1 ∷ []))
-    ∷ case (weighs (ByMass (float 4)) (tree Unlimited 1 2 plain) (lent 7) (floats (nines 1))) (results (float 25 ∷ []))
+    ∷ case (weighs Normalised (tree Unlimited 1 2 plain) (lent 7) (nineFloats 1)) (read (results (times 1 0 ∷ [])))
+    ∷ case (weighs (ByMass (float 4)) (tree Unlimited 1 2 plain) (lent 7) (nineFloats 1)) (read (results (times 25 0 ∷ [])))
     -- node room 6 for P1, and 7
     ∷ case (fits (tree Unlimited 1 2 plain) (lent 6)) (no 6 (lent 6))
-    ∷ case (fits (tree Unlimited 1 2 plain) (lent 7)) (says 7 3 4 3 (seven 0))
+    ∷ case (fits (tree Unlimited 1 2 plain) (lent 7)) (says 7 3 (times 1 2) 3 (seven 0))
     ∷ []
 
-pub rehearsal : map (λ (c : Case). run (c .call)) cases ≡ map (λ (c : Case). c .leaves) cases
+abbrev pub Holds : List Case → Type 0
+Holds [] = Unit {0}
+Holds (c ∷ cs) = (run (c .call) ≡ c .leaves) × Holds cs
+
+pub rehearsal : Holds cases
 unfolding cases run
-rehearsal = refl
+rehearsal = (refl, (refl, (refl, (refl, (refl, (refl, (refl, (refl, (refl, (refl, (refl, (refl, (refl, (refl, (refl, (refl, (refl, (refl, tt))))))))))))))))))
 
 -- ---- the corners of the threshold
 

@@ -1,0 +1,200 @@
+-- No fit answers in short rooms. Where a fit is not refused by 1 to 6, every slice that is lent to it is as long as the paper asks: the order features x rows, the scratch
+-- rows, the flags as many as the rows and as many as the features, both slices of the waiting list rows, each node column what the trees may come to,
+-- max(1, 2 x kept rows - 1) a tree, the starts trees + 1; and each report column is as long as there are trees, no longer. And no fit is refused by 6 whose rooms are so.
+-- It holds because the sixth test says just that. Assumes nothing.
+use Prim.Native.Nat.{ℕ, zero, suc, _+_, _-_, _*_, _≤_, max}
+use native.Mathlib.Omega.{arith}
+use mathlib.Core.Path.{_≡_, refl, sym, _∙_, subst}
+use mathlib.Core.Bool.{Bool, true, _&&_}
+use lib.ListN.{length}
+use lib.Dec.{T, leb, eqb, leb→le, le→leb, eqb→eq, eqb-refl, lit≤}
+use Rattle.rules.specs.declared.Shape.{Shape}
+use Rattle.rules.specs.declared.TreeAnswer.{TreeAnswer}
+use Rattle.rules.specs.declared.ForestAnswer.{ForestAnswer}
+use Rattle.rules.specs.Words.{from, total}
+use Rattle.rules.specs.Lent.{Frame, Columns, Reports, Stack, stack, Work, TreeRooms, ForestRooms, keptRows, shortest}
+use Rattle.rules.specs.Checks.{firstFailed, roomFor, workEnough, reportsExact}
+use Rattle.rules.specs.Fit.{TreeCall, frameOf, grownTree, treeTests, treeEnds, fitTree}
+use Rattle.rules.specs.Forest.{ForestCall, frameAt, frames, grownForest, roomsGood, forestTests, forestEnds, fitForest}
+use Rattle.laws.specs.Lists.{is-true, total-map}
+use Rattle.laws.specs.Passed.{and2, tree-passed, forest-passed}
+use Rattle.demands.specs.Refusals.{tree-refused, forest-refused, failed-within}
+
+-- ---- the statements
+
+-- each column of the node room has so many places
+pub record NodesLong (n : ℕ) (c : Columns) : Type 0 where
+  pub value : n ≤ length (c .value)
+  pub feature : n ≤ length (c .feature)
+  pub threshold : n ≤ length (c .threshold)
+  pub score : n ≤ length (c .score)
+  pub trueChild : n ≤ length (c .trueChild)
+  pub falseChild : n ≤ length (c .falseChild)
+
+pub record WorkLong (S : Shape) (w : Work Stack) : Type 0 where
+  pub order : S .features * S .rows ≤ length (w .order)
+  pub scratch : S .rows ≤ length (w .scratch)
+  pub flagsByRows : S .rows ≤ length (w .flags)
+  pub flagsByFeatures : S .features ≤ length (w .flags)
+  pub wholes : S .rows ≤ length (w .waiting .wholes)
+  pub reals : S .rows ≤ length (w .waiting .reals)
+
+pub record ReportsLong (trees : ℕ) (c : Reports) : Type 0 where
+  pub nodes : length (c .nodes) ≡ trees
+  pub depth : length (c .depth) ≡ trees
+  pub mass : length (c .mass) ≡ trees
+  pub searches : length (c .searches) ≡ trees
+  pub words : length (c .words) ≡ trees
+  pub thresholds : length (c .thresholds) ≡ trees
+
+-- what a tree may come to, by its kept rows
+abbrev pub nodesAtMost : Frame → ℕ
+nodesAtMost F = max 1 (2 * length (keptRows F) - 1)
+
+pub record TreeLong (C : TreeCall) (R : TreeRooms Stack) : Type 0 where
+  pub nodes : NodesLong (nodesAtMost (frameOf C)) (R .nodes)
+  pub work : WorkLong (C .shape) (R .work)
+
+pub record ForestLong (C : ForestCall) (R : ForestRooms Stack) : Type 0 where
+  pub nodes : NodesLong (total (λ t. nodesAtMost (frameAt C t)) (from 0 (C .trees))) (R .nodes)
+  pub starts : C .trees + 1 ≤ length (R .starts)
+  pub reports : ReportsLong (C .trees) (R .reports)
+  pub work : WorkLong (C .shape) (R .work)
+
+abbrev pub TreeRoomsLong : Type 0
+TreeRoomsLong = (C : TreeCall) (R : TreeRooms Stack) → ((n : ℕ) → fitTree stack C R .answer ≡ TreeAnswer.Refused n → ⊥) → TreeLong C R
+
+abbrev pub TreeRoomsTaken : Type 0
+TreeRoomsTaken = (C : TreeCall) (R : TreeRooms Stack) → TreeLong C R → fitTree stack C R .answer ≡ TreeAnswer.Refused 6 → ⊥
+
+abbrev pub ForestRoomsLong : Type 0
+ForestRoomsLong = (C : ForestCall) (R : ForestRooms Stack) → ((n : ℕ) → fitForest stack C R .answer ≡ ForestAnswer.Refused n → ⊥) → ForestLong C R
+
+abbrev pub ForestRoomsTaken : Type 0
+ForestRoomsTaken = (C : ForestCall) (R : ForestRooms Stack) → ForestLong C R → fitForest stack C R .answer ≡ ForestAnswer.Refused 6 → ⊥
+
+-- ---- what the tests say
+
+parts : {a b : Bool} → a && b ≡ true → (a ≡ true) × (b ≡ true)
+parts {a} {b} h = let (x, y) = and2 a b (subst T (sym h) tt) in (is-true a x, is-true b y)
+
+both : {a b : Bool} → a ≡ true → b ≡ true → a && b ≡ true
+both p q = λ i. p i && q i
+
+least : {m n : ℕ} → leb m n ≡ true → m ≤ n
+least {m} {n} h = leb→le m n (subst T (sym h) tt)
+
+enough : {m n : ℕ} → m ≤ n → leb m n ≡ true
+enough {m} {n} h = is-true (leb m n) (le→leb m n h)
+
+same : {m n : ℕ} → eqb m n ≡ true → m ≡ n
+same {m} {n} h = eqb→eq m n (subst T (sym h) tt)
+
+exact : {m n : ℕ} → m ≡ n → eqb m n ≡ true
+exact {m} {n} h = is-true (eqb m n) (subst (λ k. T (eqb m k)) h (eqb-refl m))
+
+nodes-long : (n : ℕ) (c : Columns) → n ≤ shortest c → NodesLong n c
+nodes-long n c h =
+    record {
+      value = omega (arith, h);
+      feature = omega (arith, h);
+      threshold = omega (arith, h);
+      score = omega (arith, h);
+      trueChild = omega (arith, h);
+      falseChild = omega (arith, h);
+    }
+
+nodes-fit : (n : ℕ) (c : Columns) → NodesLong n c → n ≤ shortest c
+nodes-fit n c h = omega (arith, h .value, h .feature, h .threshold, h .score, h .trueChild, h .falseChild)
+
+work-long : (S : Shape) (w : Work Stack) → workEnough stack S w ≡ true → WorkLong S w
+unfolding workEnough
+work-long S w t =
+    let (order, t₂) = parts t in let (scratch, t₃) = parts t₂ in let (flags, places) = parts t₃ in
+    let f : max (S .rows) (S .features) ≤ length (w .flags) = least flags in
+    let p : S .rows ≤ stack .places (w .waiting) = least places in
+    record {
+      order = least order;
+      scratch = least scratch;
+      flagsByRows = omega (arith, f);
+      flagsByFeatures = omega (arith, f);
+      wholes = omega (arith, p);
+      reals = omega (arith, p);
+    }
+
+work-fits : (S : Shape) (w : Work Stack) → WorkLong S w → workEnough stack S w ≡ true
+unfolding workEnough
+work-fits S w h =
+    let flags : max (S .rows) (S .features) ≤ length (w .flags) = omega (arith, h .flagsByRows, h .flagsByFeatures) in
+    let places : S .rows ≤ stack .places (w .waiting) = omega (arith, h .wholes, h .reals) in
+    both (enough (h .order)) (both (enough (h .scratch)) (both (enough flags) (enough places)))
+
+reports-long : (trees : ℕ) (c : Reports) → reportsExact trees c ≡ true → ReportsLong trees c
+unfolding reportsExact
+reports-long trees c t =
+    let (n, t₂) = parts t in let (d, t₃) = parts t₂ in let (m, t₄) = parts t₃ in let (s, t₅) = parts t₄ in let (w, h) = parts t₅ in
+    record { nodes = same n; depth = same d; mass = same m; searches = same s; words = same w; thresholds = same h }
+
+reports-fit : (trees : ℕ) (c : Reports) → ReportsLong trees c → reportsExact trees c ≡ true
+unfolding reportsExact
+reports-fit trees c h =
+    both (exact (h .nodes)) (both (exact (h .depth)) (both (exact (h .mass)) (both (exact (h .searches)) (both (exact (h .words)) (exact (h .thresholds))))))
+
+-- six tests, of which the last passes: it is not the first to fail
+not-six : (k : ℕ) → k ≡ 6 → k ≤ 5 → ⊥
+not-six k h₁ h₂ = omega arith
+
+-- ---- one tree
+
+pub tree-rooms-long : TreeRoomsLong
+unfolding fitTree treeEnds roomFor
+tree-rooms-long C R un =
+    let p = tree-passed stack C R (go (firstFailed (treeTests stack C R)) un refl) in
+    record { nodes = nodes-long (nodesAtMost (frameOf C)) (R .nodes) (p .room); work = work-long (C .shape) (R .work) (is-true (workEnough stack (C .shape) (R .work)) (p .work)) }
+  where
+    go : (k : ℕ) → ((n : ℕ) → treeEnds stack k (grownTree C) R .answer ≡ TreeAnswer.Refused n → ⊥) → firstFailed (treeTests stack C R) ≡ k → firstFailed (treeTests stack C R) ≡ 0
+    go zero un q = q
+    go (suc k) un q = absurd (un (suc k) refl)
+
+pub tree-rooms-taken : TreeRoomsTaken
+unfolding treeTests roomFor
+tree-rooms-taken C R long h =
+    not-six (firstFailed (treeTests stack C R)) (tree-refused Stack stack C R 6 h .1)
+    (failed-within 5 (treeTests stack C R) (λ f. lit≤ tt, (λ f. lit≤ tt, (λ f. lit≤ tt, (λ f. lit≤ tt, (λ f. lit≤ tt, (λ f. absurd (subst T (sym passes ∙ f) tt), tt)))))))
+  where
+    passes : leb (nodesAtMost (frameOf C)) (shortest (R .nodes)) && workEnough stack (C .shape) (R .work) ≡ true
+    passes = both (enough (nodes-fit (nodesAtMost (frameOf C)) (R .nodes) (long .nodes))) (work-fits (C .shape) (R .work) (long .work))
+
+-- ---- a forest
+
+-- what all the trees may come to
+room-same : (C : ForestCall) → total roomFor (frames C) ≡ total (λ t. nodesAtMost (frameAt C t)) (from 0 (C .trees))
+unfolding frames roomFor
+room-same C = total-map roomFor (frameAt C) (from 0 (C .trees))
+
+pub forest-rooms-long : ForestRoomsLong
+unfolding fitForest forestEnds
+forest-rooms-long C R un =
+    let p = forest-passed stack C R (go (firstFailed (forestTests stack C R)) un refl) in
+    record {
+      nodes = nodes-long (total (λ t. nodesAtMost (frameAt C t)) (from 0 (C .trees))) (R .nodes) (subst (λ n. n ≤ shortest (R .nodes)) (room-same C) (p .room));
+      starts = omega (arith, p .startsRoom);
+      reports = reports-long (C .trees) (R .reports) (is-true (reportsExact (C .trees) (R .reports)) (p .reports));
+      work = work-long (C .shape) (R .work) (is-true (workEnough stack (C .shape) (R .work)) (p .work));
+    }
+  where
+    go : (k : ℕ) → ((n : ℕ) → forestEnds stack k (grownForest C) R .answer ≡ ForestAnswer.Refused n → ⊥) → firstFailed (forestTests stack C R) ≡ k → firstFailed (forestTests stack C R) ≡ 0
+    go zero un q = q
+    go (suc k) un q = absurd (un (suc k) refl)
+
+pub forest-rooms-taken : ForestRoomsTaken
+unfolding forestTests roomsGood
+forest-rooms-taken C R long h =
+    not-six (firstFailed (forestTests stack C R)) (forest-refused Stack stack C R 6 h .1)
+    (failed-within 5 (forestTests stack C R) (λ f. lit≤ tt, (λ f. lit≤ tt, (λ f. lit≤ tt, (λ f. lit≤ tt, (λ f. lit≤ tt, (λ f. absurd (subst T (sym passes ∙ f) tt), tt)))))))
+  where
+    passes : leb (total roomFor (frames C)) (shortest (R .nodes)) && roomsGood stack C R ≡ true
+    passes =
+        let starts : suc (C .trees) ≤ length (R .starts) = omega (arith, long .starts) in
+        both (enough (subst (λ n. n ≤ shortest (R .nodes)) (sym (room-same C)) (nodes-fit (total (λ t. nodesAtMost (frameAt C t)) (from 0 (C .trees))) (R .nodes) (long .nodes))))
+        (both (work-fits (C .shape) (R .work) (long .work)) (both (enough starts) (reports-fit (C .trees) (R .reports) (long .reports))))
