@@ -6,6 +6,7 @@ pub mod ItsTrees
 pub mod FirstBad
 pub mod Numbers
 pub mod DrawsUsed
+pub mod ForestDraws
 pub mod OneOutcome
 pub mod Filled
 pub mod Refusals

@@ -1,0 +1,221 @@
+-- Draws used are exact, of a forest. Each tree of a forest fit that answers uses of its own parts of both tapes exactly what its place of the report columns says. Over
+-- tapes laid anew from each tree's parts, cut to as much or left longer, it is the same fit; with the columns' own numbers the new cut tables are their sums. Where one
+-- tree's words or thresholds are cut shorter than it used, and no tree's before it, it is refusal 7 at that tree, whatever is left to those after it. It holds because a
+-- forest is its trees and each tree looks at no more than it uses; no check looks at a tape but for the cut tables, and what is laid anew has good ones. Assumes nothing.
+use Prim.Native.Nat.{ℕ, suc, _-_, _<_, _≤_}
+use native.Mathlib.Nat.{le-refl, le-trans, zero-add}
+use native.Mathlib.Omega.{arith}
+use mathlib.Core.Path.{_≡_, refl, sym, ap, _∙_, subst}
+use mathlib.Core.Logic.{_≢_}
+use mathlib.Core.Bool.{_&&_}
+use mathlib.Core.List.{List, [], _∷_, map, flatten}
+use lib.ListN.{length, getD, take, length-map}
+use lib.Seq.{take-take}
+use lib.Dec.{T, leb}
+use lib.Ieee.Fits.{and-l, and-i}
+use Rattle.rules.specs.declared.Report.{Report}
+use Rattle.rules.specs.declared.TreeAnswer.{TreeAnswer}
+use Rattle.rules.specs.declared.ForestAnswer.{ForestAnswer}
+use Rattle.rules.specs.Words.{from, filled, total}
+use Rattle.rules.specs.Lent.{Data, Frame, Reports, Waits, TreeRooms, ForestRooms, Outcome, kept, keptRows, shortest, zeroColumns, zeroReports, zeroWork}
+use Rattle.rules.specs.Checks.{firstFailed, lengths, goodCuts, roomFor}
+use Rattle.rules.specs.Draws.{ok}
+use Rattle.rules.specs.Fit.{Tree, fit, TreeCall, frameOf, fitTree}
+use Rattle.rules.specs.Forest.{ForestCall, forestCall, part, frameAt, frames, Forest, stopped, grownAll, nextTree, growTrees, grownForest, cutsGood, roomsGood, forestTests, forestDone, forestEnds, fitForest}
+use Rattle.laws.specs.Lists.{Every, every-imp, from-below, drop-take, total-map, length-from, getD-from}
+use Rattle.laws.specs.Outs.{then-of}
+use Rattle.laws.specs.Passed.{past, goes-on, none-fails}
+use Rattle.laws.specs.Pieces.{sums, cutsOf, piece-at, cuts-good}
+use Rattle.laws.specs.Answered.{TreeAnswered, tree-answered}
+use Rattle.demands.specs.Refusals.{forest-bad}
+use Rattle.demands.specs.ItsTrees.{between, treeCallAt, reportAt, ForestUnrefused, ownRooms, frame-same, passes, its-trees, tree-alone}
+use Rattle.demands.specs.FirstBad.{first-bad-alone}
+use Rattle.demands.specs.DrawsUsed.{cutTo, Refusal7, Exact, fit-again, draws-used}
+
+-- ---- the statements
+
+-- each tree alone, in any rooms that are not too small
+abbrev pub EachExact : Type 1
+EachExact =
+    (W X : Type 0) (K : Waits W) (L : Waits X) (C : ForestCall) (R : ForestRooms W) → fitForest K C R .answer ≡ ForestAnswer.Grown
+    → (t : ℕ) → t < C .trees → (Q : TreeRooms X) → fitTree L (treeCallAt C t) Q .answer ≢ TreeAnswer.Refused 6
+    → Exact L (treeCallAt C t) Q (reportAt (fitForest K C R .rooms .reports) t)
+
+-- of each part as many as place t of ns says
+abbrev pub shortened : {A : Type 0} → ℕ → List ℕ → (ℕ → List A) → List (List A)
+shortened trees ns part = map (λ t. take (getD ns t 0) (part t)) (from 0 trees)
+
+-- the same call over tapes laid anew from each tree's parts, cut to ns words and ms thresholds
+abbrev pub forestCut : List ℕ → List ℕ → ForestCall → ForestCall
+forestCut ns ms C =
+    let ws = shortened (C .trees) ns (λ t. treeCallAt C t .words) in
+    let ts = shortened (C .trees) ms (λ t. treeCallAt C t .thresholds) in
+    forestCall (C .shape) (C .trees) (C .settings) (C .tried) (C .given) (flatten ws) (flatten ts) (cutsOf ws) (cutsOf ts)
+
+-- at least what was used, of the first n trees
+abbrev pub Enough : ℕ → List ℕ → List ℕ → Type 0
+Enough n used ns = (t : ℕ) → t < n → getD used t 0 ≤ getD ns t 0
+
+-- a bad draw at tree t, with all rooms zero
+abbrev pub BadAt : {W : Type 0} → Waits W → ForestRooms W → ℕ → Outcome ForestAnswer (ForestRooms W) → Type 0
+BadAt K R t o =
+    (s : ℕ)
+    × (o ≡ record {
+      answer = ForestAnswer.BadDraw (record { tree = t; search = s });
+      rooms = record { nodes = zeroColumns (R .nodes); starts = filled 0 (R .starts); reports = zeroReports (R .reports); work = zeroWork K (R .work) };
+    })
+
+-- what the report columns c of a fit say of its tapes
+pub record ForestExact {W : Type 0} (K : Waits W) (C : ForestCall) (R : ForestRooms W) (c : Reports) : Type 0 where
+  pub cut : (ns ms : List ℕ) → Enough (C .trees) (c .words) ns → Enough (C .trees) (c .thresholds) ms → fitForest K (forestCut ns ms C) R ≡ fitForest K C R
+  pub fewerWords : (ns ms : List ℕ) (t : ℕ) → t < C .trees → Enough t (c .words) ns → Enough t (c .thresholds) ms → getD ns t 0 < getD (c .words) t 0
+      → BadAt K R t (fitForest K (forestCut ns ms C) R)
+  pub fewerThresholds : (ns ms : List ℕ) (t : ℕ) → t < C .trees → Enough t (c .words) ns → Enough t (c .thresholds) ms → getD ms t 0 < getD (c .thresholds) t 0
+      → BadAt K R t (fitForest K (forestCut ns ms C) R)
+
+abbrev pub ForestDraws : Type 1
+ForestDraws =
+    (W : Type 0) (K : Waits W) (C : ForestCall) (R : ForestRooms W) → fitForest K C R .answer ≡ ForestAnswer.Grown → ForestExact K C R (fitForest K C R .rooms .reports)
+
+-- ---- each tree
+
+pub each-exact : EachExact
+each-exact W X K L C R g t h Q n = draws-used X L (treeCallAt C t) Q _ (its-trees W X K L C R g t h Q n .answer)
+
+-- ---- what is laid anew
+
+module _ {A : Type 0} (trees : ℕ) (ns : List ℕ) (p : ℕ → List A) where
+  abbrev pieces : List (List A)
+  pieces = shortened trees ns p
+
+  as-many : length pieces ≡ trees
+  as-many = length-map (from 0 trees) (λ t. take (getD ns t 0) (p t)) ∙ length-from 0 trees
+
+  -- its table is good
+  good-anew : T (goodCuts trees (length (flatten pieces)) (cutsOf pieces))
+  good-anew = subst (λ n. T (goodCuts n (length (flatten pieces)) (cutsOf pieces))) as-many (cuts-good pieces)
+
+  -- and a tree's part of it is that tree's part cut
+  own-part : (t : ℕ) → t < trees → between (getD (cutsOf pieces) t 0) (getD (cutsOf pieces) (suc t) 0) (flatten pieces) ≡ take (getD ns t 0) (p t)
+  unfolding part
+  own-part t h =
+      drop-take (getD (cutsOf pieces) t 0) (getD (cutsOf pieces) (suc t) 0) (flatten pieces)
+      ∙ piece-at pieces t (subst (λ n. t < n) (sym as-many) h)
+      ∙ getD-from (λ t. take (getD ns t 0) (p t)) 0 trees t [] h
+      ∙ ap (λ t. take (getD ns t 0) (p t)) (zero-add t)
+
+call-cut : (C : ForestCall) (ns ms : List ℕ) (t : ℕ) → t < C .trees → treeCallAt (forestCut ns ms C) t ≡ cutTo (getD ns t 0) (getD ms t 0) (treeCallAt C t)
+call-cut C ns ms t h =
+    λ i.
+    record {
+      shape = treeCallAt C t .shape;
+      settings = treeCallAt C t .settings;
+      tried = treeCallAt C t .tried;
+      given = treeCallAt C t .given;
+      words = own-part (C .trees) ns (λ t. treeCallAt C t .words) t h i;
+      thresholds = own-part (C .trees) ms (λ t. treeCallAt C t .thresholds) t h i;
+    }
+
+-- ---- it is not refused before growth
+
+done-unrefused : {W : Type 0} (K : Waits W) (f : Forest) (R : ForestRooms W) → ForestUnrefused (forestDone K f R .answer)
+unfolding forestDone
+done-unrefused K (stopped d) R = tt
+done-unrefused K (grownAll ts) R = tt
+
+module _ {W : Type 0} (K : Waits W) (C : ForestCall) (R : ForestRooms W) (q : firstFailed (forestTests K C R) ≡ 0) (ns ms : List ℕ) where
+  cut-passes : firstFailed (forestTests K (forestCut ns ms C) R) ≡ 0
+  unfolding forestTests cutsGood roomsGood frames frameAt roomFor keptRows kept
+  cut-passes =
+      let (t₁, q₂) = past 0 _ _ q in let (t₂, q₃) = past 1 _ _ q₂ in let (t₃, q₄) = past 2 _ _ q₃ in
+      let (t₄, q₅) = past 3 _ _ q₄ in let (t₅, q₆) = past 4 _ _ q₅ in let (t₆, q₇) = past 5 _ _ q₆ in
+      goes-on 1 _ _ t₁ (goes-on 2 _ _ (cuts (and-l (lengths (C .shape) (C .trees) (C .given)) (cutsGood C) t₂))
+      (goes-on 3 _ _ t₃ (goes-on 4 _ _ t₄ (goes-on 5 _ _ t₅ (goes-on 6 _ _ (subst (λ n. T (leb n (shortest (R .nodes)) && roomsGood K C R)) rooms t₆) none-fails)))))
+    where
+      new : ForestCall
+      new = forestCut ns ms C
+
+      cuts : T (lengths (C .shape) (C .trees) (C .given)) → T (lengths (C .shape) (C .trees) (C .given) && cutsGood new)
+      cuts l =
+          and-i (lengths (C .shape) (C .trees) (C .given)) (cutsGood new) l
+          (and-i (goodCuts (C .trees) (length (new .words)) (new .wordCuts)) (goodCuts (C .trees) (length (new .thresholds)) (new .thresholdCuts))
+          (good-anew (C .trees) ns _) (good-anew (C .trees) ms _))
+
+      rooms : total roomFor (frames C) ≡ total roomFor (frames new)
+      rooms = total-map roomFor (frameAt C) (from 0 (C .trees)) ∙ sym (total-map roomFor (frameAt new) (from 0 (C .trees)))
+
+  cut-unrefused : ForestUnrefused (fitForest K (forestCut ns ms C) R .answer)
+  unfolding fitForest forestEnds
+  cut-unrefused = subst (λ n. ForestUnrefused (forestEnds K n (grownForest (forestCut ns ms C)) R .answer)) (sym cut-passes) (done-unrefused K (grownForest (forestCut ns ms C)) R)
+
+-- ---- growth, tree after tree
+
+grow-same : (F G : ℕ → Frame) (D : Data) (k : ℕ) (l : List ℕ) → Every (λ t. fit (F t) D ≡ fit (G t) D) l → growTrees k (map F l) D ≡ growTrees k (map G l) D
+unfolding growTrees
+grow-same F G D k [] h = refl
+grow-same F G D k (t ∷ l) h = λ i. nextTree k (h .0 i) (grow-same F G D (suc k) l (h .1) i)
+
+module _ {W : Type 0} (K : Waits W) (C : ForestCall) (R : ForestRooms W) (g : fitForest K C R .answer ≡ ForestAnswer.Grown) where
+  abbrev columns : Reports
+  columns = fitForest K C R .rooms .reports
+
+  passed : firstFailed (forestTests K C R) ≡ 0
+  passed = passes K C R (subst ForestUnrefused (sym g) tt)
+
+  same-fit : (ns ms : List ℕ) (t : ℕ) → t < C .trees → getD (columns .words) t 0 ≤ getD ns t 0 → getD (columns .thresholds) t 0 ≤ getD ms t 0
+      → fit (frameAt (forestCut ns ms C) t) (C .given .inputs) ≡ fit (frameAt C t) (C .given .inputs)
+  unfolding frameOf
+  same-fit ns ms t h l m =
+      (λ i. fit (sym (frame-same (forestCut ns ms C) t) i) D)
+      ∙ (λ i. fit (frameOf (call-cut C ns ms t h i)) D)
+      ∙ then-of _ (fit F D) (a .tree) (a .grew) (fit-again F D) _ _
+      (take-take _ _ (F .words) (subst (λ (r : Report). r .words ≤ getD ns t 0) (sym (a .reported)) l))
+      (take-take _ _ (F .thresholds) (subst (λ (r : Report). r .thresholds ≤ getD ms t 0) (sym (a .reported)) m))
+      ∙ sym (a .grew)
+      ∙ (λ i. fit (frame-same C t i) D)
+    where
+      D : Data
+      D = C .given .inputs
+
+      F : Frame
+      F = frameOf (treeCallAt C t)
+
+      a : TreeAnswered K (treeCallAt C t) (ownRooms R) (reportAt columns t)
+      a = tree-answered K (treeCallAt C t) (ownRooms R) _ (tree-alone K C R g t h .answer)
+
+  exact-cut : (ns ms : List ℕ) → Enough (C .trees) (columns .words) ns → Enough (C .trees) (columns .thresholds) ms → fitForest K (forestCut ns ms C) R ≡ fitForest K C R
+  unfolding fitForest grownForest frames
+  exact-cut ns ms l m = λ i. forestEnds K ((cut-passes K C R passed ns ms ∙ sym passed) i) (grown i) R
+    where
+      grown : grownForest (forestCut ns ms C) ≡ grownForest C
+      grown =
+          grow-same (frameAt (forestCut ns ms C)) (frameAt C) (C .given .inputs) 0 (from 0 (C .trees))
+          (every-imp _ _ (λ t h. let b : t < C .trees = omega (arith, h) in same-fit ns ms t b (l t b) (m t b)) (from 0 (C .trees)) (from-below 0 (C .trees)))
+
+  alone : (t : ℕ) → t < C .trees → Exact K (treeCallAt C t) (ownRooms R) (reportAt columns t)
+  alone t h = draws-used W K (treeCallAt C t) (ownRooms R) _ (tree-alone K C R g t h .answer)
+
+  -- where tree t so cut meets a bad draw, and those before it have enough
+  short : (ns ms : List ℕ) (t : ℕ) → t < C .trees → Enough t (columns .words) ns → Enough t (columns .thresholds) ms
+      → Refusal7 K (ownRooms R) (fitTree K (cutTo (getD ns t 0) (getD ms t 0) (treeCallAt C t)) (ownRooms R)) → BadAt K R t (fitForest K (forestCut ns ms C) R)
+  short ns ms t h l m (s, e) = (s, λ i. record { answer = meets i; rooms = forest-bad W K (forestCut ns ms C) R _ meets i })
+    where
+      meets : fitForest K (forestCut ns ms C) R .answer ≡ ForestAnswer.BadDraw (record { tree = t; search = s })
+      meets =
+          first-bad-alone W K (forestCut ns ms C) R (cut-unrefused K C R passed ns ms) t s .1
+          (record {
+            inside = h;
+            met = (λ i. fitTree K (call-cut C ns ms t h i) (ownRooms R) .answer) ∙ (λ i. e i .answer);
+            before = λ u b. let k : u < C .trees = omega (arith, b, h) in (
+              reportAt columns u,
+              (λ i. fitTree K (call-cut C ns ms u k i) (ownRooms R) .answer) ∙ (λ i. alone u k .cut _ _ (l u b) (m u b) i .answer) ∙ tree-alone K C R g u k .answer,
+            );
+          })
+
+pub forest-draws : ForestDraws
+forest-draws W K C R g =
+    record {
+      cut = exact-cut K C R g;
+      fewerWords = λ ns ms t h l m b. short K C R g ns ms t h l m (alone K C R g t h .fewerWords (getD ns t 0) (getD ms t 0) b);
+      fewerThresholds = λ ns ms t h l m b. short K C R g ns ms t h l m (alone K C R g t h .fewerThresholds (getD ns t 0) (getD ms t 0) b);
+    }
