@@ -2,35 +2,38 @@
 -- tapes laid anew from each tree's parts, cut to as much or left longer, it is the same fit; with the columns' own numbers the new cut tables are their sums. Where one
 -- tree's words or thresholds are cut shorter than it used, and no tree's before it, it is refusal 7 at that tree, whatever is left to those after it. It holds because a
 -- forest is its trees and each tree looks at no more than it uses; no check looks at a tape but for the cut tables, and what is laid anew has good ones. Assumes nothing.
-use Prim.Native.Nat.{ℕ, suc, _-_, _<_, _≤_}
+use Prim.Native.Nat.{ℕ, zero, suc, _-_, _<_, _≤_}
 use native.Mathlib.Nat.{le-refl, le-trans, zero-add}
 use native.Mathlib.Omega.{arith}
 use mathlib.Core.Path.{_≡_, refl, sym, ap, _∙_, subst}
 use mathlib.Core.Logic.{_≢_}
 use mathlib.Core.Bool.{_&&_}
 use mathlib.Core.List.{List, [], _∷_, map, flatten}
-use lib.ListN.{length, getD, take, length-map}
-use lib.Seq.{take-take}
+use lib.ListN.{length, getD, set, take, length-map, List·getD-map}
+use lib.Seq.{take-take, length-take-le, getD-set-same, getD-set-other, ext-getD}
 use lib.Dec.{T, leb}
 use lib.Ieee.Fits.{and-l, and-i}
 use Rattle.rules.specs.declared.Report.{Report}
 use Rattle.rules.specs.declared.TreeAnswer.{TreeAnswer}
 use Rattle.rules.specs.declared.ForestAnswer.{ForestAnswer}
-use Rattle.rules.specs.Words.{from, filled, total}
+use Rattle.rules.specs.Words.{from, front, filled, total}
 use Rattle.rules.specs.Lent.{Data, Frame, Reports, Waits, TreeRooms, ForestRooms, Outcome, kept, keptRows, shortest, zeroColumns, zeroReports, zeroWork}
 use Rattle.rules.specs.Checks.{firstFailed, lengths, goodCuts, roomFor}
 use Rattle.rules.specs.Draws.{ok}
 use Rattle.rules.specs.Fit.{Tree, fit, TreeCall, frameOf, fitTree}
 use Rattle.rules.specs.Forest.{ForestCall, forestCall, part, frameAt, frames, Forest, stopped, grownAll, nextTree, growTrees, grownForest, cutsGood, roomsGood, forestTests, forestDone, forestEnds, fitForest}
+use Rattle.rules.specs.Answers.{Told, forestTold, told}
 use Rattle.laws.specs.Lists.{Every, every-imp, from-below, drop-take, total-map, length-from, getD-from}
 use Rattle.laws.specs.Outs.{then-of}
 use Rattle.laws.specs.Passed.{past, goes-on, none-fails}
-use Rattle.laws.specs.Pieces.{sums, cutsOf, piece-at, cuts-good}
-use Rattle.laws.specs.Answered.{TreeAnswered, tree-answered}
+use Rattle.laws.specs.Written.{front-length}
+use Rattle.laws.specs.Answered.{TreeAnswered, tree-answered, ForestAnswered, forest-answered, forest-right, trees-length}
+use Rattle.demands.specs.Pieces.{sums, cutsOf, piece-at, cuts-good}
+use Rattle.demands.specs.Numbers.{columns-long}
 use Rattle.demands.specs.Refusals.{forest-bad}
 use Rattle.demands.specs.ItsTrees.{between, treeCallAt, reportAt, ForestUnrefused, ownRooms, frame-same, passes, its-trees, tree-alone}
 use Rattle.demands.specs.FirstBad.{first-bad-alone}
-use Rattle.demands.specs.DrawsUsed.{cutTo, Refusal7, Exact, fit-again, draws-used}
+use Rattle.demands.specs.DrawsUsed.{cutTo, Refusal7, Exact, fit-again, Within, fit-within, draws-used}
 
 -- ---- the statements
 
@@ -72,10 +75,34 @@ pub record ForestExact {W : Type 0} (K : Waits W) (C : ForestCall) (R : ForestRo
       → BadAt K R t (fitForest K (forestCut ns ms C) R)
   pub fewerThresholds : (ns ms : List ℕ) (t : ℕ) → t < C .trees → Enough t (c .words) ns → Enough t (c .thresholds) ms → getD ms t 0 < getD (c .thresholds) t 0
       → BadAt K R t (fitForest K (forestCut ns ms C) R)
+  pub wordCuts : (ms : List ℕ) → forestCut (c .words) ms C .wordCuts ≡ 0 ∷ sums 0 (c .words)
+  pub thresholdCuts : (ns : List ℕ) → forestCut ns (c .thresholds) C .thresholdCuts ≡ 0 ∷ sums 0 (c .thresholds)
 
 abbrev pub ForestDraws : Type 1
 ForestDraws =
     (W : Type 0) (K : Waits W) (C : ForestCall) (R : ForestRooms W) → fitForest K C R .answer ≡ ForestAnswer.Grown → ForestExact K C R (fitForest K C R .rooms .reports)
+
+-- one less at place t
+abbrev pub lessAt : ℕ → List ℕ → List ℕ
+lessAt t ns = set ns t (getD ns t 0 - 1)
+
+-- refusal 7 at tree t, as it is told
+abbrev pub ToldBad : {W : Type 0} → ℕ → Outcome Told (ForestRooms W) → Type 0
+ToldBad t y = (y .answer .number ≡ 7) × (y .answer .tree ≡ t)
+
+-- x is what a call left, the columns c among it, y what the call left with its tapes cut to what c says was used, or with one tree's words or thresholds one shorter
+pub record ForestCutExact {W : Type 0} (K : Waits W) (C : ForestCall) (R : ForestRooms W) (x : Outcome Told (ForestRooms W)) (c : Reports) : Type 0 where
+  pub same : (y : Outcome Told (ForestRooms W)) → y ≡ told forestTold (fitForest K (forestCut (c .words) (c .thresholds) C) R) → y ≡ x
+  pub wordLess : (t : ℕ) → t < C .trees → 0 < getD (c .words) t 0
+      → (y : Outcome Told (ForestRooms W)) → y ≡ told forestTold (fitForest K (forestCut (lessAt t (c .words)) (c .thresholds) C) R) → ToldBad t y
+  pub thresholdLess : (t : ℕ) → t < C .trees → 0 < getD (c .thresholds) t 0
+      → (y : Outcome Told (ForestRooms W)) → y ≡ told forestTold (fitForest K (forestCut (c .words) (lessAt t (c .thresholds)) C) R) → ToldBad t y
+
+-- of a call that told no refusal
+abbrev pub ForestCallsExact : Type 1
+ForestCallsExact =
+    (W : Type 0) (K : Waits W) (C : ForestCall) (R : ForestRooms W) (x : Outcome Told (ForestRooms W)) → x ≡ told forestTold (fitForest K C R) → x .answer .number ≡ 0
+    → ForestCutExact K C R x (x .rooms .reports)
 
 -- ---- each tree
 
@@ -95,14 +122,26 @@ module _ {A : Type 0} (trees : ℕ) (ns : List ℕ) (p : ℕ → List A) where
   good-anew : T (goodCuts trees (length (flatten pieces)) (cutsOf pieces))
   good-anew = subst (λ n. T (goodCuts n (length (flatten pieces)) (cutsOf pieces))) as-many (cuts-good pieces)
 
+  piece : (t : ℕ) → t < trees → getD pieces t [] ≡ take (getD ns t 0) (p t)
+  piece t h = getD-from (λ t. take (getD ns t 0) (p t)) 0 trees t [] h ∙ ap (λ t. take (getD ns t 0) (p t)) (zero-add t)
+
   -- and a tree's part of it is that tree's part cut
   own-part : (t : ℕ) → t < trees → between (getD (cutsOf pieces) t 0) (getD (cutsOf pieces) (suc t) 0) (flatten pieces) ≡ take (getD ns t 0) (p t)
   unfolding part
   own-part t h =
       drop-take (getD (cutsOf pieces) t 0) (getD (cutsOf pieces) (suc t) 0) (flatten pieces)
       ∙ piece-at pieces t (subst (λ n. t < n) (sym as-many) h)
-      ∙ getD-from (λ t. take (getD ns t 0) (p t)) 0 trees t [] h
-      ∙ ap (λ t. take (getD ns t 0) (p t)) (zero-add t)
+      ∙ piece t h
+
+  -- where each part is long enough, the table is made of ns alone
+  sums-anew : length ns ≡ trees → ((t : ℕ) → t < trees → getD ns t 0 ≤ length (p t)) → cutsOf pieces ≡ 0 ∷ sums 0 ns
+  sums-anew n long = ap (λ l. 0 ∷ sums 0 l) (ext-getD 0 (map length pieces) ns (many ∙ sym n) (λ t h. size t (subst (λ k. t < k) many h)))
+    where
+      many : length (map length pieces) ≡ trees
+      many = length-map pieces length ∙ as-many
+
+      size : (t : ℕ) → t < trees → getD (map length pieces) t 0 ≡ getD ns t 0
+      size t h = List·getD-map length pieces t [] ∙ ap length (piece t h) ∙ length-take-le (getD ns t 0) (p t) (long t h)
 
 call-cut : (C : ForestCall) (ns ms : List ℕ) (t : ℕ) → t < C .trees → treeCallAt (forestCut ns ms C) t ≡ cutTo (getD ns t 0) (getD ms t 0) (treeCallAt C t)
 call-cut C ns ms t h =
@@ -162,6 +201,9 @@ module _ {W : Type 0} (K : Waits W) (C : ForestCall) (R : ForestRooms W) (g : fi
   passed : firstFailed (forestTests K C R) ≡ 0
   passed = passes K C R (subst ForestUnrefused (sym g) tt)
 
+  answered : (t : ℕ) → t < C .trees → TreeAnswered K (treeCallAt C t) (ownRooms R) (reportAt columns t)
+  answered t h = tree-answered K (treeCallAt C t) (ownRooms R) _ (tree-alone K C R g t h .answer)
+
   same-fit : (ns ms : List ℕ) (t : ℕ) → t < C .trees → getD (columns .words) t 0 ≤ getD ns t 0 → getD (columns .thresholds) t 0 ≤ getD ms t 0
       → fit (frameAt (forestCut ns ms C) t) (C .given .inputs) ≡ fit (frameAt C t) (C .given .inputs)
   unfolding frameOf
@@ -181,7 +223,7 @@ module _ {W : Type 0} (K : Waits W) (C : ForestCall) (R : ForestRooms W) (g : fi
       F = frameOf (treeCallAt C t)
 
       a : TreeAnswered K (treeCallAt C t) (ownRooms R) (reportAt columns t)
-      a = tree-answered K (treeCallAt C t) (ownRooms R) _ (tree-alone K C R g t h .answer)
+      a = answered t h
 
   exact-cut : (ns ms : List ℕ) → Enough (C .trees) (columns .words) ns → Enough (C .trees) (columns .thresholds) ms → fitForest K (forestCut ns ms C) R ≡ fitForest K C R
   unfolding fitForest grownForest frames
@@ -212,10 +254,78 @@ module _ {W : Type 0} (K : Waits W) (C : ForestCall) (R : ForestRooms W) (g : fi
             );
           })
 
+  -- no tree uses more than it has
+  within : (t : ℕ) → t < C .trees → (getD (columns .words) t 0 ≤ length (treeCallAt C t .words)) × (getD (columns .thresholds) t 0 ≤ length (treeCallAt C t .thresholds))
+  unfolding frameOf
+  within t h =
+      let a = answered t h in
+      subst (λ (r : Report). (r .words ≤ length (treeCallAt C t .words)) × (r .thresholds ≤ length (treeCallAt C t .thresholds))) (a .reported)
+      (then-of (Within (frameOf (treeCallAt C t))) _ (a .tree) (a .grew) (fit-within (frameOf (treeCallAt C t)) (C .given .inputs)))
+
+  -- the columns have a place a tree
+  long : (length (columns .words) ≡ C .trees) × (length (columns .thresholds) ≡ C .trees)
+  long =
+      let (n, w, v) = columns-long (C .trees) (R .reports) (forest-right K C R a .reports) in (
+        (λ i. length (a .after i .reports .words)) ∙ one (λ r. r .words) (R .reports .words) w,
+        (λ i. length (a .after i .reports .thresholds)) ∙ one (λ r. r .thresholds) (R .reports .thresholds) v,
+      )
+    where
+      a : ForestAnswered K C R
+      a = forest-answered K C R g
+
+      reports : List Report
+      reports = map (λ (u : Tree). u .report) (a .trees)
+
+      one : (f : Report → ℕ) (old : List ℕ) → length old ≡ C .trees → length (front (map f reports) old) ≡ C .trees
+      one f old e =
+          front-length (map f reports) old (omega (arith, e, length-map reports f, length-map (a .trees) (λ (u : Tree). u .report), trees-length K C R a)) ∙ e
+
 pub forest-draws : ForestDraws
 forest-draws W K C R g =
     record {
       cut = exact-cut K C R g;
       fewerWords = λ ns ms t h l m b. short K C R g ns ms t h l m (alone K C R g t h .fewerWords (getD ns t 0) (getD ms t 0) b);
       fewerThresholds = λ ns ms t h l m b. short K C R g ns ms t h l m (alone K C R g t h .fewerThresholds (getD ns t 0) (getD ms t 0) b);
+      wordCuts = λ ms. sums-anew (C .trees) (columns K C R g .words) (λ t. treeCallAt C t .words) (long K C R g .0) (λ t h. within K C R g t h .0);
+      thresholdCuts = λ ns. sums-anew (C .trees) (columns K C R g .thresholds) (λ t. treeCallAt C t .thresholds) (long K C R g .1) (λ t h. within K C R g t h .1);
     }
+
+-- no refusal is told of a grown forest alone
+told-grown : {W : Type 0} (K : Waits W) (R : ForestRooms W) (k : ℕ) (f : Forest) → forestTold (forestEnds K k f R .answer) .number ≡ 0 → forestEnds K k f R .answer ≡ ForestAnswer.Grown
+unfolding forestEnds forestDone
+told-grown K R zero (stopped d) h = absurd (omega arith)
+told-grown K R zero (grownAll ts) h = refl
+told-grown K R (suc k) f h = absurd (omega arith)
+
+-- one less than there is at place t, and as many elsewhere
+less-there : (ns : List ℕ) (t : ℕ) → t < length ns → 0 < getD ns t 0 → getD (lessAt t ns) t 0 < getD ns t 0
+less-there ns t h l = subst (λ n. n < getD ns t 0) (sym (getD-set-same ns t (getD ns t 0 - 1) 0 h)) (omega arith)
+
+less-before : (ns : List ℕ) (t : ℕ) → Enough t ns (lessAt t ns)
+less-before ns t u h = subst (λ n. getD ns u 0 ≤ n) (sym (getD-set-other ns t u (getD ns t 0 - 1) 0 (λ e. omega (arith, e, h)))) (le-refl _)
+
+pub forest-calls-exact : ForestCallsExact
+unfolding fitForest
+forest-calls-exact W K C R x met none =
+    subst (λ (z : Outcome Told (ForestRooms W)). ForestCutExact K C R z (z .rooms .reports)) (sym met)
+    (record {
+      same = λ y m. m ∙ ap (told forestTold) (d .cut (c .words) (c .thresholds) (λ t h. le-refl _) (λ t h. le-refl _));
+      wordLess = λ t h l y m.
+          bad (d .fewerWords (lessAt t (c .words)) (c .thresholds) t h (less-before (c .words) t) (λ u b. le-refl _)
+          (less-there (c .words) t (subst (λ n. t < n) (sym (long K C R g .0)) h) l)) m;
+      thresholdLess = λ t h l y m.
+          bad (d .fewerThresholds (c .words) (lessAt t (c .thresholds)) t h (λ u b. le-refl _) (less-before (c .thresholds) t)
+          (less-there (c .thresholds) t (subst (λ n. t < n) (sym (long K C R g .1)) h) l)) m;
+    })
+  where
+    c : Reports
+    c = fitForest K C R .rooms .reports
+
+    g : fitForest K C R .answer ≡ ForestAnswer.Grown
+    g = told-grown K R (firstFailed (forestTests K C R)) (grownForest C) ((λ i. sym met i .answer .number) ∙ none)
+
+    d : ForestExact K C R c
+    d = forest-draws W K C R g
+
+    bad : {t : ℕ} {o : Outcome ForestAnswer (ForestRooms W)} {y : Outcome Told (ForestRooms W)} → BadAt K R t o → y ≡ told forestTold o → ToldBad t y
+    bad (s, e) m = ((λ i. m i .answer .number) ∙ (λ i. forestTold (e i .answer) .number), (λ i. m i .answer .tree) ∙ (λ i. forestTold (e i .answer) .tree))

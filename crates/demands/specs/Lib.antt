@@ -2,6 +2,7 @@ pub mod LeftOut
 pub mod Walks
 pub mod OutOfBag
 pub mod Parts
+pub mod Pieces
 pub mod ItsTrees
 pub mod FirstBad
 pub mod Numbers

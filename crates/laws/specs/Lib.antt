@@ -13,7 +13,6 @@ pub mod Root
 pub mod Passed
 pub mod Tables
 pub mod Written
-pub mod Pieces
 pub mod Answered
 pub mod Tried
 pub mod Work
