@@ -1,9 +1,10 @@
 -- Draws used are exact, of a forest. Each tree of a forest fit that answers uses of its own parts of both tapes exactly what its place of the report columns says. Over
--- tapes laid anew from each tree's parts, cut to as much or left longer, it is the same fit; with the columns' own numbers the new cut tables are their sums. Where one
--- tree's words or thresholds are cut shorter than it used, and no tree's before it, it is refusal 7 at that tree, whatever is left to those after it. It holds because a
--- forest is its trees and each tree looks at no more than it uses; no check looks at a tape but for the cut tables, and what is laid anew has good ones. Assumes nothing.
+-- any tapes in which each tree's parts begin with as much, and the same, it is the same fit: so over tapes laid anew from each tree's parts, cut to what it used or longer;
+-- cut to just that, the new cut tables are the sums of the report columns. Where one tree's words or thresholds are cut shorter than it used, and no tree's before it,
+-- it is refusal 7 at that tree, whatever is left to those after it. It holds because a forest is its trees and each looks at no more than it uses; of the checks one alone
+-- asks for a tape, that of the cut tables, and what is laid anew has good ones. Assumes nothing.
 use Prim.Native.Nat.{ℕ, zero, suc, _-_, _<_, _≤_}
-use native.Mathlib.Nat.{le-refl, le-trans, zero-add}
+use native.Mathlib.Nat.{le-refl, zero-add}
 use native.Mathlib.Omega.{arith}
 use mathlib.Core.Path.{_≡_, refl, sym, ap, _∙_, subst}
 use mathlib.Core.Logic.{_≢_}
@@ -12,6 +13,7 @@ use mathlib.Core.List.{List, [], _∷_, map, flatten}
 use lib.ListN.{length, getD, set, take, length-map, List·getD-map}
 use lib.Seq.{take-take, length-take-le, getD-set-same, getD-set-other, ext-getD}
 use lib.Dec.{T, leb}
+use lib.Ieee.{Float}
 use lib.Ieee.Fits.{and-l, and-i}
 use Rattle.rules.specs.declared.Report.{Report}
 use Rattle.rules.specs.declared.TreeAnswer.{TreeAnswer}
@@ -19,12 +21,12 @@ use Rattle.rules.specs.declared.ForestAnswer.{ForestAnswer}
 use Rattle.rules.specs.Words.{from, front, filled, total}
 use Rattle.rules.specs.Lent.{Data, Frame, Reports, Waits, TreeRooms, ForestRooms, Outcome, kept, keptRows, shortest, zeroColumns, zeroReports, zeroWork}
 use Rattle.rules.specs.Checks.{firstFailed, lengths, goodCuts, roomFor}
-use Rattle.rules.specs.Draws.{ok}
-use Rattle.rules.specs.Fit.{Tree, fit, TreeCall, frameOf, fitTree}
+use Rattle.rules.specs.Fit.{Tree, fit, frameOf, fitTree}
 use Rattle.rules.specs.Forest.{ForestCall, forestCall, part, frameAt, frames, Forest, stopped, grownAll, nextTree, growTrees, grownForest, cutsGood, roomsGood, forestTests, forestDone, forestEnds, fitForest}
 use Rattle.rules.specs.Answers.{Told, forestTold, told}
 use Rattle.laws.specs.Lists.{Every, every-imp, from-below, drop-take, total-map, length-from, getD-from}
 use Rattle.laws.specs.Outs.{then-of}
+use Rattle.laws.specs.Tapes.{Begins}
 use Rattle.laws.specs.Passed.{past, goes-on, none-fails}
 use Rattle.laws.specs.Written.{front-length}
 use Rattle.laws.specs.Answered.{TreeAnswered, tree-answered, ForestAnswered, forest-answered, forest-right, trees-length}
@@ -44,16 +46,33 @@ EachExact =
     → (t : ℕ) → t < C .trees → (Q : TreeRooms X) → fitTree L (treeCallAt C t) Q .answer ≢ TreeAnswer.Refused 6
     → Exact L (treeCallAt C t) Q (reportAt (fitForest K C R .rooms .reports) t)
 
+-- tree t's parts of both tapes
+abbrev pub wordsAt : ForestCall → ℕ → List ℕ
+wordsAt C t = treeCallAt C t .words
+
+abbrev pub thresholdsAt : ForestCall → ℕ → List Float
+thresholdsAt C t = treeCallAt C t .thresholds
+
+-- the same call over other tapes
+abbrev pub retaped : ForestCall → List ℕ → List Float → List ℕ → List ℕ → ForestCall
+retaped C ws ts wordCuts thresholdCuts = forestCall (C .shape) (C .trees) (C .settings) (C .tried) (C .given) ws ts wordCuts thresholdCuts
+
 -- of each part as many as place t of ns says
 abbrev pub shortened : {A : Type 0} → ℕ → List ℕ → (ℕ → List A) → List (List A)
 shortened trees ns part = map (λ t. take (getD ns t 0) (part t)) (from 0 trees)
 
--- the same call over tapes laid anew from each tree's parts, cut to ns words and ms thresholds
+-- over tapes laid anew from each tree's parts, cut to ns words and ms thresholds
 abbrev pub forestCut : List ℕ → List ℕ → ForestCall → ForestCall
 forestCut ns ms C =
-    let ws = shortened (C .trees) ns (λ t. treeCallAt C t .words) in
-    let ts = shortened (C .trees) ms (λ t. treeCallAt C t .thresholds) in
-    forestCall (C .shape) (C .trees) (C .settings) (C .tried) (C .given) (flatten ws) (flatten ts) (cutsOf ws) (cutsOf ts)
+    let ws = shortened (C .trees) ns (wordsAt C) in
+    let ts = shortened (C .trees) ms (thresholdsAt C) in
+    retaped C (flatten ws) (flatten ts) (cutsOf ws) (cutsOf ts)
+
+-- each tree's parts begin with what it used, and the same
+abbrev pub Begun : Reports → ForestCall → ForestCall → Type 0
+Begun c C E =
+    (t : ℕ) → t < C .trees
+    → Begins (getD (c .words) t 0) (wordsAt C t) (wordsAt E t) × Begins (getD (c .thresholds) t 0) (thresholdsAt C t) (thresholdsAt E t)
 
 -- at least what was used, of the first n trees
 abbrev pub Enough : ℕ → List ℕ → List ℕ → Type 0
@@ -70,6 +89,8 @@ BadAt K R t o =
 
 -- what the report columns c of a fit say of its tapes
 pub record ForestExact {W : Type 0} (K : Waits W) (C : ForestCall) (R : ForestRooms W) (c : Reports) : Type 0 where
+  pub begun : (ws : List ℕ) (ts : List Float) (wordCuts thresholdCuts : List ℕ) → T (cutsGood (retaped C ws ts wordCuts thresholdCuts)) → Begun c C (retaped C ws ts wordCuts thresholdCuts)
+      → fitForest K (retaped C ws ts wordCuts thresholdCuts) R ≡ fitForest K C R
   pub cut : (ns ms : List ℕ) → Enough (C .trees) (c .words) ns → Enough (C .trees) (c .thresholds) ms → fitForest K (forestCut ns ms C) R ≡ fitForest K C R
   pub fewerWords : (ns ms : List ℕ) (t : ℕ) → t < C .trees → Enough t (c .words) ns → Enough t (c .thresholds) ms → getD ns t 0 < getD (c .words) t 0
       → BadAt K R t (fitForest K (forestCut ns ms C) R)
@@ -133,6 +154,9 @@ module _ {A : Type 0} (trees : ℕ) (ns : List ℕ) (p : ℕ → List A) where
       ∙ piece-at pieces t (subst (λ n. t < n) (sym as-many) h)
       ∙ piece t h
 
+  begins-anew : (t : ℕ) → t < trees → (n : ℕ) → n ≤ getD ns t 0 → Begins n (p t) (between (getD (cutsOf pieces) t 0) (getD (cutsOf pieces) (suc t) 0) (flatten pieces))
+  begins-anew t h n l = ap (take n) (own-part t h) ∙ take-take n (getD ns t 0) (p t) l
+
   -- where each part is long enough, the table is made of ns alone
   sums-anew : length ns ≡ trees → ((t : ℕ) → t < trees → getD ns t 0 ≤ length (p t)) → cutsOf pieces ≡ 0 ∷ sums 0 ns
   sums-anew n long = ap (λ l. 0 ∷ sums 0 l) (ext-getD 0 (map length pieces) ns (many ∙ sym n) (λ t h. size t (subst (λ k. t < k) many h)))
@@ -151,41 +175,44 @@ call-cut C ns ms t h =
       settings = treeCallAt C t .settings;
       tried = treeCallAt C t .tried;
       given = treeCallAt C t .given;
-      words = own-part (C .trees) ns (λ t. treeCallAt C t .words) t h i;
-      thresholds = own-part (C .trees) ms (λ t. treeCallAt C t .thresholds) t h i;
+      words = own-part (C .trees) ns (wordsAt C) t h i;
+      thresholds = own-part (C .trees) ms (thresholdsAt C) t h i;
     }
 
--- ---- it is not refused before growth
+cut-good : (C : ForestCall) (ns ms : List ℕ) → T (cutsGood (forestCut ns ms C))
+unfolding cutsGood
+cut-good C ns ms =
+    let new = forestCut ns ms C in
+    and-i (goodCuts (C .trees) (length (new .words)) (new .wordCuts)) (goodCuts (C .trees) (length (new .thresholds)) (new .thresholdCuts))
+    (good-anew (C .trees) ns (wordsAt C)) (good-anew (C .trees) ms (thresholdsAt C))
+
+-- ---- other tapes are not refused before growth
 
 done-unrefused : {W : Type 0} (K : Waits W) (f : Forest) (R : ForestRooms W) → ForestUnrefused (forestDone K f R .answer)
 unfolding forestDone
 done-unrefused K (stopped d) R = tt
 done-unrefused K (grownAll ts) R = tt
 
-module _ {W : Type 0} (K : Waits W) (C : ForestCall) (R : ForestRooms W) (q : firstFailed (forestTests K C R) ≡ 0) (ns ms : List ℕ) where
-  cut-passes : firstFailed (forestTests K (forestCut ns ms C) R) ≡ 0
-  unfolding forestTests cutsGood roomsGood frames frameAt roomFor keptRows kept
-  cut-passes =
+module _ {W : Type 0} (K : Waits W) (C : ForestCall) (R : ForestRooms W) (q : firstFailed (forestTests K C R) ≡ 0) (ws : List ℕ) (ts : List Float) (wordCuts thresholdCuts : List ℕ)
+    (good : T (cutsGood (retaped C ws ts wordCuts thresholdCuts))) where
+  abbrev new : ForestCall
+  new = retaped C ws ts wordCuts thresholdCuts
+
+  still-passes : firstFailed (forestTests K new R) ≡ 0
+  unfolding forestTests roomsGood frames frameAt roomFor keptRows kept
+  still-passes =
       let (t₁, q₂) = past 0 _ _ q in let (t₂, q₃) = past 1 _ _ q₂ in let (t₃, q₄) = past 2 _ _ q₃ in
       let (t₄, q₅) = past 3 _ _ q₄ in let (t₅, q₆) = past 4 _ _ q₅ in let (t₆, q₇) = past 5 _ _ q₆ in
-      goes-on 1 _ _ t₁ (goes-on 2 _ _ (cuts (and-l (lengths (C .shape) (C .trees) (C .given)) (cutsGood C) t₂))
-      (goes-on 3 _ _ t₃ (goes-on 4 _ _ t₄ (goes-on 5 _ _ t₅ (goes-on 6 _ _ (subst (λ n. T (leb n (shortest (R .nodes)) && roomsGood K C R)) rooms t₆) none-fails)))))
+      let n = lengths (C .shape) (C .trees) (C .given) in
+      goes-on 1 _ _ t₁ (goes-on 2 _ _ (and-i n (cutsGood new) (and-l n (cutsGood C) t₂) good)
+      (goes-on 3 _ _ t₃ (goes-on 4 _ _ t₄ (goes-on 5 _ _ t₅ (goes-on 6 _ _ (subst (λ k. T (leb k (shortest (R .nodes)) && roomsGood K C R)) rooms t₆) none-fails)))))
     where
-      new : ForestCall
-      new = forestCut ns ms C
-
-      cuts : T (lengths (C .shape) (C .trees) (C .given)) → T (lengths (C .shape) (C .trees) (C .given) && cutsGood new)
-      cuts l =
-          and-i (lengths (C .shape) (C .trees) (C .given)) (cutsGood new) l
-          (and-i (goodCuts (C .trees) (length (new .words)) (new .wordCuts)) (goodCuts (C .trees) (length (new .thresholds)) (new .thresholdCuts))
-          (good-anew (C .trees) ns _) (good-anew (C .trees) ms _))
-
       rooms : total roomFor (frames C) ≡ total roomFor (frames new)
       rooms = total-map roomFor (frameAt C) (from 0 (C .trees)) ∙ sym (total-map roomFor (frameAt new) (from 0 (C .trees)))
 
-  cut-unrefused : ForestUnrefused (fitForest K (forestCut ns ms C) R .answer)
+  still-unrefused : ForestUnrefused (fitForest K new R .answer)
   unfolding fitForest forestEnds
-  cut-unrefused = subst (λ n. ForestUnrefused (forestEnds K n (grownForest (forestCut ns ms C)) R .answer)) (sym cut-passes) (done-unrefused K (grownForest (forestCut ns ms C)) R)
+  still-unrefused = subst (λ n. ForestUnrefused (forestEnds K n (grownForest new) R .answer)) (sym still-passes) (done-unrefused K (grownForest new) R)
 
 -- ---- growth, tree after tree
 
@@ -204,35 +231,29 @@ module _ {W : Type 0} (K : Waits W) (C : ForestCall) (R : ForestRooms W) (g : fi
   answered : (t : ℕ) → t < C .trees → TreeAnswered K (treeCallAt C t) (ownRooms R) (reportAt columns t)
   answered t h = tree-answered K (treeCallAt C t) (ownRooms R) _ (tree-alone K C R g t h .answer)
 
-  same-fit : (ns ms : List ℕ) (t : ℕ) → t < C .trees → getD (columns .words) t 0 ≤ getD ns t 0 → getD (columns .thresholds) t 0 ≤ getD ms t 0
-      → fit (frameAt (forestCut ns ms C) t) (C .given .inputs) ≡ fit (frameAt C t) (C .given .inputs)
-  unfolding frameOf
-  same-fit ns ms t h l m =
-      (λ i. fit (sym (frame-same (forestCut ns ms C) t) i) D)
-      ∙ (λ i. fit (frameOf (call-cut C ns ms t h i)) D)
-      ∙ then-of _ (fit F D) (a .tree) (a .grew) (fit-again F D) _ _
-      (take-take _ _ (F .words) (subst (λ (r : Report). r .words ≤ getD ns t 0) (sym (a .reported)) l))
-      (take-take _ _ (F .thresholds) (subst (λ (r : Report). r .thresholds ≤ getD ms t 0) (sym (a .reported)) m))
-      ∙ sym (a .grew)
-      ∙ (λ i. fit (frame-same C t i) D)
+  exact-begun : (ws : List ℕ) (ts : List Float) (wordCuts thresholdCuts : List ℕ) → T (cutsGood (retaped C ws ts wordCuts thresholdCuts)) → Begun columns C (retaped C ws ts wordCuts thresholdCuts)
+      → fitForest K (retaped C ws ts wordCuts thresholdCuts) R ≡ fitForest K C R
+  unfolding fitForest grownForest frames frameOf
+  exact-begun ws ts wordCuts thresholdCuts good b =
+      λ i. forestEnds K ((still-passes K C R passed ws ts wordCuts thresholdCuts good ∙ sym passed) i)
+      (grow-same (frameAt E) (frameAt C) D 0 (from 0 (C .trees)) (every-imp _ _ (λ t h. same t (omega (arith, h))) (from 0 (C .trees)) (from-below 0 (C .trees))) i) R
     where
+      E : ForestCall
+      E = retaped C ws ts wordCuts thresholdCuts
+
       D : Data
       D = C .given .inputs
 
-      F : Frame
-      F = frameOf (treeCallAt C t)
-
-      a : TreeAnswered K (treeCallAt C t) (ownRooms R) (reportAt columns t)
-      a = answered t h
+      same : (t : ℕ) → t < C .trees → fit (frameAt E t) D ≡ fit (frameAt C t) D
+      same t h =
+          let a = answered t h in
+          let F : Frame = frameOf (treeCallAt C t) in
+          let (w, v) = subst (λ (r : Report). Begins (r .words) (F .words) (wordsAt E t) × Begins (r .thresholds) (F .thresholds) (thresholdsAt E t)) (sym (a .reported)) (b t h) in
+          (λ i. fit (sym (frame-same E t) i) D) ∙ then-of _ (fit F D) (a .tree) (a .grew) (fit-again F D) _ _ w v ∙ sym (a .grew) ∙ (λ i. fit (frame-same C t i) D)
 
   exact-cut : (ns ms : List ℕ) → Enough (C .trees) (columns .words) ns → Enough (C .trees) (columns .thresholds) ms → fitForest K (forestCut ns ms C) R ≡ fitForest K C R
-  unfolding fitForest grownForest frames
-  exact-cut ns ms l m = λ i. forestEnds K ((cut-passes K C R passed ns ms ∙ sym passed) i) (grown i) R
-    where
-      grown : grownForest (forestCut ns ms C) ≡ grownForest C
-      grown =
-          grow-same (frameAt (forestCut ns ms C)) (frameAt C) (C .given .inputs) 0 (from 0 (C .trees))
-          (every-imp _ _ (λ t h. let b : t < C .trees = omega (arith, h) in same-fit ns ms t b (l t b) (m t b)) (from 0 (C .trees)) (from-below 0 (C .trees)))
+  exact-cut ns ms l m =
+      exact-begun _ _ _ _ (cut-good C ns ms) (λ t h. (begins-anew (C .trees) ns (wordsAt C) t h _ (l t h), begins-anew (C .trees) ms (thresholdsAt C) t h _ (m t h)))
 
   alone : (t : ℕ) → t < C .trees → Exact K (treeCallAt C t) (ownRooms R) (reportAt columns t)
   alone t h = draws-used W K (treeCallAt C t) (ownRooms R) _ (tree-alone K C R g t h .answer)
@@ -244,7 +265,7 @@ module _ {W : Type 0} (K : Waits W) (C : ForestCall) (R : ForestRooms W) (g : fi
     where
       meets : fitForest K (forestCut ns ms C) R .answer ≡ ForestAnswer.BadDraw (record { tree = t; search = s })
       meets =
-          first-bad-alone W K (forestCut ns ms C) R (cut-unrefused K C R passed ns ms) t s .1
+          first-bad-alone W K (forestCut ns ms C) R (still-unrefused K C R passed _ _ _ _ (cut-good C ns ms)) t s .1
           (record {
             inside = h;
             met = (λ i. fitTree K (call-cut C ns ms t h i) (ownRooms R) .answer) ∙ (λ i. e i .answer);
@@ -255,11 +276,11 @@ module _ {W : Type 0} (K : Waits W) (C : ForestCall) (R : ForestRooms W) (g : fi
           })
 
   -- no tree uses more than it has
-  within : (t : ℕ) → t < C .trees → (getD (columns .words) t 0 ≤ length (treeCallAt C t .words)) × (getD (columns .thresholds) t 0 ≤ length (treeCallAt C t .thresholds))
+  within : (t : ℕ) → t < C .trees → (getD (columns .words) t 0 ≤ length (wordsAt C t)) × (getD (columns .thresholds) t 0 ≤ length (thresholdsAt C t))
   unfolding frameOf
   within t h =
       let a = answered t h in
-      subst (λ (r : Report). (r .words ≤ length (treeCallAt C t .words)) × (r .thresholds ≤ length (treeCallAt C t .thresholds))) (a .reported)
+      subst (λ (r : Report). (r .words ≤ length (wordsAt C t)) × (r .thresholds ≤ length (thresholdsAt C t))) (a .reported)
       (then-of (Within (frameOf (treeCallAt C t))) _ (a .tree) (a .grew) (fit-within (frameOf (treeCallAt C t)) (C .given .inputs)))
 
   -- the columns have a place a tree
@@ -283,11 +304,12 @@ module _ {W : Type 0} (K : Waits W) (C : ForestCall) (R : ForestRooms W) (g : fi
 pub forest-draws : ForestDraws
 forest-draws W K C R g =
     record {
+      begun = exact-begun K C R g;
       cut = exact-cut K C R g;
       fewerWords = λ ns ms t h l m b. short K C R g ns ms t h l m (alone K C R g t h .fewerWords (getD ns t 0) (getD ms t 0) b);
       fewerThresholds = λ ns ms t h l m b. short K C R g ns ms t h l m (alone K C R g t h .fewerThresholds (getD ns t 0) (getD ms t 0) b);
-      wordCuts = λ ms. sums-anew (C .trees) (columns K C R g .words) (λ t. treeCallAt C t .words) (long K C R g .0) (λ t h. within K C R g t h .0);
-      thresholdCuts = λ ns. sums-anew (C .trees) (columns K C R g .thresholds) (λ t. treeCallAt C t .thresholds) (long K C R g .1) (λ t h. within K C R g t h .1);
+      wordCuts = λ ms. sums-anew (C .trees) (columns K C R g .words) (wordsAt C) (long K C R g .0) (λ t h. within K C R g t h .0);
+      thresholdCuts = λ ns. sums-anew (C .trees) (columns K C R g .thresholds) (thresholdsAt C) (long K C R g .1) (λ t h. within K C R g t h .1);
     }
 
 -- no refusal is told of a grown forest alone
