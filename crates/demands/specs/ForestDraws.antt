@@ -16,6 +16,7 @@ use lib.Dec.{T, leb}
 use lib.Ieee.{Float}
 use lib.Ieee.Fits.{and-l, and-i}
 use Rattle.rules.specs.declared.Report.{Report}
+use Rattle.rules.specs.declared.Place.{Place}
 use Rattle.rules.specs.declared.TreeAnswer.{TreeAnswer}
 use Rattle.rules.specs.declared.ForestAnswer.{ForestAnswer}
 use Rattle.rules.specs.Words.{from, front, filled, total}
@@ -32,7 +33,6 @@ use Rattle.laws.specs.Written.{front-length}
 use Rattle.laws.specs.Answered.{TreeAnswered, tree-answered, ForestAnswered, forest-answered, forest-right, trees-length}
 use Rattle.demands.specs.Pieces.{sums, cutsOf, piece-at, cuts-good}
 use Rattle.demands.specs.Numbers.{columns-long}
-use Rattle.demands.specs.Refusals.{forest-bad}
 use Rattle.demands.specs.ItsTrees.{between, treeCallAt, reportAt, ForestUnrefused, ownRooms, frame-same, passes, its-trees, tree-alone}
 use Rattle.demands.specs.FirstBad.{first-bad-alone}
 use Rattle.demands.specs.DrawsUsed.{cutTo, Refusal7, Exact, fit-again, Within, fit-within, draws-used}
@@ -214,6 +214,15 @@ module _ {W : Type 0} (K : Waits W) (C : ForestCall) (R : ForestRooms W) (q : fi
   unfolding fitForest forestEnds
   still-unrefused = subst (λ n. ForestUnrefused (forestEnds K n (grownForest new) R .answer)) (sym still-passes) (done-unrefused K (grownForest new) R)
 
+-- ---- a bad draw leaves all rooms zero
+
+all-zero : {W : Type 0} (K : Waits W) (R : ForestRooms W) (d : Place) (k : ℕ) (f : Forest) → forestEnds K k f R .answer ≡ ForestAnswer.BadDraw d
+    → forestEnds K k f R ≡ forestDone K (stopped d) R
+unfolding forestEnds forestDone
+all-zero K R d zero (stopped e) h = λ i. record { answer = h i; rooms = forestDone K (stopped e) R .rooms }
+all-zero K R d zero (grownAll ts) h = let z : _≡_ {A = ℕ} 0 1 = cc in absurd (omega arith)
+all-zero K R d (suc k) f h = let z : _≡_ {A = ℕ} 0 1 = cc in absurd (omega arith)
+
 -- ---- growth, tree after tree
 
 grow-same : (F G : ℕ → Frame) (D : Data) (k : ℕ) (l : List ℕ) → Every (λ t. fit (F t) D ≡ fit (G t) D) l → growTrees k (map F l) D ≡ growTrees k (map G l) D
@@ -261,7 +270,8 @@ module _ {W : Type 0} (K : Waits W) (C : ForestCall) (R : ForestRooms W) (g : fi
   -- where tree t so cut meets a bad draw, and those before it have enough
   short : (ns ms : List ℕ) (t : ℕ) → t < C .trees → Enough t (columns .words) ns → Enough t (columns .thresholds) ms
       → Refusal7 K (ownRooms R) (fitTree K (cutTo (getD ns t 0) (getD ms t 0) (treeCallAt C t)) (ownRooms R)) → BadAt K R t (fitForest K (forestCut ns ms C) R)
-  short ns ms t h l m (s, e) = (s, λ i. record { answer = meets i; rooms = forest-bad W K (forestCut ns ms C) R _ meets i })
+  unfolding fitForest forestDone
+  short ns ms t h l m (s, e) = (s, all-zero K R _ (firstFailed (forestTests K (forestCut ns ms C) R)) (grownForest (forestCut ns ms C)) meets)
     where
       meets : fitForest K (forestCut ns ms C) R .answer ≡ ForestAnswer.BadDraw (record { tree = t; search = s })
       meets =
