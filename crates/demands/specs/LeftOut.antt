@@ -124,10 +124,10 @@ unfolding Plain
 plain-add x y p q = (add-fits binary64 x y, add-not-minus binary64 x y (p .0) q (p .1))
 
 -- totals that a sweep can meet
-Clean : Totals → Type 0
+pub Clean : Totals → Type 0
 Clean t = Plain (t .sum) × Plain (t .mass)
 
-clean-start : Clean empty
+pub clean-start : Clean empty
 unfolding Clean Plain fits ofBits
 clean-start = ((tt, tt), (tt, tt))
 
@@ -135,7 +135,7 @@ clean-on : (F : Frame) (t : Totals) (y : Float) (i : ℕ) → Clean t → Clean 
 unfolding Clean takeIn
 clean-on F t y i c = (plain-add (t .sum) (mul binary64 y (massIn (F .weights) (F .counts) i)) (c .0) (mul-fits binary64 y (massIn (F .weights) (F .counts) i)), plain-add (t .mass) (massIn (F .weights) (F .counts) i) (c .1) (mass-fits F i))
 
-idle : (F : Frame) (D : Data) → Accepted F D → (t : Totals) (i : ℕ) → i < F .rows → Clean t → kept F i ≡ false → takeIn t (getD (D .targets) i nan) (massIn (F .weights) (F .counts) i) ≡ t
+pub idle : (F : Frame) (D : Data) → Accepted F D → (t : Totals) (i : ℕ) → i < F .rows → Clean t → kept F i ≡ false → takeIn t (getD (D .targets) i nan) (massIn (F .weights) (F .counts) i) ≡ t
 unfolding Clean Plain takeIn
 idle F D a t i h c k =
     let z : T (isZero (massIn (F .weights) (F .counts) i)) = mass-zero F D a i h k in
@@ -206,7 +206,7 @@ accepted S trees G p F f =
         (and-l (finite w) (not (lt w nought)) good, is-false (lt w nought) (and-r (finite w) (not (lt w nought)) good))
 
 module _ {W : Type 0} (K : Waits W) where
-  passes : (C : TreeCall) (R : TreeRooms W) → Unrefused (fitTree K C R .answer) → firstFailed (treeTests K C R) ≡ 0
+  pub passes : (C : TreeCall) (R : TreeRooms W) → Unrefused (fitTree K C R .answer) → firstFailed (treeTests K C R) ≡ 0
   unfolding fitTree treeEnds
   passes C R h = go (firstFailed (treeTests K C R)) refl h
     where

@@ -12,4 +12,12 @@ pub mod OneOutcome
 pub mod Filled
 pub mod Refusals
 pub mod Tried
+pub mod Sides
+pub mod Limits
+pub mod Splitters
 pub mod Calls
+pub mod Error
+pub mod Means
+pub mod Leaves
+pub mod Importances
+pub mod Weighted

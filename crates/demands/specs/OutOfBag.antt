@@ -156,7 +156,7 @@ module _ {W : Type 0} (K : Waits W) (C : ForestCall) (R : ForestRooms W) (held :
   abbrev mean : ℕ → Float
   mean i = outOfBagMean (C .shape) (C .given .inputs .values) (C .given .counts) (tableAfter C (fitForest K C R .rooms)) i
 
-  own-done : (out : List Float) → length out ≡ C .shape .rows → ownMeans K C R out .answer ≡ Reply.Done
+  pub own-done : (out : List Float) → length out ≡ C .shape .rows → ownMeans K C R out .answer ≡ Reply.Done
   unfolding outOfBagMeans reads
   own-done out o = λ x. reads (reads-well out o x) (map mean (from 0 (C .shape .rows))) out .answer
 

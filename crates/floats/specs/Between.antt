@@ -34,7 +34,7 @@ le-neg (fin false m e) (fin true n d) p q h = absurd q
 le-neg (fin false m e) (fin false n d) p q h = side→le true m e true n d (turn-neg (m * up e) (down e) (n * up d) (down d) (le→side false n d false m e h))
 
 -- a value with the sign set is at most any with it clear
-neg-below : (m : ℕ) (e : ℤ) (y : Float) → T (clear y) → T (le (fin true m e) y)
+pub neg-below : (m : ℕ) (e : ℤ) (y : Float) → T (clear y) → T (le (fin true m e) y)
 unfolding le
 neg-below m e nan q = absurd q
 neg-below m e (inf true) q = absurd q

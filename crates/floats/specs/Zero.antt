@@ -1,4 +1,4 @@
--- Zeros of either sign in sums and products: a value that is not -0 stays as it is when a zero is added, and a sum that starts at a value other than -0 never comes to -0.
+-- Zeros of either sign in sums, products and quotients: a value that is not -0 stays as it is when a zero is added, and a sum that starts at a value other than -0 never comes to -0.
 -- Assumes nothing.
 use mathlib.Core.Path.{_≡_, refl, sym, ap, _∙_, subst}
 use Prim.Native.Nat.{ℕ, zero, suc, _+_, _-_, _*_, _%_, _^_, _≤_, _<_}
@@ -8,7 +8,7 @@ use mathlib.Core.Bool.{Bool, true, false, not, _&&_, Bool·beq, cond}
 use lib.IntN.{ℤ, pos}
 use lib.Dec.{T, ltb, leb, eqb, ltb→lt, lt→ltb, leb→le, eqb→eq, T-not}
 use lib.Pow.{pow-pos, pow-lt}
-use lib.Ieee.{Float, nan, inf, fin, Format, binary64, prec, emax, low, up, down, unlike, round, neg, sum, add, mul, ofInt, fits, level, eq, sub}
+use lib.Ieee.{Float, nan, inf, fin, Format, binary64, prec, emax, low, up, down, unlike, round, neg, sum, add, mul, div, ofInt, fits, level, eq, sub}
 use lib.Ieee.Fits.{up-pos, down-pos, and-l, and-r, two, two-le-pos}
 use lib.Ieee.Exact.{HasValue, round-exact}
 use lib.Ieee.Order.{round-mono}
@@ -111,6 +111,20 @@ zero-mul64 (fin s zero e) nan h p = absurd p
 zero-mul64 (fin s zero e) (inf t) h p = absurd p
 zero-mul64 (fin s zero e) (fin t n d) h p =
     subst (λ (z : Float). T (isZero z)) (sym (round-zero (unlike s t) (0 * up e * (n * up d)) (down e * down d) (mul-pos (down-pos e) (down-pos d)) (ap (λ (z : ℕ). z * (n * up d)) (zero-mul (up e)) ∙ zero-mul (n * up d)))) tt
+
+-- 0 over what is above it
+pub zero-div64 : (x : Float) → T (above x) → div binary64 (fin false 0 (pos 0)) x ≡ fin false 0 (pos 0)
+unfolding div
+zero-div64 nan h = absurd h
+zero-div64 (inf true) h = absurd h
+zero-div64 (inf false) h = refl
+zero-div64 (fin true n d) h = absurd h
+zero-div64 (fin false n d) h = go (eqb n 0) (eqb→eq n 0)
+  where
+    go : (b : Bool) → (T b → n ≡ 0) → cond b nan (round binary64 false (0 * 1 * down d) (n * up d * 1)) ≡ fin false 0 (pos 0)
+    go true z = absurd (lt-irrefl 0 (subst (λ (k : ℕ). 0 < k) (z tt) (ltb→lt 0 n h)))
+    go false z =
+        round-zero false (0 * 1 * down d) (n * up d * 1) (mul-pos (mul-pos (ltb→lt 0 n h) (up-pos d)) (zero-lt-suc 0)) (zero-mul (down d))
 
 -- a count of 0, as a float, is a zero
 pub count-zero : T (isZero (ofInt binary64 (pos 0)))
@@ -257,12 +271,18 @@ zero-eq : eq (fin false 0 (pos 0)) (fin false 0 (pos 0)) ≡ true
 unfolding eq
 zero-eq = refl
 
+pub sub-none : (x : Float) → T (finite x) → sub binary64 x x ≡ fin false 0 (pos 0)
+unfolding sub
+sub-none nan p = absurd p
+sub-none (inf s) p = absurd p
+sub-none (fin s m e) p = sum-self s (m * up e * down e) (down e * down e) (mul-pos (down-pos e) (down-pos e))
+
 pub sub-self : (x : Float) → eq (sub binary64 x x) (fin false 0 (pos 0)) ≡ finite x
 unfolding sub
 sub-self nan = unfold eq in refl
 sub-self (inf true) = unfold eq in refl
 sub-self (inf false) = unfold eq in refl
-sub-self (fin s m e) = ap (λ (z : Float). eq z (fin false 0 (pos 0))) (sum-self s (m * up e * down e) (down e * down e) (mul-pos (down-pos e) (down-pos e))) ∙ zero-eq
+sub-self (fin s m e) = ap (λ (z : Float). eq z (fin false 0 (pos 0))) (sub-none (fin s m e) tt) ∙ zero-eq
 
 -- ---- values that are equal and no zeros are the same
 no-factor : (a c : ℕ) → 0 < c → a * c ≡ 0 → a ≡ 0

@@ -275,7 +275,7 @@ module _ (P : Params) {S : Type 0} (src : Source S) (fair : Fair P src) where
   unfolding tryAll
   tries-fine task [] r s b g = g
   tries-fine task (j ∷ js) r s b g =
-      then-then (tryOne src (P .splitter) P task j r) _ _ _ (try-fine (P .splitter) task j r (s .sound j (b .0)) g) (λ r′ g′. tries-fine task js r′ s (b .1) g′)
+      then-then (tryOne src _ P task j r) _ _ _ (try-fine _ task j r (s .sound j (b .0)) g) (λ r′ g′. tries-fine task js r′ s (b .1) g′)
 
   found-fine : (task : Task) (h : Held) → HeldFine P task h → Suits P task (found h)
   found-fine task Nothing g = tt

@@ -2,6 +2,8 @@ pub mod Lists
 pub mod Once
 pub mod Outs
 pub mod Stack
+pub mod Lifted
+pub mod Unmet
 pub mod Values
 pub mod Cuts
 pub mod Room

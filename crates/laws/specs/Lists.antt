@@ -5,7 +5,7 @@ use native.Mathlib.Omega.{arith}
 use mathlib.Core.Path.{_≡_, refl, sym, ap, _∙_, subst}
 use mathlib.Core.Bool.{Bool, true, false, not, _&&_, _||_, cond}
 use mathlib.Core.List.{List, [], _∷_, _++_, map}
-use lib.ListN.{length, getD, take, drop, List·getD-map}
+use lib.ListN.{length, getD, set, take, drop, List·getD-map}
 use lib.Seq.{take-nil}
 use lib.Dec.{T}
 use lib.Ieee.Fits.{and-l, and-r, and-i}
@@ -81,6 +81,11 @@ module _ {ℓ} {A : Type ℓ} where
   every-drop Q (suc n) [] e = tt
   every-drop Q (suc n) (x ∷ l) e = every-drop Q n l (e .1)
 
+  pub every-set : (Q : A → Type 0) (l : List A) (i : ℕ) (x : A) → Every Q l → Q x → Every Q (set l i x)
+  every-set Q [] i x e h = tt
+  every-set Q (y ∷ l) zero x e h = (h, e .1)
+  every-set Q (y ∷ l) (suc i) x e h = (e .0, every-set Q l i x (e .1) h)
+
   every-put : (Q : A → Type 0) (b : Bool) (x : A) (l : List A) → Q x → Every Q l → Every Q (putIf b x l)
   unfolding putIf
   every-put Q true x l q h = (q, h)
@@ -147,7 +152,7 @@ module _ {ℓ} {A : Type ℓ} where
   unfolding keep
   getD-keep p cs j = List·getD-map (keep p) cs j []
 
-put-map {ℓ κ} : {A : Type ℓ} {B : Type κ} (f : A → B) (b : Bool) (x : A) (l : List A) → putIf b (f x) (map f l) ≡ map f (putIf b x l)
+pub put-map {ℓ κ} : {A : Type ℓ} {B : Type κ} (f : A → B) (b : Bool) (x : A) (l : List A) → putIf b (f x) (map f l) ≡ map f (putIf b x l)
 unfolding putIf
 put-map f true x l = refl
 put-map f false x l = refl

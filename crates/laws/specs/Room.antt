@@ -2,10 +2,9 @@
 use Prim.Native.Nat.{ℕ, suc, _+_, _-_, _*_, _<_, _≤_}
 use native.Mathlib.Omega.{arith}
 use mathlib.Core.Path.{_≡_, sym, ap, _∙_, subst}
-use mathlib.Core.Bool.{Bool, true, false, not, _&&_}
+use mathlib.Core.Bool.{Bool, true, false, not}
 use mathlib.Core.List.{List, [], _∷_, _++_}
 use lib.ListN.{length, getD}
-use lib.Dec.{ltb}
 use Rattle.rules.specs.declared.Params.{Params}
 use Rattle.rules.specs.Words.{keep, total}
 use Rattle.rules.specs.Draws.{Out}
@@ -91,11 +90,11 @@ module _ (P : Params) {S : Type 0} (choose : S → Task → Out (Found × S))
           → n + 2 * ((c - 1) + lw) ≤ top → n′ + 2 * l ≤ top
       room n n′ l lf lt lw a b c h₁ h₂ h₃ h₄ h₅ h₆ = omega arith
 
-  pub root-bounded : (root : Task) (s : S) → Good P root
-      → Then (searchIf P choose (ltb 0 (root .count) && searchable P 1 root) 0 1 root s)
+  pub root-bounded : (root : Task) (s : S) → Good P root → (b : Bool)
+      → Then (searchIf P choose b 0 1 root s)
       (λ r. Bounded (1 + 2 * (rowsOf root - 1)) (r .0) (record { nodes = leafOf root ∷ []; depth = 0; left = r .1 }))
-  root-bounded root s g =
-      then-after (searchIf P choose (ltb 0 (root .count) && searchable P 1 root) 0 1 root s) _ _ (searchIf-load _ 0 1 root s g)
+  root-bounded root s g b =
+      then-after (searchIf P choose b 0 1 root s) _ _ (searchIf-load b 0 1 root s g)
       (λ r q. (q .0, start (load (r .0)) (rowsOf root) (q .1)))
     where
       start : (l n : ℕ) → l ≤ n - 1 → 1 + 2 * l ≤ 1 + 2 * (n - 1)

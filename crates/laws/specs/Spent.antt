@@ -7,7 +7,7 @@ use mathlib.Core.Path.{_≡_, refl, sym, ap, _∙_, subst}
 use mathlib.Core.Bool.{Bool, true, false, _&&_}
 use mathlib.Core.List.{List, [], _∷_}
 use lib.ListN.{length, getD, take, length-take, length-drop}
-use lib.Dec.{T, ltb}
+use lib.Dec.{T}
 use lib.Ieee.{Float, le, lt}
 use Rattle.rules.specs.declared.Params.{Params}
 use Rattle.rules.specs.declared.Splitter.{Splitter}
@@ -16,7 +16,7 @@ use Rattle.rules.specs.declared.Held.the-variants.{Nothing}
 use Rattle.rules.specs.Words.{total, eachOnce}
 use Rattle.rules.specs.Draws.{Out, bad, Tapes, takeWords, takeThreshold, nextThreshold, tape}
 use Rattle.rules.specs.Search.{Column, at, Task, final, Tries, drawIn, randomIn, tryOne, tryAll, Found, search}
-use Rattle.rules.specs.Growth.{Waiting, State, leafOf, searchable, searchIf, expand, fromRoot}
+use Rattle.rules.specs.Growth.{Waiting, State, leafOf, searchIf, expand, fromRoot}
 use Rattle.laws.specs.Once.{once-length}
 use Rattle.laws.specs.Outs.{Ends, Then, ends-then, ends-both, ends-bad, then-ends}
 use Rattle.laws.specs.Stack.{children-length, root-ends, root-keep}
@@ -82,7 +82,7 @@ module _ (P : Params) (d₀ : Tapes) (top : ℕ) (inside : d₀ .searches ≤ to
   tries-all : (task : Task) (js : List ℕ) (r : Tries Tapes) → Trying P d₀ (length js) (r .left) → Leaves 0 (tryAll (tape (P .features)) P task js r)
   unfolding tryAll
   tries-all task [] r h = h
-  tries-all task (j ∷ js) r h = ends-then _ _ _ _ _ (tries-one (length js) (P .splitter) task j r h) (λ r′ h′. tries-all task js r′ h′)
+  tries-all task (j ∷ js) r h = ends-then _ _ _ _ _ (tries-one (length js) _ task j r h) (λ r′ h′. tries-all task js r′ h′)
 
   takes-words : Ends (tape (P .features) .shuffle d₀) (λ o. Trying P d₀ (P .features) (o .1)) (λ k. k ≤ top)
   unfolding tape takeWords
@@ -157,13 +157,10 @@ module _ (P : Params) (words thresholds : ℕ) where
 abbrev Since : Params → Tapes → State Tapes → Type 0
 Since P d s = Spent P (length (d .words)) (length (d .thresholds)) s
 
-abbrev rootSearch : Params → Task → Tapes → Out (List Waiting × Tapes)
-rootSearch P task d = searchIf P (choose P) (ltb 0 (task .count) && searchable P 1 task) 0 1 task d
-
-root-spent : (P : Params) (task : Task) (d : Tapes) → d .searches ≡ 0 → (top : ℕ)
-    → Ends (rootSearch P task d) (λ r. Since P d (record { nodes = leafOf task ∷ []; depth = 0; left = r .1 })) (λ k. k ≤ top)
-root-spent P task d none top =
-    searchIf-drawn P _ _ 0 top (omega arith) _ 0 1 task d (record { words = omega (arith, nothing); thresholds = omega (arith, nothing); searches = omega (arith, none) })
+root-spent : (P : Params) (task : Task) (d : Tapes) → d .searches ≡ 0 → (top : ℕ) (b : Bool)
+    → Ends (searchIf P (choose P) b 0 1 task d) (λ r. Since P d (record { nodes = leafOf task ∷ []; depth = 0; left = r .1 })) (λ k. k ≤ top)
+root-spent P task d none top b =
+    searchIf-drawn P _ _ 0 top (omega arith) b 0 1 task d (record { words = omega (arith, nothing); thresholds = omega (arith, nothing); searches = omega (arith, none) })
   where
     nothing : P .features * d .searches ≡ 0
     nothing = ap (λ n. P .features * n) none ∙ mul-zero (P .features)
@@ -173,7 +170,7 @@ pub growth-spent : (P : Params) (task : Task) (d : Tapes) → d .searches ≡ 0
 growth-spent P task d none =
     root-keep P (choose P) (λ ws s. Since P d s)
     (λ w ws s b h. then-ends (expand P (choose P) w s) _ _ (expand-spent P _ _ (suc (length (s .nodes))) w s (omega arith) h))
-    task d (then-ends (rootSearch P task d) _ _ (root-spent P task d none 0))
+    task d (λ b. then-ends (searchIf P (choose P) b 0 1 task d) _ _ (root-spent P task d none 0 b))
 
 pub growth-bad : (P : Params) → 0 < P .features → (task : Task) (d : Tapes) → d .searches ≡ 0 → Good P task → (k : ℕ)
     → fromRoot P (search (tape (P .features)) P) task d ≡ bad k → k ≤ 1 + 2 * (rowsOf task - 1)
@@ -182,7 +179,7 @@ growth-bad P some task d none g k e =
     ends-bad _ (λ n. n ≤ top) _ k e
     (root-ends P (choose P) (λ ws s. Since P d s × Bounded P (choose P) fine top ws s) (λ n. n ≤ top)
     (λ w ws s b h. ends-both (expand P (choose P) w s) _ _ _ (expand-spent P _ _ top w s (omega (arith, halves P w (h .1 .0 .0) some, h .1 .1)) (h .0)) (expand-bounded P (choose P) fine some top w ws s b (h .1)))
-    task d (ends-both (rootSearch P task d) _ _ _ (root-spent P task d none top) (root-bounded P (choose P) fine task d g)))
+    task d (λ b. ends-both (searchIf P (choose P) b 0 1 task d) _ _ _ (root-spent P task d none top b) (root-bounded P (choose P) fine task d g b)))
   where
     top : ℕ
     top = 1 + 2 * (rowsOf task - 1)

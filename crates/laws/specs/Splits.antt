@@ -6,11 +6,11 @@ use native.Mathlib.Decide.{ℕ-discrete, decLt}
 use native.Mathlib.Omega.{arith}
 use mathlib.Core.Path.{_≡_, refl, sym, ap, _∙_, subst}
 use mathlib.Core.Logic.{_≢_}
-use mathlib.Core.Bool.{Bool, not, _&&_}
+use mathlib.Core.Bool.{Bool, not}
 use mathlib.Core.List.{List, [], _∷_, _++_}
 use lib.ListN.{length, getD, set, length-set, List·getD-append}
 use lib.Seq.{getD-set-same, getD-set-other, getD-append-add}
-use lib.Dec.{ltb, lit<}
+use lib.Dec.{lit<}
 use Rattle.rules.specs.declared.Params.{Params}
 use Rattle.rules.specs.declared.Fork.{Fork}
 use Rattle.rules.specs.declared.Kind.{Kind}
@@ -19,7 +19,7 @@ use Rattle.rules.specs.Words.{keep, total}
 use Rattle.rules.specs.Totals.{empty}
 use Rattle.rules.specs.Draws.{Out}
 use Rattle.rules.specs.Search.{Task, goesTrue, same, Found, uncut, cut}
-use Rattle.rules.specs.Growth.{TreeNode, Waiting, State, child, leafOf, splitting, splitOf, withChildren, joins, searchable, searchIf, expand, fromRoot}
+use Rattle.rules.specs.Growth.{TreeNode, Waiting, State, child, leafOf, splitting, splitOf, withChildren, joins, searchIf, expand, fromRoot}
 use Rattle.laws.specs.Lists.{Every, every-imp, every-append, every-keep, total-le, total-sides}
 use Rattle.laws.specs.Outs.{Then, then-both, then-after, always}
 use Rattle.laws.specs.Stack.{children-length, searchIf-joins, expand-joins, expand-nodes, root-keep}
@@ -268,10 +268,10 @@ module _ (P : Params) {S : Type 0} (choose : S → Task → Out (Found × S))
   growth-stands root s g =
       then-after (fromRoot P choose root s) _ _
       (root-keep P choose Kept expand-kept root s
-      (then-both (searchIf P choose (ltb 0 (root .count) && searchable P 1 root) 0 1 root s) _ _
-      (searchIf-joins P choose _ _ 0 1 root s
+      (λ b. then-both (searchIf P choose b 0 1 root s) _ _
+      (searchIf-joins P choose _ b 0 1 root s
       (λ t. then-after (choose s root) _ _ (fine s root g) (λ r f. joins-placed (leafOf root ∷ []) 0 1 root (r .0) g f (lit< tt) refl)))
-      (always (searchIf P choose (ltb 0 (root .count) && searchable P 1 root) 0 1 root s) _ (λ r. start))))
+      (always (searchIf P choose b 0 1 root s) _ (λ r. start))))
       (λ s′ h. h .1)
     where
       only : (k : ℕ) → kindAt (leafOf root ∷ []) k ≡ Leaf

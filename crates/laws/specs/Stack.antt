@@ -1,6 +1,6 @@
 -- Growth, over any way to choose cuts. `pop`: the waiting list is a stack, its last to join split first, as the paper has it and as a loop goes.
 -- `all-keep`: what each split keeps, the whole growth keeps. `root-ends`: and what holds of each split's bad draw, holds of the growth's. Assumes nothing.
-use Prim.Native.Nat.{ℕ, zero, suc, _+_, _-_, _<_}
+use Prim.Native.Nat.{ℕ, zero, suc, _+_, _-_, _<_, max}
 use native.Mathlib.Omega.{arith}
 use mathlib.Core.Path.{_≡_, refl, sym, ap, _∙_}
 use mathlib.Core.Bool.{Bool, true, false, not, _&&_}
@@ -64,6 +64,12 @@ module _ (P : Params) {S : Type 0} (choose : S → Task → Out (Found × S)) wh
       then-any (searchIf P choose (searchable P (suc (w .level)) (child same w)) (length (s .nodes)) (suc (w .level)) (child same w) (s .left)) _ _
       (λ t. then-any (searchIf P choose (searchable P (suc (w .level)) (child not w)) (suc (length (s .nodes))) (suc (w .level)) (child not w) (t .1)) _ _ (λ f. refl))
 
+  pub expand-depth : (w : Waiting) (s : State S) → Then (expand P choose w s) (λ r. r .1 .depth ≡ max (s .depth) (suc (w .level)))
+  unfolding expand
+  expand-depth w s =
+      then-any (searchIf P choose (searchable P (suc (w .level)) (child same w)) (length (s .nodes)) (suc (w .level)) (child same w) (s .left)) _ _
+      (λ t. then-any (searchIf P choose (searchable P (suc (w .level)) (child not w)) (suc (length (s .nodes))) (suc (w .level)) (child not w) (t .1)) _ _ (λ f. refl))
+
   -- v waits at a level below the limit
   abbrev pub AtLevel : ℕ → Waiting → Type 0
   AtLevel level v = (v .level ≡ level) × (v .level < P .limit)
@@ -72,7 +78,7 @@ module _ (P : Params) {S : Type 0} (choose : S → Task → Out (Found × S)) wh
   unfolding searchable
   searchable-below level task t = ltb→lt level (P .limit) (and-l (ltb level (P .limit)) (leb (P .split) (task .count)) t)
 
-  joins-level : (n level : ℕ) (task : Task) (f : Found) → level < P .limit → Every (AtLevel level) (joins n level task f)
+  pub joins-level : (n level : ℕ) (task : Task) (f : Found) → level < P .limit → Every (AtLevel level) (joins n level task f)
   unfolding joins
   joins-level n level task uncut h = tt
   joins-level n level task (cut c) h = ((refl, h), tt)
@@ -84,9 +90,12 @@ module _ (P : Params) {S : Type 0} (choose : S → Task → Out (Found × S)) wh
           → Then (choose t (child b w)) (λ r. Every (AtLevel (suc (w .level))) (joins n (suc (w .level)) (child b w) (r .0)))
       level b n t h = always (choose t (child b w)) _ (λ r. joins-level n (suc (w .level)) (child b w) (r .0) (searchable-below (suc (w .level)) (child b w) h))
 
+  -- the root, whatever else is asked of it
+  first-level : (b : Bool) (root : Task) (s : S) → (T b → T (searchable P 1 root)) → Then (searchIf P choose b 0 1 root s) (λ r. Every (AtLevel 1) (r .0))
+  first-level b root s h = searchIf-joins _ b 0 1 root s (λ t. always (choose s root) _ (λ r. joins-level 0 1 root (r .0) (searchable-below 1 root (h t))))
+
   pub root-level : (root : Task) (s : S) → Then (searchIf P choose (ltb 0 (root .count) && searchable P 1 root) 0 1 root s) (λ r. Every (AtLevel 1) (r .0))
-  root-level root s =
-      searchIf-joins _ _ 0 1 root s (λ t. always (choose s root) _ (λ r. joins-level 0 1 root (r .0) (searchable-below 1 root (and-r (ltb 0 (root .count)) (searchable P 1 root) t))))
+  root-level root s = first-level _ root s (and-r (ltb 0 (root .count)) (searchable P 1 root))
 
   -- ---- the stack
 
@@ -145,14 +154,18 @@ module _ (P : Params) {S : Type 0} (choose : S → Task → Out (Found × S)) wh
     all-ends [] s e h = h
     all-ends (w ∷ ws) s e h = ends-then _ _ _ _ B (grow-ends (P .limit - w .level) w ws s refl (e .0) h) (λ s′ h′. all-ends ws s′ (e .1) h′)
 
-    -- from the root on: what holds once the root has been searched holds in the end
+    -- from the root on: what holds once the root has been searched, or not, holds in the end
     pub root-ends : (root : Task) (s : S)
-        → Ends (searchIf P choose (ltb 0 (root .count) && searchable P 1 root) 0 1 root s) (λ r. I (r .0) (record { nodes = leafOf root ∷ []; depth = 0; left = r .1 })) B
+        → ((b : Bool) → Ends (searchIf P choose b 0 1 root s) (λ r. I (r .0) (record { nodes = leafOf root ∷ []; depth = 0; left = r .1 })) B)
         → Ends (fromRoot P choose root s) (λ s′. I [] s′) B
     unfolding fromRoot
-    root-ends root s h =
-        ends-then _ _ _ _ B (ends-both (searchIf P choose (ltb 0 (root .count) && searchable P 1 root) 0 1 root s) _ _ B h (root-level root s))
-        (λ r q. all-ends (r .0) (record { nodes = leafOf root ∷ []; depth = 0; left = r .1 }) (every-imp _ _ (λ v l. l .1) (r .0) (q .1)) (q .0))
+    root-ends root s h = go _ (λ t. search and-r)
+      where
+        go : (b : Bool) → (T b → T (searchable P 1 root))
+            → Ends (bind (searchIf P choose b 0 1 root s) (λ r. growAll P choose (r .0) (record { nodes = leafOf root ∷ []; depth = 0; left = r .1 }))) (λ s′. I [] s′) B
+        go b g =
+            ends-then _ _ _ _ B (ends-both (searchIf P choose b 0 1 root s) _ _ B (h b) (first-level b root s g))
+            (λ r q. all-ends (r .0) (record { nodes = leafOf root ∷ []; depth = 0; left = r .1 }) (every-imp _ _ (λ v l. l .1) (r .0) (q .1)) (q .0))
 
   -- of answers alone
   module _ (I : List Waiting → State S → Type 0)
@@ -161,6 +174,6 @@ module _ (P : Params) {S : Type 0} (choose : S → Task → Out (Found × S)) wh
     all-keep = all-ends I (λ n. Unit {0}) keeps
 
     pub root-keep : (root : Task) (s : S)
-        → Then (searchIf P choose (ltb 0 (root .count) && searchable P 1 root) 0 1 root s) (λ r. I (r .0) (record { nodes = leafOf root ∷ []; depth = 0; left = r .1 }))
+        → ((b : Bool) → Then (searchIf P choose b 0 1 root s) (λ r. I (r .0) (record { nodes = leafOf root ∷ []; depth = 0; left = r .1 })))
         → Then (fromRoot P choose root s) (λ s′. I [] s′)
     root-keep = root-ends I (λ n. Unit {0}) keeps

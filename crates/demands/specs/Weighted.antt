@@ -1,0 +1,103 @@
+-- A forest with weights has every row in every bag. One that is not refused has every count 1, so no row of it has an out-of-bag mean: read with its own counts, each
+-- is a NaN. And a count of 0, as any other than 1, is refused with 4 as soon as what is checked before it passes. Assumes nothing.
+use Prim.Native.Nat.{ℕ, zero, suc, _+_, _*_, _<_}
+use native.Mathlib.Nat.{suc-mul, mul-le-mul-right, zero-lt-suc}
+use native.Mathlib.Omega.{arith}
+use mathlib.Core.Path.{_≡_, refl, sym, subst}
+use mathlib.Core.Bool.{Bool, true, false, _&&_}
+use mathlib.Core.List.{List, _∷_}
+use lib.ListN.{length, getD}
+use lib.Dec.{T, eqb→eq}
+use lib.Ieee.{Float, nan}
+use lib.Ieee.Fits.{and-r}
+use Rattle.rules.specs.declared.ForestAnswer.{ForestAnswer}
+use Rattle.rules.specs.declared.Reply.{Reply}
+use Rattle.rules.specs.Lent.{Waits, ForestRooms, unweighted}
+use Rattle.rules.specs.Checks.{Test, test, firstFailed, treesIn, shapeIn, lengths, numbersGood, countsGood, countsOne}
+use Rattle.rules.specs.Forest.{ForestCall, grownForest, cutsGood, forestTests, forestEnds, fitForest}
+use Rattle.laws.specs.Lists.{or-other, Every, each, every-imp, every-at}
+use Rattle.laws.specs.Passed.{past, Binary64}
+use Rattle.laws.specs.Answered.{forest-answered, forest-right}
+use Rattle.demands.specs.OutOfBag.{ownMeans, own-done}
+use Rattle.demands.specs.Means.{in-every-bag}
+
+-- ---- the statements
+
+abbrev pub Accepted : ForestAnswer → Type 0
+Accepted (ForestAnswer.Refused n) = ⊥
+Accepted (ForestAnswer.BadDraw d) = Unit {0}
+Accepted ForestAnswer.Grown = Unit {0}
+
+abbrev pub EveryCountOne : Type 1
+EveryCountOne =
+    (W : Type 0) (K : Waits W) (C : ForestCall) (R : ForestRooms W) → unweighted (C .given .weights) ≡ false → Accepted (fitForest K C R .answer)
+    → Every (λ k. k ≡ 1) (C .given .counts)
+
+abbrev pub NoMeans : Type 1
+NoMeans =
+    (W : Type 0) (K : Waits W) (C : ForestCall) (R : ForestRooms W) → unweighted (C .given .weights) ≡ false → Binary64 (C .given .inputs .values)
+    → fitForest K C R .answer ≡ ForestAnswer.Grown → (out : List Float) → length out ≡ C .shape .rows → (i : ℕ) → i < C .shape .rows
+    → (ownMeans K C R out .answer ≡ Reply.Done) × (getD (ownMeans K C R out .rooms) i nan ≡ nan)
+
+abbrev pub OtherCount : Type 1
+OtherCount =
+    (W : Type 0) (K : Waits W) (C : ForestCall) (R : ForestRooms W) → unweighted (C .given .weights) ≡ false
+    → T (shapeIn (C .shape) && treesIn (C .trees)) → T (lengths (C .shape) (C .trees) (C .given) && cutsGood C) → T (numbersGood (C .given))
+    → (k : ℕ) → k < length (C .given .counts) → (getD (C .given .counts) k 0 ≡ 1 → ⊥) → fitForest K C R .answer ≡ ForestAnswer.Refused 4
+
+-- ---- the counts
+
+ones : (C : ForestCall) → unweighted (C .given .weights) ≡ false → T (countsGood (C .given) && countsOne (C .given)) → Every (λ k. k ≡ 1) (C .given .counts)
+unfolding countsOne
+ones C u t = every-imp _ _ (λ k h. eqb→eq k 1 h) (C .given .counts) (each _ (C .given .counts) (or-other (unweighted (C .given .weights)) _ u (and-r (countsGood (C .given)) _ t)))
+
+passed-ones : {W : Type 0} (K : Waits W) (C : ForestCall) (R : ForestRooms W) → unweighted (C .given .weights) ≡ false → firstFailed (forestTests K C R) ≡ 0
+    → Every (λ k. k ≡ 1) (C .given .counts)
+unfolding forestTests
+passed-ones K C R u h₁ =
+    let (t₁, h₂) = past 0 _ _ h₁ in let (t₂, h₃) = past 1 _ _ h₂ in let (t₃, h₄) = past 2 _ _ h₃ in let (t₄, h₅) = past 3 _ _ h₄ in ones C u t₄
+
+pub every-count-one : EveryCountOne
+unfolding fitForest forestEnds
+every-count-one W K C R u h = go (firstFailed (forestTests K C R)) refl h
+  where
+    go : (k : ℕ) → firstFailed (forestTests K C R) ≡ k → Accepted (forestEnds K k (grownForest C) R .answer) → Every (λ k. k ≡ 1) (C .given .counts)
+    go zero q h = passed-ones K C R u q
+    go (suc k) q h = absurd h
+
+-- ---- its means
+
+pub no-means : NoMeans
+no-means W K C R u held h out o i b = (
+  done,
+  in-every-bag (C .shape) (C .given .inputs .values) (C .given .counts) _ out i b (λ t l. subst (λ k. 0 < k) (sym (one t l)) (zero-lt-suc 0)) done,
+)
+  where
+    done : ownMeans K C R out .answer ≡ Reply.Done
+    done = own-done K C R held h out o
+
+    inside : (t trees rows i n : ℕ) → t < trees → i < rows → n ≡ trees * rows → t * rows + i < n
+    inside t trees rows i n a b e = omega (arith, mul-le-mul-right rows a, suc-mul t rows)
+
+    one : (t : ℕ) → t < C .trees → getD (C .given .counts) (t * C .shape .rows + i) 0 ≡ 1
+    one t l =
+        let a = forest-answered K C R h in
+        every-at (λ k. k ≡ 1) (C .given .counts) 0 (t * C .shape .rows + i) (passed-ones K C R u (a .passed))
+        (inside t (C .trees) (C .shape .rows) i (length (C .given .counts)) l b (forest-right K C R a .passed .countsLong))
+
+-- ---- another count
+
+fourth : (a b c d : Bool) (ts : List Test) → T a → T b → T c → (T d → ⊥) → firstFailed (test 1 a ∷ test 2 b ∷ test 3 c ∷ test 4 d ∷ ts) ≡ 4
+unfolding firstFailed
+fourth true true true true ts p q r h = absurd (h tt)
+fourth true true true false ts p q r h = refl
+fourth true true false d ts p q r h = absurd r
+fourth true false c d ts p q r h = absurd q
+fourth false b c d ts p q r h = absurd p
+
+pub other-count : OtherCount
+unfolding fitForest forestEnds forestTests
+other-count W K C R u p q r k b other = λ i. forestEnds K (failed i) (grownForest C) R .answer
+  where
+    failed : firstFailed (forestTests K C R) ≡ 4
+    failed = fourth _ _ _ _ _ p q r (λ t. other (every-at (λ n. n ≡ 1) (C .given .counts) 0 k (ones C u t) b))
