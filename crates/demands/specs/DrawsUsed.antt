@@ -102,10 +102,10 @@ fit-again F D = then-then (growth (F .params) (root F D) start) _ _ _ (growth-ag
         }))
 
 -- no more is used than there is
-abbrev Within : Frame → Tree → Type 0
+abbrev pub Within : Frame → Tree → Type 0
 Within F t = (t .report .words ≤ length (F .words)) × (t .report .thresholds ≤ length (F .thresholds))
 
-fit-within : (F : Frame) (D : Data) → Then (fit F D) (Within F)
+pub fit-within : (F : Frame) (D : Data) → Then (fit F D) (Within F)
 unfolding fit rooted treeOf
 fit-within F D = then-any (growth (F .params) (root F D) _) _ _ (λ s. (omega arith, omega arith))
 

@@ -106,7 +106,7 @@ SomeAtATime =
 
 -- ---- a tree's frame
 
-frame-same : (C : ForestCall) (t : ℕ) → frameOf (treeCallAt C t) ≡ frameAt C t
+pub frame-same : (C : ForestCall) (t : ℕ) → frameOf (treeCallAt C t) ≡ frameAt C t
 unfolding frameOf frameAt part
 frame-same C t =
     λ i.

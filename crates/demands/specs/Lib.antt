@@ -2,10 +2,12 @@ pub mod LeftOut
 pub mod Walks
 pub mod OutOfBag
 pub mod Parts
+pub mod Pieces
 pub mod ItsTrees
 pub mod FirstBad
 pub mod Numbers
 pub mod DrawsUsed
+pub mod ForestDraws
 pub mod OneOutcome
 pub mod Filled
 pub mod Refusals

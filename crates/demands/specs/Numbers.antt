@@ -6,12 +6,10 @@ use Prim.Native.Nat.{ℕ, zero, suc, _+_, _-_, _*_, _<_, _≤_}
 use native.Mathlib.Nat.{add-zero, zero-add}
 use native.Mathlib.Omega.{arith}
 use mathlib.Core.Path.{_≡_, refl, sym, ap, _∙_, subst}
-use mathlib.Core.Bool.{_&&_}
 use mathlib.Core.List.{List, _++_, map, map-map, append-nil}
 use lib.ListN.{length, getD, length-map, drop-of-length-le}
 use lib.Dec.{T, eqb, eqb→eq}
 use lib.Ieee.{nan}
-use lib.Ieee.Fits.{and-l}
 use Rattle.rules.specs.declared.Totals.{Totals}
 use Rattle.rules.specs.declared.Report.{Report}
 use Rattle.rules.specs.declared.TreeAnswer.{TreeAnswer}
@@ -29,7 +27,7 @@ use Rattle.laws.specs.Lists.{Every, map-same}
 use Rattle.laws.specs.Outs.{Then, then-then, then-any, then-of}
 use Rattle.laws.specs.Root.{fit-reported, fit-nodes}
 use Rattle.laws.specs.Spent.{growth-spent}
-use Rattle.laws.specs.Passed.{tree-passed, Binary64}
+use Rattle.laws.specs.Passed.{and2, and5, tree-passed, Binary64}
 use Rattle.laws.specs.Written.{first-start, last-start, next-start, length-forest}
 use Rattle.laws.specs.Answered.{TreeAnswered, tree-answered, tree-listed, ForestAnswered, forest-answered, forest-right, trees-length, trees-each, forest-room}
 use Rattle.demands.specs.Walks.{reported-nodes}
@@ -161,11 +159,13 @@ nodes-written ts old n e =
     told : List ℕ
     told = map (λ (r : Report). r .nodes) told-of
 
-nodes-long : (trees : ℕ) (c : Reports) → T (reportsExact trees c) → length (c .nodes) ≡ trees
+-- a column has a place a tree; nodes, words and thresholds used
+pub columns-long : (trees : ℕ) (c : Reports) → T (reportsExact trees c) → (length (c .nodes) ≡ trees) × (length (c .words) ≡ trees) × (length (c .thresholds) ≡ trees)
 unfolding reportsExact
-nodes-long trees c e =
-    eqb→eq (length (c .nodes)) trees (and-l (eqb (length (c .nodes)) trees) (eqb (length (c .depth)) trees && (eqb (length (c .mass)) trees
-    && (eqb (length (c .searches)) trees && (eqb (length (c .words)) trees && eqb (length (c .thresholds)) trees)))) e)
+columns-long trees c e =
+    let (n, rest) = and2 (eqb (length (c .nodes)) trees) _ e in
+    let (d, m, s, w, t) = and5 (eqb (length (c .depth)) trees) (eqb (length (c .mass)) trees) (eqb (length (c .searches)) trees) (eqb (length (c .words)) trees) (eqb (length (c .thresholds)) trees) rest in
+    (eqb→eq _ _ n, eqb→eq _ _ w, eqb→eq _ _ t)
 
 lies : (trees room : ℕ) (ts : List Tree) (starts : List ℕ) → length ts ≡ trees → length (forestEntries ts) ≤ room
     → Lies trees room (front (startsFrom 0 ts) starts) (map (λ (t : Tree). length (t .nodes)) ts)
@@ -181,7 +181,7 @@ pub forest-room-enough : ForestRoom
 forest-room-enough W K C R held g =
     subst (λ (r : ForestRooms W). Lies (C .trees) (shortest (R .nodes)) (r .starts) (r .reports .nodes)) (sym (a .after))
     (subst (Lies (C .trees) (shortest (R .nodes)) _)
-    (sym (nodes-written (a .trees) (R .reports .nodes) (nodes-long (C .trees) (R .reports) (forest-right K C R a .reports) ∙ sym n)
+    (sym (nodes-written (a .trees) (R .reports .nodes) (columns-long (C .trees) (R .reports) (forest-right K C R a .reports) .0 ∙ sym n)
     (trees-each K C R a (λ (t : Tree). t .report .nodes ≡ length (t .nodes)) held (λ t l. fit-reported (frameAt C t) (C .given .inputs)))))
     (lies (C .trees) (shortest (R .nodes)) (a .trees) (R .starts) n (forest-room K C R a held)))
   where
