@@ -16,9 +16,9 @@ use Rattle.rules.specs.Forest.{ForestCall, fitForest}
 use Rattle.rules.specs.OutOfBag.{outOfBagMeans}
 use Rattle.laws.specs.Passed.{Binary64}
 use Rattle.laws.specs.Answered.{TreeAnswered, tree-answered}
-use Rattle.demands.specs.LeftOut.{Alike, over, Unrefused, SameFit, demand3}
+use Rattle.demands.specs.LeftOut.{Alike, over, SameFit, demand3}
 use Rattle.demands.specs.OutOfBag.{retarget, ButOne, SameMean, ok-same, own-target}
-use Rattle.demands.specs.Refusals.{TreeZero, tree-bad}
+use Rattle.demands.specs.Refusals.{Unrefused, TreeZero, tree-bad}
 use Rattle.demands.specs.Walks.{tableAfter, tree-left}
 
 module _ {W : Type 0} (K : Waits W) where

@@ -17,7 +17,8 @@ use Rattle.rules.specs.Checks.{firstFailed}
 use Rattle.rules.specs.Draws.{Out, bad, ok}
 use Rattle.rules.specs.Fit.{Tree, fit, treeDone, fitTree}
 use Rattle.rules.specs.Forest.{ForestCall, frameAt, frames, Forest, stopped, grownAll, withTree, nextTree, growTrees, grownForest, forestTests, forestDone, forestEnds, fitForest}
-use Rattle.demands.specs.ItsTrees.{treeCallAt, ForestUnrefused, ownRooms, own-fit, passes, room-for-each, not-6}
+use Rattle.demands.specs.ItsTrees.{treeCallAt, ownRooms, own-fit, room-for-each, not-6}
+use Rattle.demands.specs.Refusals.{ForestUnrefused, forest-passes}
 
 -- ---- the statement
 
@@ -115,7 +116,7 @@ unfolding fitForest forestEnds forestDone grownForest frames treeDone
 first-bad W X K L C R g Q n t s = (there, back)
   where
     q : firstFailed (forestTests K C R) ≡ 0
-    q = passes K C R g
+    q = forest-passes K C R g
 
     own : (u : ℕ) → u < C .trees → fitTree L (treeCallAt C u) (Q u) .answer ≡ treeDone L (fit (frameAt C u) (C .given .inputs)) (Q u) .answer
     own u h = ap (λ (o : Outcome TreeAnswer (TreeRooms X)). o .answer) (own-fit K L C R q u h (Q u) (n u h))

@@ -33,7 +33,8 @@ use Rattle.laws.specs.Written.{front-length}
 use Rattle.laws.specs.Answered.{TreeAnswered, tree-answered, ForestAnswered, forest-answered, forest-right, trees-length}
 use Rattle.demands.specs.Pieces.{sums, cutsOf, piece-at, cuts-good}
 use Rattle.demands.specs.Numbers.{columns-long}
-use Rattle.demands.specs.ItsTrees.{between, treeCallAt, reportAt, ForestUnrefused, ownRooms, frame-same, passes, its-trees, tree-alone}
+use Rattle.demands.specs.ItsTrees.{between, treeCallAt, reportAt, ownRooms, frame-same, its-trees, tree-alone}
+use Rattle.demands.specs.Refusals.{ForestUnrefused, forest-passes}
 use Rattle.demands.specs.FirstBad.{first-bad-alone}
 use Rattle.demands.specs.DrawsUsed.{cutTo, Refusal7, Exact, fit-again, Within, fit-within, draws-used}
 
@@ -235,7 +236,7 @@ module _ {W : Type 0} (K : Waits W) (C : ForestCall) (R : ForestRooms W) (g : fi
   columns = fitForest K C R .rooms .reports
 
   passed : firstFailed (forestTests K C R) ≡ 0
-  passed = passes K C R (subst ForestUnrefused (sym g) tt)
+  passed = forest-passes K C R (subst ForestUnrefused (sym g) tt)
 
   answered : (t : ℕ) → t < C .trees → TreeAnswered K (treeCallAt C t) (ownRooms R) (reportAt columns t)
   answered t h = tree-answered K (treeCallAt C t) (ownRooms R) _ (tree-alone K C R g t h .answer)

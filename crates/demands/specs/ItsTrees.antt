@@ -2,7 +2,7 @@
 -- t's own parts of both tapes, in whatever rooms: its nodes entry by entry, and all six reports. No check but that of the room refuses that fit, and the forest's own
 -- rooms are enough for it. So trees can be grown some at a time: of two forests that have a tree with the same counts and draws, both have the same tree. It holds
 -- because nothing is handed on from one tree to the next. Assumes nothing.
-use Prim.Native.Nat.{ℕ, zero, suc, _-_, _*_, _<_, _≤_}
+use Prim.Native.Nat.{ℕ, suc, _-_, _*_, _<_, _≤_}
 use native.Mathlib.Nat.{zero-add, one-mul, suc-mul, le-trans}
 use native.Mathlib.Omega.{arith}
 use mathlib.Core.Path.{_≡_, refl, sym, ap, _∙_, subst}
@@ -22,14 +22,14 @@ use Rattle.rules.specs.Checks.{Test, test, firstFailed, shapeIn, treesIn, value
 use Rattle.rules.specs.Draws.{Out, bad, ok}
 use Rattle.rules.specs.Fit.{Tree, fit, entries, paramsOf, TreeCall, frameOf, grownTree, treeTests, treeDone, treeEnds, fitTree}
 use Rattle.rules.specs.Table.{treeAt, treesOf}
-use Rattle.rules.specs.Forest.{ForestCall, triedOf, part, frameAt, frames, grownForest, cutsGood, forestTests, forestEnds, fitForest}
+use Rattle.rules.specs.Forest.{ForestCall, triedOf, part, frameAt, frames, cutsGood, forestTests, fitForest}
 use Rattle.laws.specs.Lists.{is-true, each, all-pass, every-take, every-drop, drop-take, total-from, getD-from}
 use Rattle.laws.specs.Outs.{then-of}
 use Rattle.laws.specs.Root.{fit-reported}
 use Rattle.laws.specs.Passed.{past, ForestPassed, forest-passed}
 use Rattle.laws.specs.Written.{tree-written, tables, trees-written}
 use Rattle.laws.specs.Answered.{reportOr, GrewAt, ForestAnswered, forest-answered, trees-length, tree-at}
-use Rattle.demands.specs.LeftOut.{Unrefused}
+use Rattle.demands.specs.Refusals.{Unrefused, ForestUnrefused, forest-passes}
 use Rattle.demands.specs.Parts.{tree-parts}
 
 -- ---- the statements
@@ -77,12 +77,6 @@ ItsTrees =
     (W X : Type 0) (K : Waits W) (L : Waits X) (C : ForestCall) (R : ForestRooms W) → fitForest K C R .answer ≡ ForestAnswer.Grown
     → (t : ℕ) → t < C .trees → (Q : TreeRooms X) → fitTree L (treeCallAt C t) Q .answer ≢ TreeAnswer.Refused 6
     → IsTree (fitForest K C R .rooms) t (fitTree L (treeCallAt C t) Q)
-
--- not refused by 1 to 6
-abbrev pub ForestUnrefused : ForestAnswer → Type 0
-ForestUnrefused (ForestAnswer.Refused n) = ⊥
-ForestUnrefused (ForestAnswer.BadDraw d) = Unit {0}
-ForestUnrefused ForestAnswer.Grown = Unit {0}
 
 -- what is lent to a forest is not too small for any of its trees
 abbrev pub ownRooms : {W : Type 0} → ForestRooms W → TreeRooms W
@@ -235,15 +229,6 @@ its-trees W X K L C R g t h Q n =
 
 -- ---- a forest that is not refused
 
-module _ {W : Type 0} (K : Waits W) (C : ForestCall) (R : ForestRooms W) where
-  pub passes : ForestUnrefused (fitForest K C R .answer) → firstFailed (forestTests K C R) ≡ 0
-  unfolding fitForest forestEnds
-  passes h = go (firstFailed (forestTests K C R)) refl h
-    where
-      go : (k : ℕ) → firstFailed (forestTests K C R) ≡ k → ForestUnrefused (forestEnds K k (grownForest C) R .answer) → firstFailed (forestTests K C R) ≡ 0
-      go zero q h = q
-      go (suc k) q h = absurd h
-
 done-unrefused : {W : Type 0} (K : Waits W) (o : Out Tree) (Q : TreeRooms W) → Unrefused (treeDone K o Q .answer)
 unfolding treeDone
 done-unrefused K (bad s) Q = tt
@@ -257,7 +242,7 @@ room-for-each W K C R g t h =
     (done-unrefused K (grownTree (treeCallAt C t)) (ownRooms R))
   where
     q : firstFailed (forestTests K C R) ≡ 0
-    q = passes K C R g
+    q = forest-passes K C R g
 
     p : ForestPassed K C R
     p = forest-passed K C R q

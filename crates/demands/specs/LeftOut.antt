@@ -16,7 +16,6 @@ use Rattle.floats.specs.Zero.{isZero, isMinusZero, add-zero64, mul-zero64, coun
 use Rattle.floats.specs.Count.{mass-none, mass-weightless, above-lt}
 use Rattle.rules.specs.declared.Shape.{Shape}
 use Rattle.rules.specs.declared.Totals.{Totals}
-use Rattle.rules.specs.declared.TreeAnswer.{TreeAnswer}
 use Rattle.rules.specs.Words.{nought, float, from, keep}
 use Rattle.rules.specs.Totals.{empty, takeIn}
 use Rattle.rules.specs.Lent.{Data, Given, Frame, Waits, TreeRooms, unweighted, kept, valuesAt, countIn, massIn, keptIn}
@@ -26,6 +25,7 @@ use Rattle.rules.specs.Search.{totals}
 use Rattle.rules.specs.Fit.{elementIn, listing, element, column, root, Tree, rooted, fit, TreeCall, frameOf, grownTree, treeTests, treeDone, treeEnds, fitTree}
 use Rattle.laws.specs.Lists.{is-false, Every, every-imp, every-at, every-or, kept-pass, map-same, every-all, from-below}
 use Rattle.laws.specs.Passed.{past, goes-on, none-fails, Passed, Framed, tree-passed, tree-framed}
+use Rattle.demands.specs.Refusals.{Unrefused, tree-passes}
 
 -- ---- the statement
 
@@ -46,12 +46,6 @@ over C E =
       words = C .words;
       thresholds = C .thresholds;
     }
-
--- not refused by 1 to 6
-abbrev pub Unrefused : TreeAnswer → Type 0
-Unrefused (TreeAnswer.Refused n) = ⊥
-Unrefused (TreeAnswer.BadDraw d) = Unit {0}
-Unrefused (TreeAnswer.Grown r) = Unit {0}
 
 -- the growths are one: nodes and report, or the bad draw; so are the answers, whatever rooms were lent; and in the same rooms so is all that is left
 pub record SameFit {W : Type 0} (K : Waits W) (C C′ : TreeCall) (R R′ : TreeRooms W) : Type 0 where
@@ -206,14 +200,6 @@ accepted S trees G p F f =
         (and-l (finite w) (not (lt w nought)) good, is-false (lt w nought) (and-r (finite w) (not (lt w nought)) good))
 
 module _ {W : Type 0} (K : Waits W) where
-  pub passes : (C : TreeCall) (R : TreeRooms W) → Unrefused (fitTree K C R .answer) → firstFailed (treeTests K C R) ≡ 0
-  unfolding fitTree treeEnds
-  passes C R h = go (firstFailed (treeTests K C R)) refl h
-    where
-      go : (k : ℕ) → firstFailed (treeTests K C R) ≡ k → Unrefused (treeEnds K k (grownTree C) R .answer) → firstFailed (treeTests K C R) ≡ 0
-      go zero q h = q
-      go (suc k) q h = absurd h
-
   done-same : (o : Out Tree) (R R′ : TreeRooms W) → treeDone K o R .answer ≡ treeDone K o R′ .answer
   unfolding treeDone
   done-same (bad s) R R′ = refl
@@ -240,10 +226,10 @@ demand3 W K C E R R′ like h h′ =
     }
   where
     q : firstFailed (treeTests K C R) ≡ 0
-    q = passes K C R h
+    q = tree-passes K C R h
 
     q′ : firstFailed (treeTests K (over C E) R′) ≡ 0
-    q′ = passes K (over C E) R′ h′
+    q′ = tree-passes K (over C E) R′ h′
 
     same : grownTree C ≡ grownTree (over C E)
     same =

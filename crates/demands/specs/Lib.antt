@@ -1,24 +1,33 @@
+-- What the user may rely on, as theorems over the rules: each file states one thing in words, then in symbols, then proves it.
+
+-- demand 1: refusals and rooms
+pub mod Refusals
+pub mod Rooms
+-- demand 3: rows that a tree leaves out
 pub mod LeftOut
 pub mod Walks
 pub mod OutOfBag
+pub mod Calls
+-- one outcome of every call
+pub mod OneOutcome
+-- a forest is its trees
 pub mod Parts
 pub mod Pieces
 pub mod ItsTrees
 pub mod FirstBad
 pub mod Numbers
+-- draws
 pub mod DrawsUsed
 pub mod ForestDraws
-pub mod OneOutcome
-pub mod Filled
-pub mod Refusals
-pub mod Rooms
-pub mod Tried
-pub mod Sides
-pub mod Limits
 pub mod Splitters
-pub mod Calls
-pub mod Error
+-- growth
+pub mod Sides
+pub mod Filled
+pub mod Limits
+pub mod Tried
+-- reading
 pub mod Means
+pub mod Error
 pub mod Leaves
 pub mod Importances
 pub mod Weighted

@@ -31,7 +31,8 @@ use Rattle.laws.specs.Stack.{children-length, searchIf-joins, expand-nodes, exp
 use Rattle.laws.specs.Unmet.{relimit, search-same, root-unmet}
 use Rattle.laws.specs.Passed.{tree-passed, tree-framed}
 use Rattle.laws.specs.Answered.{TreeAnswered, tree-answered}
-use Rattle.demands.specs.LeftOut.{Unrefused, Accepted, clean-start, idle, accepted, passes}
+use Rattle.demands.specs.LeftOut.{Accepted, clean-start, idle, accepted}
+use Rattle.demands.specs.Refusals.{Unrefused, tree-passes}
 
 -- ---- the statements
 
@@ -217,7 +218,7 @@ nothing-kept W K C R none h = λ i. treeEnds K (q i) ((ap (rooted F) (root-empty
     D = C .given .inputs
 
     q : firstFailed (treeTests K C R) ≡ 0
-    q = passes K C R h
+    q = tree-passes K C R h
 
     accepts : Accepted F D
     accepts = let p = tree-passed K C R q .passed in accepted (C .shape) 1 (C .given) p F (tree-framed C p)

@@ -99,6 +99,17 @@ pub record ForestZero (before after : ForestRooms Stack) : Type 0 where
 abbrev pub ForestBad : Type 0
 ForestBad = (C : ForestCall) (R : ForestRooms Stack) (d : Place) → fitForest stack C R .answer ≡ ForestAnswer.BadDraw d → ForestZero R (fitForest stack C R .rooms)
 
+-- not refused by 1 to 6
+abbrev pub Unrefused : TreeAnswer → Type 0
+Unrefused (TreeAnswer.Refused n) = ⊥
+Unrefused (TreeAnswer.BadDraw d) = Unit {0}
+Unrefused (TreeAnswer.Grown r) = Unit {0}
+
+abbrev pub ForestUnrefused : ForestAnswer → Type 0
+ForestUnrefused (ForestAnswer.Refused n) = ⊥
+ForestUnrefused (ForestAnswer.BadDraw d) = Unit {0}
+ForestUnrefused ForestAnswer.Grown = Unit {0}
+
 -- so no answer is told as another: a refusal before growth has a number from 1 to 6, where 0 is an answer and 7 a bad draw
 abbrev pub ToldApart : Type 1
 ToldApart =
@@ -274,3 +285,21 @@ told-apart W K = (
         subst (λ m. m ≤ 6) q (failed-within 6 (forestTests K C R) (λ f. lit≤ tt, (λ f. lit≤ tt, (λ f. lit≤ tt, (λ f. lit≤ tt, (λ f. lit≤ tt, (λ f. lit≤ tt, tt))))))),
       )),
 )
+
+-- ---- where a fit is not refused, no test fails
+
+pub tree-passes : {W : Type 0} (K : Waits W) (C : TreeCall) (R : TreeRooms W) → Unrefused (fitTree K C R .answer) → firstFailed (treeTests K C R) ≡ 0
+unfolding fitTree treeEnds
+tree-passes K C R h = go (firstFailed (treeTests K C R)) refl h
+  where
+    go : (k : ℕ) → firstFailed (treeTests K C R) ≡ k → Unrefused (treeEnds K k (grownTree C) R .answer) → firstFailed (treeTests K C R) ≡ 0
+    go zero q h = q
+    go (suc k) q h = absurd h
+
+pub forest-passes : {W : Type 0} (K : Waits W) (C : ForestCall) (R : ForestRooms W) → ForestUnrefused (fitForest K C R .answer) → firstFailed (forestTests K C R) ≡ 0
+unfolding fitForest forestEnds
+forest-passes K C R h = go (firstFailed (forestTests K C R)) refl h
+  where
+    go : (k : ℕ) → firstFailed (forestTests K C R) ≡ k → ForestUnrefused (forestEnds K k (grownForest C) R .answer) → firstFailed (forestTests K C R) ≡ 0
+    go zero q h = q
+    go (suc k) q h = absurd h

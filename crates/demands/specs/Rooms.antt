@@ -2,9 +2,9 @@
 -- rows, the flags as many as the rows and as many as the features, both slices of the waiting list rows, each node column what the trees may come to,
 -- max(1, 2 x kept rows - 1) a tree, the starts trees + 1; and each report column is as long as there are trees, no longer. And no fit is refused by 6 whose rooms are so.
 -- It holds because the sixth test says just that. Assumes nothing.
-use Prim.Native.Nat.{ℕ, zero, suc, _+_, _-_, _*_, _≤_, max}
+use Prim.Native.Nat.{ℕ, suc, _+_, _-_, _*_, _≤_, max}
 use native.Mathlib.Omega.{arith}
-use mathlib.Core.Path.{_≡_, refl, sym, _∙_, subst}
+use mathlib.Core.Path.{_≡_, sym, _∙_, subst}
 use mathlib.Core.Bool.{Bool, true, _&&_}
 use lib.ListN.{length}
 use lib.Dec.{T, leb, eqb, leb→le, le→leb, eqb→eq, eqb-refl, lit≤}
@@ -14,11 +14,11 @@ use Rattle.rules.specs.declared.ForestAnswer.{ForestAnswer}
 use Rattle.rules.specs.Words.{from, total}
 use Rattle.rules.specs.Lent.{Frame, Columns, Reports, Stack, stack, Work, TreeRooms, ForestRooms, keptRows, shortest}
 use Rattle.rules.specs.Checks.{firstFailed, roomFor, workEnough, reportsExact}
-use Rattle.rules.specs.Fit.{TreeCall, frameOf, grownTree, treeTests, treeEnds, fitTree}
-use Rattle.rules.specs.Forest.{ForestCall, frameAt, frames, grownForest, roomsGood, forestTests, forestEnds, fitForest}
+use Rattle.rules.specs.Fit.{TreeCall, frameOf, treeTests, fitTree}
+use Rattle.rules.specs.Forest.{ForestCall, frameAt, frames, roomsGood, forestTests, fitForest}
 use Rattle.laws.specs.Lists.{is-true, total-map}
 use Rattle.laws.specs.Passed.{and2, tree-passed, forest-passed}
-use Rattle.demands.specs.Refusals.{tree-refused, forest-refused, failed-within}
+use Rattle.demands.specs.Refusals.{Unrefused, ForestUnrefused, tree-refused, forest-refused, failed-within, tree-passes, forest-passes}
 
 -- ---- the statements
 
@@ -62,13 +62,13 @@ pub record ForestLong (C : ForestCall) (R : ForestRooms Stack) : Type 0 where
   pub work : WorkLong (C .shape) (R .work)
 
 abbrev pub TreeRoomsLong : Type 0
-TreeRoomsLong = (C : TreeCall) (R : TreeRooms Stack) → ((n : ℕ) → fitTree stack C R .answer ≡ TreeAnswer.Refused n → ⊥) → TreeLong C R
+TreeRoomsLong = (C : TreeCall) (R : TreeRooms Stack) → Unrefused (fitTree stack C R .answer) → TreeLong C R
 
 abbrev pub TreeRoomsTaken : Type 0
 TreeRoomsTaken = (C : TreeCall) (R : TreeRooms Stack) → TreeLong C R → fitTree stack C R .answer ≡ TreeAnswer.Refused 6 → ⊥
 
 abbrev pub ForestRoomsLong : Type 0
-ForestRoomsLong = (C : ForestCall) (R : ForestRooms Stack) → ((n : ℕ) → fitForest stack C R .answer ≡ ForestAnswer.Refused n → ⊥) → ForestLong C R
+ForestRoomsLong = (C : ForestCall) (R : ForestRooms Stack) → ForestUnrefused (fitForest stack C R .answer) → ForestLong C R
 
 abbrev pub ForestRoomsTaken : Type 0
 ForestRoomsTaken = (C : ForestCall) (R : ForestRooms Stack) → ForestLong C R → fitForest stack C R .answer ≡ ForestAnswer.Refused 6 → ⊥
@@ -147,14 +147,10 @@ not-six k h₁ h₂ = omega arith
 -- ---- one tree
 
 pub tree-rooms-long : TreeRoomsLong
-unfolding fitTree treeEnds roomFor
+unfolding roomFor
 tree-rooms-long C R un =
-    let p = tree-passed stack C R (go (firstFailed (treeTests stack C R)) un refl) in
+    let p = tree-passed stack C R (tree-passes stack C R un) in
     record { nodes = nodes-long (nodesAtMost (frameOf C)) (R .nodes) (p .room); work = work-long (C .shape) (R .work) (is-true (workEnough stack (C .shape) (R .work)) (p .work)) }
-  where
-    go : (k : ℕ) → ((n : ℕ) → treeEnds stack k (grownTree C) R .answer ≡ TreeAnswer.Refused n → ⊥) → firstFailed (treeTests stack C R) ≡ k → firstFailed (treeTests stack C R) ≡ 0
-    go zero un q = q
-    go (suc k) un q = absurd (un (suc k) refl)
 
 pub tree-rooms-taken : TreeRoomsTaken
 unfolding treeTests roomFor
@@ -173,19 +169,14 @@ unfolding frames roomFor
 room-same C = total-map roomFor (frameAt C) (from 0 (C .trees))
 
 pub forest-rooms-long : ForestRoomsLong
-unfolding fitForest forestEnds
 forest-rooms-long C R un =
-    let p = forest-passed stack C R (go (firstFailed (forestTests stack C R)) un refl) in
+    let p = forest-passed stack C R (forest-passes stack C R un) in
     record {
       nodes = nodes-long (total (λ t. nodesAtMost (frameAt C t)) (from 0 (C .trees))) (R .nodes) (subst (λ n. n ≤ shortest (R .nodes)) (room-same C) (p .room));
       starts = omega (arith, p .startsRoom);
       reports = reports-long (C .trees) (R .reports) (is-true (reportsExact (C .trees) (R .reports)) (p .reports));
       work = work-long (C .shape) (R .work) (is-true (workEnough stack (C .shape) (R .work)) (p .work));
     }
-  where
-    go : (k : ℕ) → ((n : ℕ) → forestEnds stack k (grownForest C) R .answer ≡ ForestAnswer.Refused n → ⊥) → firstFailed (forestTests stack C R) ≡ k → firstFailed (forestTests stack C R) ≡ 0
-    go zero un q = q
-    go (suc k) un q = absurd (un (suc k) refl)
 
 pub forest-rooms-taken : ForestRoomsTaken
 unfolding forestTests roomsGood

@@ -1,6 +1,6 @@
 -- A forest with weights has every row in every bag. One that is not refused has every count 1, so no row of it has an out-of-bag mean: read with its own counts, each
 -- is a NaN. And a count of 0, as any other than 1, is refused with 4 as soon as what is checked before it passes. Assumes nothing.
-use Prim.Native.Nat.{ℕ, zero, suc, _+_, _*_, _<_}
+use Prim.Native.Nat.{ℕ, _+_, _*_, _<_}
 use native.Mathlib.Nat.{suc-mul, mul-le-mul-right, zero-lt-suc}
 use native.Mathlib.Omega.{arith}
 use mathlib.Core.Path.{_≡_, refl, sym, subst}
@@ -18,19 +18,15 @@ use Rattle.rules.specs.Forest.{ForestCall, grownForest, cutsGood, forestTests, 
 use Rattle.laws.specs.Lists.{or-other, Every, each, every-imp, every-at}
 use Rattle.laws.specs.Passed.{past, Binary64}
 use Rattle.laws.specs.Answered.{forest-answered, forest-right}
+use Rattle.demands.specs.Refusals.{ForestUnrefused, forest-passes}
 use Rattle.demands.specs.OutOfBag.{ownMeans, own-done}
 use Rattle.demands.specs.Means.{in-every-bag}
 
 -- ---- the statements
 
-abbrev pub Accepted : ForestAnswer → Type 0
-Accepted (ForestAnswer.Refused n) = ⊥
-Accepted (ForestAnswer.BadDraw d) = Unit {0}
-Accepted ForestAnswer.Grown = Unit {0}
-
 abbrev pub EveryCountOne : Type 1
 EveryCountOne =
-    (W : Type 0) (K : Waits W) (C : ForestCall) (R : ForestRooms W) → unweighted (C .given .weights) ≡ false → Accepted (fitForest K C R .answer)
+    (W : Type 0) (K : Waits W) (C : ForestCall) (R : ForestRooms W) → unweighted (C .given .weights) ≡ false → ForestUnrefused (fitForest K C R .answer)
     → Every (λ k. k ≡ 1) (C .given .counts)
 
 abbrev pub NoMeans : Type 1
@@ -58,12 +54,7 @@ passed-ones K C R u h₁ =
     let (t₁, h₂) = past 0 _ _ h₁ in let (t₂, h₃) = past 1 _ _ h₂ in let (t₃, h₄) = past 2 _ _ h₃ in let (t₄, h₅) = past 3 _ _ h₄ in ones C u t₄
 
 pub every-count-one : EveryCountOne
-unfolding fitForest forestEnds
-every-count-one W K C R u h = go (firstFailed (forestTests K C R)) refl h
-  where
-    go : (k : ℕ) → firstFailed (forestTests K C R) ≡ k → Accepted (forestEnds K k (grownForest C) R .answer) → Every (λ k. k ≡ 1) (C .given .counts)
-    go zero q h = passed-ones K C R u q
-    go (suc k) q h = absurd h
+every-count-one W K C R u h = passed-ones K C R u (forest-passes K C R h)
 
 -- ---- its means
 
