@@ -118,15 +118,15 @@ ToldApart =
     × ((C : ForestCall) (R : ForestRooms W) (n : ℕ) → fitForest K C R .answer ≡ ForestAnswer.Refused n → (1 ≤ n) × (n ≤ 6))
 
 -- what a reader of these tests that is lent `out` leaves where it refuses
-abbrev pub Kept : List Test → List Float → Outcome Reply (List Float) → Type 0
-Kept ts out o = (n : ℕ) → o .answer ≡ Reply.Refused n → (o .rooms ≡ out) × (firstFailed ts ≡ n)
+abbrev pub Untouched : List Test → List Float → Outcome Reply (List Float) → Type 0
+Untouched ts out o = (n : ℕ) → o .answer ≡ Reply.Refused n → (o .rooms ≡ out) × (firstFailed ts ≡ n)
 
 pub record ReaderRefused : Type 0 where
-  pub predictions : (S : Shape) (xs : List Float) (c : Columns) (out : List Float) → Kept (predictTests S xs c out) out (predictTree S xs c out)
-  pub means : (S : Shape) (xs : List Float) (T : ForestTable) (out : List Float) → Kept (meanTests S xs T out) out (forestMeans S xs T out)
-  pub outOfBag : (S : Shape) (xs : List Float) (ks : List ℕ) (T : ForestTable) (out : List Float) → Kept (outTests S xs ks T out) out (outOfBagMeans S xs ks T out)
-  pub treeImportances : (features : ℕ) (by : Scale) (c : Columns) (out : List Float) → Kept (treeImportanceTests features c out) out (treeImportances features by c out)
-  pub forestImportances : (features : ℕ) (T : ForestTable) (out : List Float) → Kept (forestImportanceTests features T out) out (forestImportances features T out)
+  pub predictions : (S : Shape) (xs : List Float) (c : Columns) (out : List Float) → Untouched (predictTests S xs c out) out (predictTree S xs c out)
+  pub means : (S : Shape) (xs : List Float) (T : ForestTable) (out : List Float) → Untouched (meanTests S xs T out) out (forestMeans S xs T out)
+  pub outOfBag : (S : Shape) (xs : List Float) (ks : List ℕ) (T : ForestTable) (out : List Float) → Untouched (outTests S xs ks T out) out (outOfBagMeans S xs ks T out)
+  pub treeImportances : (features : ℕ) (by : Scale) (c : Columns) (out : List Float) → Untouched (treeImportanceTests features c out) out (treeImportances features by c out)
+  pub forestImportances : (features : ℕ) (T : ForestTable) (out : List Float) → Untouched (forestImportanceTests features T out) out (forestImportances features T out)
 
 -- ---- the order
 

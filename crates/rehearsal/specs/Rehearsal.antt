@@ -123,6 +123,9 @@ half m = fin false m (negsuc 0)
 abbrev f0 : Float
 f0 = times 0 0
 
+abbrev f4 : Float
+f4 = times 1 2
+
 abbrev f5 : Float
 f5 = times 5 0
 
@@ -218,7 +221,7 @@ oneTree means =
       rooms = record {
         nodes = five;
         starts = 0 ∷ 5 ∷ [];
-        reports = record { nodes = 5 ∷ []; depth = 3 ∷ []; mass = times 1 2 ∷ []; searches = 3 ∷ []; words = 3 ∷ []; thresholds = 0 ∷ [] };
+        reports = record { nodes = 5 ∷ []; depth = 3 ∷ []; mass = f4 ∷ []; searches = 3 ∷ []; words = 3 ∷ []; thresholds = 0 ∷ [] };
         work = work 0 false f0;
       };
     })
@@ -236,23 +239,23 @@ case c s = record { call = c; leaves = s }
 unfoldable pub cases : List Case
 cases =
     -- P1, with two places more than it needs
-    case (fits (tree Unlimited 1 2 plain) (lent 9)) (says 7 3 (times 1 2) 3 (seven 2))
+    case (fits (tree Unlimited 1 2 plain) (lent 9)) (says 7 3 f4 3 (seven 2))
     -- P2
-    ∷ case (fits (tree (AtMost 2) 1 2 plain) (lent 7)) (says 3 2 (times 1 2) 1 three)
+    ∷ case (fits (tree (AtMost 2) 1 2 plain) (lent 7)) (says 3 2 f4 1 three)
     -- P3
-    ∷ case (fits (tree (AtMost 1) 1 2 plain) (lent 7)) (says 1 0 (times 1 2) 0 (lone f5 6))
-    ∷ case (fits (tree (AtMost 0) 1 2 plain) (lent 7)) (says 1 0 (times 1 2) 0 (lone f5 6))
+    ∷ case (fits (tree (AtMost 1) 1 2 plain) (lent 7)) (says 1 0 f4 0 (lone f5 6))
+    ∷ case (fits (tree (AtMost 0) 1 2 plain) (lent 7)) (says 1 0 f4 0 (lone f5 6))
     -- P4
-    ∷ case (fits (tree Unlimited 2 2 plain) (lent 7)) (says 3 2 (times 1 2) 3 three)
+    ∷ case (fits (tree Unlimited 2 2 plain) (lent 7)) (says 3 2 f4 3 three)
     -- P5
-    ∷ case (fits (tree Unlimited 3 2 plain) (lent 7)) (says 1 0 (times 1 2) 1 (lone f5 6))
+    ∷ case (fits (tree Unlimited 3 2 plain) (lent 7)) (says 1 0 f4 1 (lone f5 6))
     -- P6
-    ∷ case (fits (tree Unlimited 1 5 plain) (lent 7)) (says 1 0 (times 1 2) 0 (lone f5 6))
+    ∷ case (fits (tree Unlimited 1 5 plain) (lent 7)) (says 1 0 f4 0 (lone f5 6))
     -- P7
-    ∷ case (fits (tree Unlimited 1 2 (given (7 ∷ 7 ∷ 7 ∷ 7 ∷ []) flats ones sorted)) (lent 7)) (says 1 0 (times 1 2) 1 (lone f5 6))
+    ∷ case (fits (tree Unlimited 1 2 (given (7 ∷ 7 ∷ 7 ∷ 7 ∷ []) flats ones sorted)) (lent 7)) (says 1 0 f4 1 (lone f5 6))
     -- P8, in the five places that are asked: the tree, and the forest of it alone with the second row's out-of-bag value, also if that row's target is -1000
-    ∷ case (fits (tree Unlimited 1 2 (sampled flats)) (lent 5)) (says 5 3 (times 1 2) 3 five)
-    ∷ case (fits (tree Unlimited 1 2 (sampled deep)) (lent 5)) (says 5 3 (times 1 2) 3 five)
+    ∷ case (fits (tree Unlimited 1 2 (sampled flats)) (lent 5)) (says 5 3 f4 3 five)
+    ∷ case (fits (tree Unlimited 1 2 (sampled deep)) (lent 5)) (says 5 3 f4 3 five)
     ∷ case (bags (forest (sampled flats)) (lentAll 5) (nineFloats 4)) (oneTree (nan ∷ f0 ∷ nan ∷ nan ∷ []))
     ∷ case (bags (forest (sampled deep)) (lentAll 5) (nineFloats 4)) (oneTree (nan ∷ f0 ∷ nan ∷ nan ∷ []))
     -- P9: node room 1 is enough
@@ -264,7 +267,7 @@ cases =
     ∷ case (weighs (ByMass (float 4)) (tree Unlimited 1 2 plain) (lent 7) (nineFloats 1)) (read (results (times 25 0 ∷ [])))
     -- node room 6 for P1, and 7
     ∷ case (fits (tree Unlimited 1 2 plain) (lent 6)) (no 6 (lent 6))
-    ∷ case (fits (tree Unlimited 1 2 plain) (lent 7)) (says 7 3 (times 1 2) 3 (seven 0))
+    ∷ case (fits (tree Unlimited 1 2 plain) (lent 7)) (says 7 3 f4 3 (seven 0))
     ∷ []
 
 abbrev pub Holds : List Case → Type 0
