@@ -1,8 +1,8 @@
 //! A seeded forest, some trees at a time: so many as their tapes stay small, on as many threads as there are.
 //!
 //! Each group of trees is grown by one call of the proved library, and the groups are then laid one after another, here, in plain
-//! Rust. A tree has its own counts and its own draws and knows nothing of its neighbours, so this is the forest of one call; the
-//! tests hold both against each other by bits.
+//! Rust. That a forest's tree is the one that its own counts and draws give, whatever stands beside it, is proved (`its-trees` and
+//! `some-at-a-time` in the crate `demands`); that the groups are laid as one call would, the tests hold by bits.
 
 use crate::draws::{Draws, Source};
 use crate::explain;
