@@ -87,7 +87,7 @@ returns-2 : tie.Need-returns-2 Inv-loop μ-loop
 returns-2 c =
     let at = c .before .before .before in
     let a = at .before .before .args in
-    answers (now (a .listing)) (a .rows) _ (omega arith) (fresh-out (a .rows) (now (a .listing)) (at .loop .inv .behind) (at .loop .i) (omega arith) (at .loop .inv .left) (c .if2 .taken))
+    answers (now (a .listing)) (a .rows) _ (omega arith) (fresh-out (a .rows) (now (a .listing)) (at .loop .inv .behind) (at .loop .i) (omega arith) (at .loop .inv .left) (omega arith))
 
 array-read-if3 : tie.Need-array-read-if3 Inv-loop μ-loop
 array-read-if3 c = omega arith
