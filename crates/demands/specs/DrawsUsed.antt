@@ -1,5 +1,5 @@
 -- Draws used are exact. Over any tapes that begin with as many words and thresholds as a fit of one tree reports used, and the same ones, it is the same fit: what lies
--- beyond is never looked at, and may be cut off. Where either tape has fewer, it is refusal 7. For more tape changes nothing (`growth-again` of crate laws), so a fit that
+-- beyond is never looked at, and may be cut off. With either cut to fewer, it is refusal 7. For more tape changes nothing (`growth-again` of crate laws), so a fit that
 -- answers over cut tapes is the whole fit, and has used no more than they hold. No check before growth looks at a tape. Assumes nothing.
 use Prim.Native.Nat.{ℕ, zero, suc, _-_, _<_, _≤_}
 use native.Mathlib.Nat.{le-refl}
@@ -47,11 +47,15 @@ pub record Exact {W : Type 0} (K : Waits W) (C : TreeCall) (R : TreeRooms W) (r 
 abbrev pub DrawsUsed : Type 1
 DrawsUsed = (W : Type 0) (K : Waits W) (C : TreeCall) (R : TreeRooms W) (r : Report) → fitTree K C R .answer ≡ TreeAnswer.Grown r → Exact K C R r
 
+-- a bad draw of the one tree, as it is told
+abbrev pub Tells7 : {R : Type 0} → Outcome Told R → Type 0
+Tells7 y = (y .answer .number ≡ 7) × (y .answer .tree ≡ 0)
+
 -- x is what a call left that told the report r, y what the call left with its tapes cut to what r says was used, or with either one shorter
 pub record CutExact {W : Type 0} (K : Waits W) (C : TreeCall) (R : TreeRooms W) (x : Outcome Told (TreeRooms W)) (r : Report) : Type 0 where
   pub same : (y : Outcome Told (TreeRooms W)) → y ≡ told treeTold (fitTree K (cutTo (r .words) (r .thresholds) C) R) → y ≡ x
-  pub wordLess : 0 < r .words → (y : Outcome Told (TreeRooms W)) → y ≡ told treeTold (fitTree K (cutTo (r .words - 1) (r .thresholds) C) R) → y .answer .number ≡ 7
-  pub thresholdLess : 0 < r .thresholds → (y : Outcome Told (TreeRooms W)) → y ≡ told treeTold (fitTree K (cutTo (r .words) (r .thresholds - 1) C) R) → y .answer .number ≡ 7
+  pub wordLess : 0 < r .words → (y : Outcome Told (TreeRooms W)) → y ≡ told treeTold (fitTree K (cutTo (r .words - 1) (r .thresholds) C) R) → Tells7 y
+  pub thresholdLess : 0 < r .thresholds → (y : Outcome Told (TreeRooms W)) → y ≡ told treeTold (fitTree K (cutTo (r .words) (r .thresholds - 1) C) R) → Tells7 y
 
 -- of a call that told no refusal
 abbrev pub CallsExact : Type 1
@@ -171,15 +175,15 @@ calls-exact W K C R x met none =
     subst (λ (z : Outcome Told (TreeRooms W)). CutExact K C R z (z .answer .report)) (sym met)
     (record {
       same = λ y m. m ∙ ap (told treeTold) (d .cut _ _ (le-refl _) (le-refl _));
-      wordLess = λ l y m. number (m ∙ ap (told treeTold) (d .fewerWords (r .words - 1) (r .thresholds) (omega arith) .1));
-      thresholdLess = λ l y m. number (m ∙ ap (told treeTold) (d .fewerThresholds (r .words) (r .thresholds - 1) (omega arith) .1));
+      wordLess = λ l y m. seven (m ∙ ap (told treeTold) (d .fewerWords (r .words - 1) (r .thresholds) (omega arith) .1));
+      thresholdLess = λ l y m. seven (m ∙ ap (told treeTold) (d .fewerThresholds (r .words) (r .thresholds - 1) (omega arith) .1));
     })
   where
-    number : {y z : Outcome Told (TreeRooms W)} → y ≡ z → y .answer .number ≡ z .answer .number
-    number e = ap (λ (o : Outcome Told (TreeRooms W)). o .answer .number) e
+    seven : {y z : Outcome Told (TreeRooms W)} → y ≡ z → (y .answer .number ≡ z .answer .number) × (y .answer .tree ≡ z .answer .tree)
+    seven e = ((λ i. e i .answer .number), (λ i. e i .answer .tree))
 
     r : Report
     r = treeTold (fitTree K C R .answer) .report
 
     d : Exact K C R r
-    d = draws-used W K C R r (told-grown K R (firstFailed (treeTests K C R)) (grownTree C) (number (sym met) ∙ none))
+    d = draws-used W K C R r (told-grown K R (firstFailed (treeTests K C R)) (grownTree C) ((λ i. sym met i .answer .number) ∙ none))

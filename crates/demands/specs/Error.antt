@@ -1,5 +1,5 @@
--- What an out-of-bag error can be. It is never below 0: it is a sum of squares over a number of rows. And where each row's mean is its target, or the row has none,
--- it is 0. Assumes nothing.
+-- What an out-of-bag error can be. It is never below 0: it is a sum of squares over a number of rows. And where each row's mean is its target, a finite
+-- one, or the row has none, it is 0. Assumes nothing.
 use Prim.Native.Nat.{ℕ, zero, suc, _<_, suc-le-suc}
 use native.Mathlib.Nat.{zero-lt-suc}
 use native.Mathlib.Omega.{arith}

@@ -1,6 +1,6 @@
--- What importances must be. Every tree of a forest has the same say: two forests of as many trees, of which each two have the same normalised importances when they are lent
--- alone, have the same importances, however large the scores of the one and small those of the other. No importance stands on the other side of 0 than the scores of its feature:
--- added, they are divided by what is above 0 or by nothing. And a tree without a split gives every feature 0, by any scale. Assumes nothing.
+-- What importances must be. No tree of a forest has more say for larger scores: two forests of as many trees, of which each two have the same normalised importances
+-- when they are lent alone, have the same importances, however large the scores of the one and small those of the other. No importance of a tree stands on the other
+-- side of 0 than the scores of its feature: added, they are divided by what is above 0 or by nothing. And a tree without a split gives every feature 0, by any scale. Assumes nothing.
 use Prim.Native.Nat.{ℕ, zero, suc, _<_, min}
 use native.Mathlib.Nat.{zero-add}
 use native.Mathlib.Omega.{arith}

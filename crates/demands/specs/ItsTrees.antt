@@ -1,7 +1,7 @@
 -- A forest is its trees. Tree t of a forest fit that answers is the tree that the fit of one tree gives for the same data, settings and weights, t's own counts and
--- t's own parts of both tapes, in whatever rooms: its nodes entry by entry, and all six reports. No check but that of the room refuses that fit, and the forest's own
--- rooms are enough for it. So trees can be grown some at a time: of two forests that have a tree with the same counts and draws, both have the same tree. It holds
--- because nothing is handed on from one tree to the next. Assumes nothing.
+-- t's own parts of both tapes, in any rooms that are not too small: its nodes entry by entry, and all six reports. No check but that of the room refuses that fit,
+-- and the forest's own rooms are enough for it. So trees can be grown some at a time: two forests over the same data, settings and weights that have a tree with the
+-- same counts and draws have the same tree. It holds because nothing is handed on from one tree to the next. Assumes nothing.
 use Prim.Native.Nat.{ℕ, suc, _-_, _*_, _<_, _≤_}
 use native.Mathlib.Nat.{zero-add, one-mul, suc-mul, le-trans}
 use native.Mathlib.Omega.{arith}

@@ -2,6 +2,7 @@
 
 -- demand 1: refusals and rooms
 pub mod Refusals
+pub mod Told
 pub mod Rooms
 -- demand 3: rows that a tree leaves out
 pub mod LeftOut

@@ -64,6 +64,11 @@ NoLimit =
     → ((C : TreeCall) (R : TreeRooms W) → fitTree K (treeUnder Unlimited C) R ≡ fitTree K (treeUnder (AtMost 65535) C) R)
     × ((C : ForestCall) (R : ForestRooms W) → fitForest K (forestUnder Unlimited C) R ≡ fitForest K (forestUnder (AtMost 65535) C) R)
 
+-- what a limit comes to
+abbrev pub most : Depth → ℕ
+most Unlimited = 65535
+most (AtMost d) = d
+
 -- one node at depth 0, or a split
 abbrev pub OneOrSplit : ℕ → ℕ → Type 0
 OneOrSplit nodes depth = ((nodes ≡ 1) × (depth ≡ 0)) ⊎ ((3 ≤ nodes) × (2 ≤ depth))
@@ -75,13 +80,13 @@ pub record Within (limit : ℕ) (r : Report) : Type 0 where
 
 abbrev pub WithinLimit : Type 1
 WithinLimit =
-    (W : Type 0) (K : Waits W) (C : TreeCall) (R : TreeRooms W) (r : Report) → fitTree K C R .answer ≡ TreeAnswer.Grown r → Within (limitOf (C .settings .depth)) r
+    (W : Type 0) (K : Waits W) (C : TreeCall) (R : TreeRooms W) (r : Report) → fitTree K C R .answer ≡ TreeAnswer.Grown r → Within (most (C .settings .depth)) r
 
 -- the root has level 1, so that a limit of 1 is met by a tree of one node
 abbrev pub LimitUnmet : Type 1
 LimitUnmet =
     (W : Type 0) (K : Waits W) (C : TreeCall) (R : TreeRooms W) (r : Report) (d : Depth) → fitTree K C R .answer ≡ TreeAnswer.Grown r
-    → max 1 (r .depth) < limitOf (C .settings .depth) → max 1 (r .depth) < limitOf d → fitTree K (treeUnder d C) R ≡ fitTree K C R
+    → max 1 (r .depth) < most (C .settings .depth) → max 1 (r .depth) < most d → fitTree K (treeUnder d C) R ≡ fitTree K C R
 
 -- one leaf of value 0, and nothing searched or drawn
 abbrev pub oneLeaf : {W : Type 0} → Waits W → TreeRooms W → Outcome TreeAnswer (TreeRooms W)
@@ -141,12 +146,18 @@ fit-within F D =
     then-then (fromRoot (F .params) (search (tape (F .params .features)) (F .params)) (root F D) _) _ _ _ (growth-deep (F .params) _ (root F D) _)
     (λ s h. record { depth = h .1; nodes = h .2 })
 
+limit-most : (d : Depth) → limitOf d ≡ most d
+unfolding limitOf
+limit-most Unlimited = refl
+limit-most (AtMost d) = refl
+
 pub within-limit : WithinLimit
 unfolding frameOf paramsOf
 within-limit W K C R r h =
     let a : TreeAnswered K C R r = tree-answered K C R r h in
-    subst (Within (limitOf (C .settings .depth))) (a .reported)
-    (then-of (λ t. Within (limitOf (C .settings .depth)) (t .report)) (fit (frameOf C) (C .given .inputs)) (a .tree) (a .grew) (fit-within (frameOf C) (C .given .inputs)))
+    subst (λ n. Within n r) (limit-most (C .settings .depth))
+    (subst (Within (limitOf (C .settings .depth))) (a .reported)
+    (then-of (λ t. Within (limitOf (C .settings .depth)) (t .report)) (fit (frameOf C) (C .given .inputs)) (a .tree) (a .grew) (fit-within (frameOf C) (C .given .inputs))))
 
 -- ---- a limit that is not met
 
@@ -180,8 +191,11 @@ limit-unmet W K C R r d h u u′ =
     let a : TreeAnswered K C R r = tree-answered K C R r h in
     let same : grownTree (treeUnder d C) ≡ ok (a .tree) =
     then-of (λ t. t .report .depth ≤ max 1 (r .depth) → grownTree (treeUnder d C) ≡ ok t) (grownTree C) (a .tree) (a .grew)
-    (fit-unmet (frameOf C) (C .given .inputs) (limitOf d) (max 1 (r .depth)) (omega arith) u u′) (omega (arith, ap (λ (x : Report). x .depth) (a .reported))) in
+    (fit-unmet (frameOf C) (C .given .inputs) (limitOf d) (max 1 (r .depth)) (omega arith) (below (C .settings .depth) u) (below d u′)) (omega (arith, ap (λ (x : Report). x .depth) (a .reported))) in
     λ i. treeEnds K (firstFailed (treeTests K C R)) ((same ∙ sym (a .grew)) i) R
+  where
+    below : (d : Depth) → max 1 (r .depth) < most d → max 1 (r .depth) < limitOf d
+    below d l = subst (λ n. max 1 (r .depth) < n) (sym (limit-most d)) l
 
 -- ---- nothing kept
 

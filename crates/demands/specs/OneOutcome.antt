@@ -115,7 +115,7 @@ Back (read-node features c k) = NodeTold
 abbrev shapeOf : ℕ → ℕ → Shape
 shapeOf rows features = record { rows = rows; features = features }
 
--- what its contract says of it
+-- what its contract says of it, written again: that the two are one is read, not proved
 abbrev pub Promised : (c : Exported) → Back c → Type 0
 Promised (fit-tree rows features s given ws ts R) b =
     told treeNumbers b ≡ told treeTold (fitTree stack (treeCall (shapeOf rows features) (treeSettingsOf s) (s .tried) given ws ts) R)

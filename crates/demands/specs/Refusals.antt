@@ -1,13 +1,13 @@
 -- Demand 1: in which order each call makes its checks, and what a refusal leaves. A fit that is refused by 1 to 6 leaves every lent room as it was, and tells the first
 -- test that failed. One that meets a bad draw leaves every lent slice as long as it was, with 0 at each place. Each reader that is refused leaves its result room as it was, and
--- tells the first test that failed. Assumes nothing.
+-- tells the first test that failed; a reader or a check that does not refuse has passed all its tests. Assumes nothing.
 use Prim.Native.Nat.{ℕ, zero, suc, _<_, _≤_}
 use native.Mathlib.Omega.{arith}
-use mathlib.Core.Path.{_≡_, refl, subst}
+use mathlib.Core.Path.{_≡_, refl}
 use mathlib.Core.Bool.{Bool, true, false, cond}
 use mathlib.Core.List.{List, [], _∷_, map}
 use lib.ListN.{length, getD, length-map}
-use lib.Dec.{lit≤}
+use lib.Dec.{ltb}
 use lib.Ieee.{Float}
 use Rattle.rules.specs.declared.Shape.{Shape}
 use Rattle.rules.specs.declared.Scale.{Scale}
@@ -15,16 +15,18 @@ use Rattle.rules.specs.declared.Place.{Place}
 use Rattle.rules.specs.declared.TreeAnswer.{TreeAnswer}
 use Rattle.rules.specs.declared.ForestAnswer.{ForestAnswer}
 use Rattle.rules.specs.declared.Reply.{Reply}
+use Rattle.rules.specs.declared.ErrorReply.{ErrorReply}
+use Rattle.rules.specs.declared.NodeReply.{NodeReply}
 use Rattle.rules.specs.Words.{nought, filled}
-use Rattle.rules.specs.Lent.{Columns, Reports, Waits, Stack, stack, Work, TreeRooms, ForestRooms, Outcome, zeroColumns, zeroReports, zeroWork}
-use Rattle.rules.specs.Checks.{Test, firstFailed}
-use Rattle.rules.specs.Listing.{listingTests}
+use Rattle.rules.specs.Lent.{Columns, Reports, Waits, Stack, stack, Work, TreeRooms, ForestRooms, Outcome, shortest, entryAt, zeroColumns, zeroReports, zeroWork}
+use Rattle.rules.specs.Checks.{Test, firstFailed, replies}
+use Rattle.rules.specs.Listing.{listingTests, checkListings}
 use Rattle.rules.specs.Draws.{Out, bad, ok}
 use Rattle.rules.specs.Fit.{Tree, TreeCall, grownTree, treeTests, treeDone, treeEnds, fitTree}
-use Rattle.rules.specs.Table.{treeTableTests, ForestTable, forestTableTests}
+use Rattle.rules.specs.Table.{treeTableTests, checkTree, ForestTable, forestTableTests, checkForest, nodeOf, nodeRead, readNode}
 use Rattle.rules.specs.Reading.{reads, predictTests, predictTree, meanTests, forestMeans, treeImportanceTests, treeImportances, forestImportanceTests, forestImportances}
 use Rattle.rules.specs.Forest.{ForestCall, Forest, stopped, grownAll, grownForest, forestTests, forestDone, forestEnds, fitForest}
-use Rattle.rules.specs.OutOfBag.{outTests, outOfBagMeans, errorTests}
+use Rattle.rules.specs.OutOfBag.{outTests, outOfBagMeans, errs, errorTests, outOfBagError}
 use Rattle.laws.specs.Lists.{Every}
 
 -- ---- the statements
@@ -110,16 +112,30 @@ ForestUnrefused (ForestAnswer.Refused n) = ⊥
 ForestUnrefused (ForestAnswer.BadDraw d) = Unit {0}
 ForestUnrefused ForestAnswer.Grown = Unit {0}
 
--- so no answer is told as another: a refusal before growth has a number from 1 to 6, where 0 is an answer and 7 a bad draw
-abbrev pub ToldApart : Type 1
-ToldApart =
-    (W : Type 0) (K : Waits W)
-    → ((C : TreeCall) (R : TreeRooms W) (n : ℕ) → fitTree K C R .answer ≡ TreeAnswer.Refused n → (1 ≤ n) × (n ≤ 6))
-    × ((C : ForestCall) (R : ForestRooms W) (n : ℕ) → fitForest K C R .answer ≡ ForestAnswer.Refused n → (1 ≤ n) × (n ≤ 6))
+-- a call goes by these tests: it refuses by the first that fails, and only where one does
+abbrev pub By : List Test → Reply → Type 0
+By ts (Reply.Refused n) = (firstFailed ts ≡ n) × (1 ≤ n)
+By ts Reply.Done = firstFailed ts ≡ 0
 
--- what a reader of these tests that is lent `out` leaves where it refuses
+abbrev pub ErrorBy : List Test → ErrorReply → Type 0
+ErrorBy ts (ErrorReply.Refused n) = (firstFailed ts ≡ n) × (1 ≤ n)
+ErrorBy ts (ErrorReply.Error e) = firstFailed ts ≡ 0
+
+abbrev pub NodeBy : List Test → NodeReply → Type 0
+NodeBy ts (NodeReply.Refused n) = (firstFailed ts ≡ n) × (1 ≤ n)
+NodeBy ts NodeReply.Missing = firstFailed ts ≡ 0
+NodeBy ts (NodeReply.Read m) = firstFailed ts ≡ 0
+
+pub record CheckRefused : Type 0 where
+  pub listings : (S : Shape) (xs : List Float) (ls : List ℕ) → By (listingTests S xs ls) (checkListings S xs ls)
+  pub treeTable : (features : ℕ) (c : Columns) → By (treeTableTests features c) (checkTree features c)
+  pub forestTable : (features : ℕ) (T : ForestTable) → By (forestTableTests features T) (checkForest features T)
+  pub node : (features : ℕ) (c : Columns) (k : ℕ) → NodeBy (treeTableTests features c) (readNode features c k)
+  pub error : (rows : ℕ) (ys ms : List Float) → ErrorBy (errorTests rows ys ms) (outOfBagError rows ys ms)
+
+-- and one that is lent `out` leaves it as it was where it refuses
 abbrev pub Untouched : List Test → List Float → Outcome Reply (List Float) → Type 0
-Untouched ts out o = (n : ℕ) → o .answer ≡ Reply.Refused n → (o .rooms ≡ out) × (firstFailed ts ≡ n)
+Untouched ts out o = By ts (o .answer) × ((n : ℕ) → o .answer ≡ Reply.Refused n → o .rooms ≡ out)
 
 pub record ReaderRefused : Type 0 where
   pub predictions : (S : Shape) (xs : List Float) (c : Columns) (out : List Float) → Untouched (predictTests S xs c out) out (predictTree S xs c out)
@@ -229,24 +245,54 @@ forest-bad C R d h = go (firstFailed (forestTests stack C R)) (grownForest C) h
     go zero (grownAll ts) h = let z : _≡_ {A = ℕ} 0 1 = cc in absurd (omega arith)
     go (suc k) f h = let z : _≡_ {A = ℕ} 0 1 = cc in absurd (omega arith)
 
--- ---- a reader
+-- ---- a reader, and a check
+
+failed : (ts : List Test) (k : ℕ) → firstFailed ts ≡ suc k → By ts (Reply.Refused (suc k))
+failed ts k q = (q, omega arith)
+
+pub check-refused : CheckRefused
+unfolding checkListings checkTree checkForest readNode nodeRead outOfBagError errs replies
+check-refused =
+    record {
+      listings = λ S xs ls. plain (listingTests S xs ls) _ refl;
+      treeTable = λ features c. plain (treeTableTests features c) _ refl;
+      forestTable = λ features T. plain (forestTableTests features T) _ refl;
+      node = λ features c k. node (treeTableTests features c) _ refl c k;
+      error = λ rows ys ms. error (errorTests rows ys ms) _ refl _;
+    }
+  where
+    plain : (ts : List Test) (k : ℕ) → firstFailed ts ≡ k → By ts (replies k)
+    plain ts zero q = q
+    plain ts (suc k) q = failed ts k q
+
+    error : (ts : List Test) (k : ℕ) → firstFailed ts ≡ k → (e : Float) → ErrorBy ts (errs k e)
+    error ts zero q e = q
+    error ts (suc k) q e = (q, omega arith)
+
+    node : (ts : List Test) (n : ℕ) → firstFailed ts ≡ n → (c : Columns) (k : ℕ) → NodeBy ts (nodeRead n c k)
+    node ts (suc n) q c k = (q, omega arith)
+    node ts zero q c k = there (ltb k (shortest c))
+      where
+        there : (b : Bool) → NodeBy ts (cond b (NodeReply.Read (nodeOf (entryAt c k))) NodeReply.Missing)
+        there true = q
+        there false = q
 
 pub reader-refused : ReaderRefused
 unfolding predictTree forestMeans outOfBagMeans treeImportances forestImportances reads
 reader-refused =
     record {
-      predictions = λ S xs c out n h. go (firstFailed (predictTests S xs c out)) _ out n h;
-      means = λ S xs T out n h. go (firstFailed (meanTests S xs T out)) _ out n h;
-      outOfBag = λ S xs ks T out n h. go (firstFailed (outTests S xs ks T out)) _ out n h;
-      treeImportances = λ features by c out n h. go (firstFailed (treeImportanceTests features c out)) _ out n h;
-      forestImportances = λ features T out n h. go (firstFailed (forestImportanceTests features T out)) _ out n h;
+      predictions = λ S xs c out. go (predictTests S xs c out) _ refl _ out;
+      means = λ S xs T out. go (meanTests S xs T out) _ refl _ out;
+      outOfBag = λ S xs ks T out. go (outTests S xs ks T out) _ refl _ out;
+      treeImportances = λ features by c out. go (treeImportanceTests features c out) _ refl _ out;
+      forestImportances = λ features T out. go (forestImportanceTests features T out) _ refl _ out;
     }
   where
-    go : (k : ℕ) (new old : List Float) (n : ℕ) → reads k new old .answer ≡ Reply.Refused n → (reads k new old .rooms ≡ old) × (k ≡ n)
-    go zero new old n h = let z : _≡_ {A = ℕ} 0 1 = cc in absurd (omega arith)
-    go (suc k) new old n h = (refl, cc)
+    go : (ts : List Test) (k : ℕ) → firstFailed ts ≡ k → (new old : List Float) → Untouched ts old (reads k new old)
+    go ts zero q new old = (q, (λ n h. let z : _≡_ {A = ℕ} 0 1 = cc in absurd (omega arith)))
+    go ts (suc k) q new old = (failed ts k q, (λ n h. refl))
 
--- ---- told apart
+-- ---- which test can be the first to fail
 
 -- the first test to fail has at most the number that all those that fail have at most
 pub failed-within : (top : ℕ) (ts : List Test) → Every (λ (t : Test). t .passes ≡ false → t .number ≤ top) ts → firstFailed ts ≤ top
@@ -257,34 +303,6 @@ failed-within top (t ∷ ts) e = go (t .passes) (e .0) (failed-within top ts (e 
     go : (b : Bool) → (b ≡ false → t .number ≤ top) → firstFailed ts ≤ top → cond b (firstFailed ts) (t .number) ≤ top
     go true h r = r
     go false h r = h refl
-
--- a refusal's number is not 0
-some-tree : {W : Type 0} (K : Waits W) (R : TreeRooms W) (n k : ℕ) (o : Out Tree) → treeEnds K k o R .answer ≡ TreeAnswer.Refused n → 1 ≤ k
-unfolding treeEnds treeDone
-some-tree K R n zero (bad s) h = let z : _≡_ {A = ℕ} 0 1 = cc in absurd (omega arith)
-some-tree K R n zero (ok t) h = let z : _≡_ {A = ℕ} 0 1 = cc in absurd (omega arith)
-some-tree K R n (suc k) o h = omega arith
-
-some-forest : {W : Type 0} (K : Waits W) (R : ForestRooms W) (n k : ℕ) (f : Forest) → forestEnds K k f R .answer ≡ ForestAnswer.Refused n → 1 ≤ k
-unfolding forestEnds forestDone
-some-forest K R n zero (stopped p) h = let z : _≡_ {A = ℕ} 0 1 = cc in absurd (omega arith)
-some-forest K R n zero (grownAll ts) h = let z : _≡_ {A = ℕ} 0 1 = cc in absurd (omega arith)
-some-forest K R n (suc k) f h = omega arith
-
-pub told-apart : ToldApart
-unfolding fitTree fitForest treeTests forestTests
-told-apart W K = (
-  (λ C R n h.
-      let q = tree-refused W K C R n h .1 in (
-        subst (λ m. 1 ≤ m) q (some-tree K R n (firstFailed (treeTests K C R)) (grownTree C) h),
-        subst (λ m. m ≤ 6) q (failed-within 6 (treeTests K C R) (λ f. lit≤ tt, (λ f. lit≤ tt, (λ f. lit≤ tt, (λ f. lit≤ tt, (λ f. lit≤ tt, (λ f. lit≤ tt, tt))))))),
-      )),
-  (λ C R n h.
-      let q = forest-refused W K C R n h .1 in (
-        subst (λ m. 1 ≤ m) q (some-forest K R n (firstFailed (forestTests K C R)) (grownForest C) h),
-        subst (λ m. m ≤ 6) q (failed-within 6 (forestTests K C R) (λ f. lit≤ tt, (λ f. lit≤ tt, (λ f. lit≤ tt, (λ f. lit≤ tt, (λ f. lit≤ tt, (λ f. lit≤ tt, tt))))))),
-      )),
-)
 
 -- ---- where a fit is not refused, no test fails
 
