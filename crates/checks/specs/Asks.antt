@@ -1,36 +1,9 @@
 -- What the checks ask of their callers.
-use Prim.Native.Nat.{ℕ, _*_, _<_, _≤_}
+use Prim.Native.Nat.{ℕ, _≤_}
 use mathlib.Core.Path.{_≡_}
 use mathlib.Core.Bool.{true}
-use mathlib.Core.List.{List}
-use lib.ListN.{length}
-use lib.Ieee.{Float}
 use Rattle.rules.specs.declared.Shape.{Shape}
 use Rattle.rules.specs.Checks.{shapeIn}
-use Rattle.lemmas.specs.Lists.{Every}
-
--- a cell of a table of feature values
-pub record Inside (rows features i j : ℕ) (xs : List Float) : Type 0 where
-  pub long : length xs ≡ rows * features
-  pub row : i < rows
-  pub known : j < features
-
--- a list of rows, to be walked along feature j
-pub record Walkable (rows features j : ℕ) (xs : List Float) (l : List ℕ) : Type 0 where
-  pub long : length xs ≡ rows * features
-  pub below : Every (λ k. k < rows) l
-  pub known : j < features
-
--- values and listings of a shape
-pub record Laid (S : Shape) (xs : List Float) (ls : List ℕ) : Type 0 where
-  pub few : S .rows ≤ 65535
-  pub valuesLong : length xs ≡ S .rows * S .features
-  pub listingsLong : length ls ≡ S .features * S .rows
-
--- feature j's listing among them
-pub record Listed (S : Shape) (j : ℕ) (xs : List Float) (ls : List ℕ) : Type 0 where
-  pub laid : Laid S xs ls
-  pub known : j < S .features
 
 -- a shape and trees in range
 pub record Ranges (S : Shape) (trees : ℕ) : Type 0 where

@@ -1,11 +1,8 @@
--- laws of loops that stop at the first entry that fails, and of chains of tests
-pub mod Scans
-pub mod Tests
--- where things lie
-pub mod Cells
--- what is lent
+-- what is lent, by the lengths that the checks know of it
 pub mod Lent
+-- node room by kept rows
 pub mod Rooms
+-- what passed checks say to the next, and a fit's tests by what its checks are handed
 pub mod Verdicts
 -- what the checks ask of their callers
 pub mod Asks

@@ -19,9 +19,9 @@ use Rattle.lemmas.specs.Lists.{every-all, total-same, total-map}
 use Rattle.checks.specs.declared.Lengths.{Lengths}
 use Rattle.checks.specs.declared.ReportLengths.{ReportLengths}
 use Rattle.checks.specs.Lent.{WorkHas, ReportsHave, Counted, Grown}
-use Rattle.checks.specs.Asks.{Laid}
+use Rattle.listings.specs.Asks.{Laid}
 use Rattle.checks.specs.Rooms.{roomIn, roomOf, roomsIn, room-is}
-use Rattle.checks.specs.Tests.{and-both, rows-low, some-weights}
+use Rattle.lemmas.specs.Tests.{and-both, rows-low, some-weights}
 
 -- ---- what the lengths say
 

@@ -119,7 +119,7 @@ pub fn forest_verdict(
     if !forest_counts(weights, counts) {
         return 4;
     }
-    if !crate::listing::listings_good(shape, values, listings) {
+    if !listings::listings_good(shape, values, listings) {
         return 5;
     }
     if !crate::rooms::forest_rooms(shape, trees, weights, counts, room, starts, reports) {

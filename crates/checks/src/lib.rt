@@ -79,12 +79,12 @@ pub fn shape_in(shape: Shape) -> bool
 
 // ---- lengths
 
-pub fn values_long(shape: Shape, x: &[f64]) -> bool
+pub fn values_long(shape: Shape, values: &[f64]) -> bool
     requires { ⌜ shapeIn shape ≡ true ⌝ }
-    ensures { λ r. ⌜ r ≡ valuesLong shape (now (x .entry)) ⌝ }
+    ensures { λ r. ⌜ r ≡ valuesLong shape (now (values .entry)) ⌝ }
 {
     let cells = shape.rows * shape.features;
-    x.len() == cells
+    values.len() == cells
 }
 
 pub fn listings_long(shape: Shape, listings: &[u32]) -> bool

@@ -32,7 +32,7 @@ pub fn tree_verdict(
     if !crate::inputs::counts_low(counts) {
         return 4;
     }
-    if !crate::listing::listings_good(shape, values, listings) {
+    if !listings::listings_good(shape, values, listings) {
         return 5;
     }
     if !crate::rooms::tree_rooms(shape, weights, counts, room) {

@@ -18,7 +18,7 @@ use Rattle.rules.specs.Table.{goodTree, treeIn, ForestTable, startsGood, treesO
 use Rattle.rules.specs.Reading.{reads, scoresOf, normalised, scaled, addImportances, treeImportanceTests, forestImportanceTests, treeImportances, forestImportances}
 use Rattle.lemmas.specs.Lists.{is-true}
 use Rattle.lemmas.specs.Passed.{past, and2}
-use Rattle.checks.specs.Tests.{within-top}
+use Rattle.lemmas.specs.Tests.{within-top}
 use Rattle.importances.specs.Lists.{dividedBy, filled-is}
 use Rattle.importances.specs.Scores.{TreesLie}
 

@@ -1,6 +1,12 @@
 pub mod Lists
 pub mod Once
 pub mod Outs
+-- loops over the entries of a list, and over the numbers below n
+pub mod Scans
+-- chains of tests, how a call ends by its verdict, and what a shape in range says
+pub mod Tests
+-- where a cell lies among the values, and a listing among the listings
+pub mod Cells
 pub mod WaitingOrder
 pub mod Lifted
 pub mod Unmet

@@ -1,13 +1,12 @@
 -- What a fit knows once its checks have passed: lengths, ranges, and that its listings are in order. Assumes nothing.
 use Prim.Native.Nat.{ℕ, suc, _+_, _*_, _<_, _≤_}
-use native.Mathlib.Nat.{suc-mul, mul-le-mul-right, zero-add, le-trans}
+use native.Mathlib.Nat.{zero-add, le-trans}
 use native.Mathlib.Decide.{ℕ-discrete}
 use native.Mathlib.Omega.{arith}
 use mathlib.Core.Path.{_≡_, refl, sym, ap, _∙_, subst}
 use mathlib.Core.Bool.{Bool, true, false, not, _&&_, _||_}
 use mathlib.Core.List.{List, [], _∷_}
-use lib.ListN.{length, getD, drop}
-use lib.Seq.{getD-take, getD-drop}
+use lib.ListN.{length, getD}
 use lib.Dec.{T, leb, eqb, leb→le, eqb→eq}
 use lib.Ieee.{Float, nan, binary64, fits, lt, le}
 use lib.Ieee.Scale.{finite}
@@ -22,6 +21,7 @@ use Rattle.rules.specs.Search.{at}
 use Rattle.rules.specs.Fit.{listing, elementIn, element, paramsOf, TreeCall, oneTreeOf, treeTests}
 use Rattle.rules.specs.Forest.{ForestCall, oneTreeAt, eachTree, tapesGood, roomsGood, forestTests}
 use Rattle.lemmas.specs.Lists.{or-other, Every, each, every-all, every-at, every-or, every-take, every-drop, every-from, same-default, Ordered, ordered-along, ordered-at}
+use Rattle.lemmas.specs.Cells.{cell-lies, cell-within}
 use Rattle.lemmas.specs.Once.{once-below}
 use Rattle.lemmas.specs.Values.{Value, not-falls}
 use Rattle.lemmas.specs.Root.{Before, Listed}
@@ -201,21 +201,11 @@ module _ (S : Shape) (trees : ℕ) (G : Given) (p : Passed S trees G) (F : OneTr
   unfolding at element elementIn cell
   cell-same i j = ap (λ n. getD (valuesAt n (G .inputs .values) i) j nan) (f .featuresSame)
 
-  -- where it lies
-  cell-at : (i j : ℕ) → j < S .features → cell (S .features) (G .inputs .values) j i ≡ getD (G .inputs .values) (i * S .features + j) nan
-  unfolding cell valuesAt
-  cell-at i j h = getD-take (S .features) (drop (i * S .features) (G .inputs .values)) j nan h ∙ getD-drop (i * S .features) (G .inputs .values) j nan
-
   inside : (i j : ℕ) → i < S .rows → j < S .features → i * S .features + j < length (G .inputs .values)
-  inside i j h k =
-      subst (λ n. i * S .features + j < n) (sym (p .valuesLong))
-      (step (i * S .features) (S .rows * S .features) j (S .features) k (subst (λ n. n ≤ S .rows * S .features) (suc-mul i (S .features)) (mul-le-mul-right (S .features) h)))
-    where
-      step : (a b j k : ℕ) → j < k → a + k ≤ b → a + j < b
-      step a b j k x y = omega arith
+  inside i j h k = subst (λ n. i * S .features + j < n) (sym (p .valuesLong)) (cell-within i (S .rows) (S .features) j h k)
 
   cell-finite : (i j : ℕ) → i < S .rows → j < S .features → T (finite (cell (S .features) (G .inputs .values) j i))
-  cell-finite i j h k = subst (λ x. T (finite x)) (sym (cell-at i j k)) (every-at _ (G .inputs .values) nan (i * S .features + j) (p .valuesFinite) (inside i j h k))
+  cell-finite i j h k = subst (λ x. T (finite x)) (sym (cell-lies (S .features) (G .inputs .values) i j k)) (every-at _ (G .inputs .values) nan (i * S .features + j) (p .valuesFinite) (inside i j h k))
 
   rising : (j : ℕ) → j < S .features → (l : List ℕ) → Every (λ i. i < S .rows) l → T (neverFalls (cell (S .features) (G .inputs .values) j) l)
       → Ordered (Before F (G .inputs) j) l
@@ -249,7 +239,7 @@ module _ (S : Shape) (trees : ℕ) (G : Given) (p : Passed S trees G) (F : OneTr
             (rising j (wide j h) (listingAt (S .rows) (G .inputs .listings) j) (once-below (S .rows) _ (good j (wide j h) .0)) (good j (wide j h) .1));
         values = λ i j h k.
             subst Value (sym (cell-same i j)) (
-              subst (λ x. T (fits binary64 x)) (sym (cell-at i j (wide j k))) (every-or _ (G .inputs .values) nan (i * S .features + j) held tt),
+              subst (λ x. T (fits binary64 x)) (sym (cell-lies (S .features) (G .inputs .values) i j (wide j k))) (every-or _ (G .inputs .values) nan (i * S .features + j) held tt),
               cell-finite i j (subst (λ n. i < n) (f .rowsSame) h) (wide j k),
             );
       }

@@ -16,7 +16,7 @@ use Rattle.rules.specs.Checks.{firstFailed, rowsIn}
 use Rattle.rules.specs.OutOfBag.{squareOff, addSquares, errs, errorTests}
 use Rattle.lemmas.specs.Lists.{is-true}
 use Rattle.lemmas.specs.Passed.{past, and2}
-use Rattle.checks.specs.Tests.{within-top}
+use Rattle.lemmas.specs.Tests.{within-top}
 
 -- only a NaN differs from itself
 eq-self : (x : Float) → eq x x ≡ not (isNan x)

@@ -17,7 +17,7 @@ use Rattle.rules.specs.OutOfBag.{outTests, outOfBagMean}
 use Rattle.lemmas.specs.Lists.{is-true}
 use Rattle.lemmas.specs.Passed.{past, and2}
 use Rattle.checks.specs.Asks.{Ranges}
-use Rattle.checks.specs.Tests.{and-both, within-top, rows-low}
+use Rattle.lemmas.specs.Tests.{and-both, within-top, rows-low}
 use Rattle.means.specs.Sums.{ForestReadable, out-all}
 
 abbrev pub tableTests : Shape → List Float → ForestTable → List Float → List Test

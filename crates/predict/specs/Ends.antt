@@ -15,7 +15,7 @@ use Rattle.rules.specs.Table.{goodTree, treeIn}
 use Rattle.rules.specs.Reading.{reads, predictTests}
 use Rattle.lemmas.specs.Lists.{is-true}
 use Rattle.lemmas.specs.Passed.{past}
-use Rattle.checks.specs.Tests.{rows-low}
+use Rattle.lemmas.specs.Tests.{rows-low}
 use Rattle.predict.specs.Walks.{Readable}
 
 module _ (n : ℕ) (new old : List Float) where

@@ -14,7 +14,7 @@ use Rattle.rules.specs.Table.{isLeaf, goodFrom, goodTree}
 use Rattle.rules.specs.Reading.{noEntry, onto, walked, leafValue}
 use Rattle.lemmas.specs.Lists.{getD-from}
 use Rattle.lemmas.specs.Tables.{Onward, node-good, leaf-stays}
-use Rattle.checks.specs.Cells.{stretch-within}
+use Rattle.lemmas.specs.Cells.{stretch-within}
 use Rattle.tables.specs.Laws.{entries-long}
 
 -- a good tree of n nodes from place a on

@@ -1,7 +1,7 @@
 -- `checks::listings_long` meets its contract: in a shape in range, features times rows fits. Assumes nothing.
 use borrow.Author.Needs.{needs}
 use native.Mathlib.Omega.{arith}
-use Rattle.checks.specs.Tests.{entries-low}
+use Rattle.lemmas.specs.Tests.{entries-low}
 use Rattle.checks.proofs.listings_long.Statement.{statement}
 use Rattle.checks.proofs.listings_long.Tie as tie
 

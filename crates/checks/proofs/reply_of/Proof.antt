@@ -1,5 +1,5 @@
 -- `checks::reply_of` meets its contract, case by case. Assumes nothing.
-use Rattle.checks.specs.Tests.{replies-done, replies-refused}
+use Rattle.lemmas.specs.Tests.{replies-done, replies-refused}
 use Rattle.checks.proofs.reply_of.Statement.{statement}
 use Rattle.checks.proofs.reply_of.Tie as tie
 

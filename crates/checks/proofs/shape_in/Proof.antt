@@ -1,7 +1,7 @@
 -- `checks::shape_in` meets its contract: rows first, then features. Assumes nothing.
 use borrow.Author.Needs.{needs}
 use mathlib.Core.Path.{sym, _∙_}
-use Rattle.checks.specs.Tests.{and-on, and-off}
+use Rattle.lemmas.specs.Tests.{and-on, and-off}
 use Rattle.checks.proofs.shape_in.Statement.{statement}
 use Rattle.checks.proofs.shape_in.Tie as tie
 

@@ -1,7 +1,7 @@
 -- `checks::values_long` meets its contract: in a shape in range, rows times features fits. Assumes nothing.
 use borrow.Author.Needs.{needs}
 use native.Mathlib.Omega.{arith}
-use Rattle.checks.specs.Tests.{cells-low}
+use Rattle.lemmas.specs.Tests.{cells-low}
 use Rattle.checks.proofs.values_long.Statement.{statement}
 use Rattle.checks.proofs.values_long.Tie as tie
 

@@ -10,7 +10,7 @@ use denote.Ref.{now}
 use lib.ListN.{length}
 use Rattle.rules.specs.Checks.{featuresIn, treesIn}
 use Rattle.rules.specs.Reading.{forestImportanceTests}
-use Rattle.checks.specs.Tests.{and-on, and-off, passes, fails, none-failed, within-top}
+use Rattle.lemmas.specs.Tests.{and-on, and-off, passes, fails, none-failed, within-top}
 use Rattle.importances.proofs.forest_verdict.Statement.{statement}
 use Rattle.importances.proofs.forest_verdict.Tie as tie
 

@@ -1,7 +1,7 @@
 -- `importances::is_leaf` meets its contract: the true child first. Assumes nothing.
 use borrow.Author.Tests.{eq-eqb, ne-eqb}
 use mathlib.Core.Path.{refl}
-use Rattle.checks.specs.Tests.{and-on, and-off}
+use Rattle.lemmas.specs.Tests.{and-on, and-off}
 use Rattle.importances.proofs.is_leaf.Statement.{statement}
 use Rattle.importances.proofs.is_leaf.Tie as tie
 

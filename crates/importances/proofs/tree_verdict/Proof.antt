@@ -9,7 +9,7 @@ use Rattle.rules.specs.Lent.{Columns, entriesAt, columnsOf}
 use Rattle.rules.specs.Checks.{featuresIn}
 use Rattle.rules.specs.Table.{goodTree, treeIn}
 use Rattle.rules.specs.Reading.{treeImportanceTests}
-use Rattle.checks.specs.Tests.{passes, fails, none-failed}
+use Rattle.lemmas.specs.Tests.{passes, fails, none-failed}
 use Rattle.importances.proofs.tree_verdict.Statement.{statement}
 use Rattle.importances.proofs.tree_verdict.Tie as tie
 

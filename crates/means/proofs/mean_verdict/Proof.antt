@@ -5,7 +5,7 @@ use mathlib.Core.Path.{_≡_, sym, _∙_}
 use mathlib.Core.Bool.{true, _&&_}
 use Rattle.rules.specs.Checks.{shapeIn, treesIn}
 use Rattle.rules.specs.Reading.{meanTests}
-use Rattle.checks.specs.Tests.{passes, fails}
+use Rattle.lemmas.specs.Tests.{passes, fails}
 use Rattle.means.specs.Means.{ranges}
 use Rattle.means.proofs.mean_verdict.Statement.{statement}
 use Rattle.means.proofs.mean_verdict.Tie as tie

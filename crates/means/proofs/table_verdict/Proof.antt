@@ -9,7 +9,7 @@ use lib.ListN.{length}
 use lib.Dec.{leb, eqb}
 use lib.Ieee.{Float}
 use Rattle.rules.specs.Checks.{valuesLong}
-use Rattle.checks.specs.Tests.{and-both, passes, fails, none-failed}
+use Rattle.lemmas.specs.Tests.{and-both, passes, fails, none-failed}
 use Rattle.means.proofs.table_verdict.Statement.{statement}
 use Rattle.means.proofs.table_verdict.Tie as tie
 

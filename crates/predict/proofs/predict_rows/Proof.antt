@@ -5,7 +5,6 @@ use Prim.Native.Nat.{ℕ, _-_, _<_, _≤_}
 use denote.Ref.{now}
 use lib.ListN.{length}
 use lib.Ieee.{Float}
-use Rattle.rules.specs.Threshold.{thresholdBetween}
 use Rattle.rules.specs.Lent.{Columns, entriesAt, columnsOf}
 use Rattle.predict.specs.Walks.{leafAt, walkable}
 use Rattle.predict.specs.Rows.{Written, row-first, row-next, row-last, rewritten-all}

@@ -9,7 +9,7 @@ use Rattle.rules.specs.Lent.{Columns, entriesAt, columnsOf}
 use Rattle.rules.specs.Checks.{shapeIn, valuesLong}
 use Rattle.rules.specs.Table.{goodTree, treeIn}
 use Rattle.rules.specs.Reading.{predictTests}
-use Rattle.checks.specs.Tests.{passes, fails, none-failed}
+use Rattle.lemmas.specs.Tests.{passes, fails, none-failed}
 use Rattle.predict.proofs.predict_verdict.Statement.{statement}
 use Rattle.predict.proofs.predict_verdict.Tie as tie
 

@@ -7,10 +7,9 @@ use Prim.Native.Nat.{ℕ, suc, _+_, _-_, _*_, _<_}
 use denote.Ref.{now}
 use lib.ListN.{length, getD}
 use lib.Ieee.{nan, le}
-use Rattle.rules.specs.Threshold.{thresholdBetween}
 use Rattle.rules.specs.Lent.{Columns, cell, valuesAt, shortest, entryAt, entriesAt, columnsOf}
 use Rattle.lemmas.specs.Tables.{Onward}
-use Rattle.checks.specs.Cells.{cell-lies}
+use Rattle.lemmas.specs.Cells.{cell-lies}
 use Rattle.predict.specs.Walks.{Reached, onward, walk-starts, walk-stops, walk-goes, sent, sent-up}
 use Rattle.predict.proofs.row_value.Statement.{statement}
 use Rattle.predict.proofs.row_value.Tie as tie

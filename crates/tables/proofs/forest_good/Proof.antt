@@ -4,7 +4,7 @@ use mathlib.Core.Path.{sym, _∙_}
 use denote.Ref.{now}
 use Rattle.rules.specs.Table.{ForestTable, goodForest, tableOf}
 use Rattle.rules.specs.Lent.{Columns, columnsOf}
-use Rattle.checks.specs.Tests.{and-on, and-off}
+use Rattle.lemmas.specs.Tests.{and-on, and-off}
 use Rattle.tables.proofs.forest_good.Statement.{statement}
 use Rattle.tables.proofs.forest_good.Tie as tie
 

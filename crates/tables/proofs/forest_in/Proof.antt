@@ -1,7 +1,7 @@
 -- `tables::forest_in` meets its contract: features first, then trees. Assumes nothing.
 use borrow.Author.Needs.{needs}
 use mathlib.Core.Path.{sym, _∙_}
-use Rattle.checks.specs.Tests.{and-on, and-off}
+use Rattle.lemmas.specs.Tests.{and-on, and-off}
 use Rattle.tables.proofs.forest_in.Statement.{statement}
 use Rattle.tables.proofs.forest_in.Tie as tie
 

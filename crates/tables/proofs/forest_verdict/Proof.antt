@@ -10,7 +10,7 @@ use denote.Ref.{now}
 use lib.ListN.{length}
 use Rattle.rules.specs.Checks.{featuresIn, treesIn}
 use Rattle.rules.specs.Table.{forestTableTests}
-use Rattle.checks.specs.Tests.{and-both, passes, fails, none-failed, within-top}
+use Rattle.lemmas.specs.Tests.{and-both, passes, fails, none-failed, within-top}
 use Rattle.tables.proofs.forest_verdict.Statement.{statement}
 use Rattle.tables.proofs.forest_verdict.Tie as tie
 

@@ -13,7 +13,7 @@ use Rattle.rules.specs.Table.{startsGood}
 use Rattle.rules.specs.Words.{along}
 use Rattle.rules.specs.Lent.{shortest}
 use Rattle.lemmas.specs.Lists.{same-default}
-use Rattle.checks.specs.Tests.{and-on, and-off}
+use Rattle.lemmas.specs.Tests.{and-on, and-off}
 use Rattle.tables.proofs.starts_good.Statement.{statement}
 use Rattle.tables.proofs.starts_good.Tie as tie
 

@@ -8,7 +8,7 @@ use denote.Ref.{now}
 use lib.ListN.{length, drop}
 use lib.Dec.{ltb}
 use Rattle.rules.specs.Words.{alongFrom, along}
-use Rattle.checks.specs.Scans.{along-none, along-starts, along-goes, along-stops, along-ends}
+use Rattle.lemmas.specs.Scans.{along-none, along-starts, along-goes, along-stops, along-ends}
 use Rattle.tables.proofs.starts_rise.Statement.{statement}
 use Rattle.tables.proofs.starts_rise.Tie as tie
 

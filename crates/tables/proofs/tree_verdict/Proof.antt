@@ -6,7 +6,7 @@ use mathlib.Core.Path.{_≡_, sym, ap, _∙_}
 use denote.Ref.{now}
 use Rattle.rules.specs.Table.{goodTree, treeIn, treeTableTests}
 use Rattle.rules.specs.Lent.{Columns, entriesAt, columnsOf}
-use Rattle.checks.specs.Tests.{passes, fails, none-failed}
+use Rattle.lemmas.specs.Tests.{passes, fails, none-failed}
 use Rattle.tables.proofs.tree_verdict.Statement.{statement}
 use Rattle.tables.proofs.tree_verdict.Tie as tie
 

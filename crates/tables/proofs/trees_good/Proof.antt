@@ -10,10 +10,9 @@ use Prim.Native.Nat.{ℕ, suc, _≤_, _<_, _-_, _+_}
 use denote.Ref.{now}
 use lib.ListN.{getD}
 use Rattle.rules.specs.Table.{goodTree, ForestTable, treeAt, treesOf, tableOf}
-use Rattle.rules.specs.Threshold.{thresholdBetween}
 use Rattle.rules.specs.Words.{from, every}
 use Rattle.rules.specs.Lent.{Columns, entriesAt, columnsOf}
-use Rattle.checks.specs.Scans.{everyOn, count-goes, count-stops, count-ends, count-starts}
+use Rattle.lemmas.specs.Scans.{everyOn, count-goes, count-stops, count-ends, count-starts}
 use Rattle.tables.specs.Laws.{every-mapped, start-below, start-inside}
 use Rattle.tables.proofs.trees_good.Statement.{statement}
 use Rattle.tables.proofs.trees_good.Tie as tie

@@ -1,7 +1,7 @@
 -- `checks::forest::both_cuts` meets its contract: the words' table first, then the thresholds'. Assumes nothing.
 use borrow.Author.Needs.{needs}
 use mathlib.Core.Path.{sym, _∙_}
-use Rattle.checks.specs.Tests.{and-on, and-off}
+use Rattle.lemmas.specs.Tests.{and-on, and-off}
 use Rattle.checks.proofs.forest.both_cuts.Statement.{statement}
 use Rattle.checks.proofs.forest.both_cuts.Tie as tie
 

@@ -1,7 +1,7 @@
 -- `checks::forest::forest_counts` meets its contract: counts in range first, then those of a forest with weights. Assumes nothing.
 use borrow.Author.Needs.{needs}
 use mathlib.Core.Path.{sym, _∙_}
-use Rattle.checks.specs.Tests.{and-on, and-off}
+use Rattle.lemmas.specs.Tests.{and-on, and-off}
 use Rattle.checks.proofs.forest.forest_counts.Statement.{statement}
 use Rattle.checks.proofs.forest.forest_counts.Tie as tie
 

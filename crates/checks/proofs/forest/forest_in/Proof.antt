@@ -1,7 +1,7 @@
 -- `checks::forest::forest_in` meets its contract: shape first, then trees. Assumes nothing.
 use borrow.Author.Needs.{needs}
 use mathlib.Core.Path.{sym, _∙_}
-use Rattle.checks.specs.Tests.{and-on, and-off}
+use Rattle.lemmas.specs.Tests.{and-on, and-off}
 use Rattle.checks.proofs.forest.forest_in.Statement.{statement}
 use Rattle.checks.proofs.forest.forest_in.Tie as tie
 

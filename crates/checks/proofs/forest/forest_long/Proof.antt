@@ -1,6 +1,6 @@
 -- `checks::forest::forest_long` meets its contract: lengths first, then cut tables. Assumes nothing.
 use mathlib.Core.Path.{sym, _∙_}
-use Rattle.checks.specs.Tests.{and-on, and-off}
+use Rattle.lemmas.specs.Tests.{and-on, and-off}
 use Rattle.checks.proofs.forest.forest_long.Statement.{statement}
 use Rattle.checks.proofs.forest.forest_long.Tie as tie
 

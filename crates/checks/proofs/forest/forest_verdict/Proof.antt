@@ -8,7 +8,7 @@ use denote.Ref.{now}
 use Rattle.rules.specs.Checks.{treesIn, shapeIn, lengths, goodStarts, numbersGood, countsGood, countsOne}
 use Rattle.rules.specs.Listing.{listingsGood}
 use Rattle.rules.specs.Lent.{Given, givenOf}
-use Rattle.checks.specs.Tests.{and-both, passes, fails, none-failed, within-top}
+use Rattle.lemmas.specs.Tests.{and-both, passes, fails, none-failed, within-top}
 use Rattle.checks.specs.Verdicts.{long-laid, long-grown, forest-same}
 use Rattle.checks.proofs.forest.forest_verdict.Statement.{statement}
 use Rattle.checks.proofs.forest.forest_verdict.Tie as tie

@@ -8,7 +8,7 @@ use denote.Ref.{now}
 use lib.ListN.{length, drop}
 use lib.Ieee.Scale.{finite}
 use Rattle.rules.specs.Words.{every}
-use Rattle.checks.specs.Scans.{every-goes, every-stops, every-ends}
+use Rattle.lemmas.specs.Scans.{every-goes, every-stops, every-ends}
 use Rattle.checks.proofs.inputs.all_finite.Statement.{statement}
 use Rattle.checks.proofs.inputs.all_finite.Tie as tie
 

@@ -1,6 +1,6 @@
 -- `checks::inputs::counts_one` meets its contract, with weights and without. Assumes nothing.
 use borrow.Author.Needs.{needs}
-use Rattle.checks.specs.Tests.{or-done, or-on, no-weights, some-weights}
+use Rattle.lemmas.specs.Tests.{or-done, or-on, no-weights, some-weights}
 use Rattle.checks.proofs.inputs.counts_one.Statement.{statement}
 use Rattle.checks.proofs.inputs.counts_one.Tie as tie
 

@@ -10,7 +10,7 @@ use denote.Ref.{now}
 use lib.Dec.{eqb}
 use Rattle.rules.specs.Checks.{goodStarts}
 use Rattle.lemmas.specs.Lists.{same-default}
-use Rattle.checks.specs.Tests.{and-on, and-off}
+use Rattle.lemmas.specs.Tests.{and-on, and-off}
 use Rattle.checks.proofs.inputs.cuts_good.Statement.{statement}
 use Rattle.checks.proofs.inputs.cuts_good.Tie as tie
 

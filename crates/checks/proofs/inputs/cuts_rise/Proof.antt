@@ -8,7 +8,7 @@ use denote.Ref.{now}
 use lib.ListN.{length, drop}
 use lib.Dec.{leb}
 use Rattle.rules.specs.Words.{alongFrom, along}
-use Rattle.checks.specs.Scans.{along-none, along-starts, along-goes, along-stops, along-ends}
+use Rattle.lemmas.specs.Scans.{along-none, along-starts, along-goes, along-stops, along-ends}
 use Rattle.checks.proofs.inputs.cuts_rise.Statement.{statement}
 use Rattle.checks.proofs.inputs.cuts_rise.Tie as tie
 

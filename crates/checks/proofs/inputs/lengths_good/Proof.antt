@@ -5,7 +5,7 @@ use native.Mathlib.Omega.{arith}
 use native.Mathlib.Nat.{mul-le-mul}
 use mathlib.Core.Path.{sym, _∙_}
 use Rattle.rules.specs.Checks.{lengths}
-use Rattle.checks.specs.Tests.{and-on, and-off, rows-low}
+use Rattle.lemmas.specs.Tests.{and-on, and-off, rows-low}
 use Rattle.checks.proofs.inputs.lengths_good.Statement.{statement}
 use Rattle.checks.proofs.inputs.lengths_good.Tie as tie
 

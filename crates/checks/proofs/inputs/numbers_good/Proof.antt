@@ -2,7 +2,7 @@
 use borrow.Author.Needs.{needs}
 use borrow.Author.Tests.{not-true, not-false}
 use mathlib.Core.Path.{sym, _∙_}
-use Rattle.checks.specs.Tests.{and-on, and-off}
+use Rattle.lemmas.specs.Tests.{and-on, and-off}
 use Rattle.checks.proofs.inputs.numbers_good.Statement.{statement}
 use Rattle.checks.proofs.inputs.numbers_good.Tie as tie
 

@@ -8,7 +8,7 @@ use denote.Ref.{now}
 use lib.ListN.{length, drop}
 use Rattle.rules.specs.Checks.{goodWeight}
 use Rattle.rules.specs.Words.{every}
-use Rattle.checks.specs.Scans.{every-goes, every-stops, every-ends}
+use Rattle.lemmas.specs.Scans.{every-goes, every-stops, every-ends}
 use Rattle.checks.proofs.inputs.weights_good.Statement.{statement}
 use Rattle.checks.proofs.inputs.weights_good.Tie as tie
 

@@ -1,6 +1,6 @@
 -- `checks::inputs::weights_long` meets its contract, with weights and without. Assumes nothing.
 use mathlib.Core.Path.{refl}
-use Rattle.checks.specs.Tests.{or-done, or-on, no-weights, some-weights}
+use Rattle.lemmas.specs.Tests.{or-done, or-on, no-weights, some-weights}
 use Rattle.checks.proofs.inputs.weights_long.Statement.{statement}
 use Rattle.checks.proofs.inputs.weights_long.Tie as tie
 

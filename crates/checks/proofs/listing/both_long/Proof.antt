@@ -1,7 +1,7 @@
 -- `checks::listing::both_long` meets its contract: values first, then listings. Assumes nothing.
 use borrow.Author.Needs.{needs}
 use mathlib.Core.Path.{sym, _∙_}
-use Rattle.checks.specs.Tests.{and-on, and-off}
+use Rattle.lemmas.specs.Tests.{and-on, and-off}
 use Rattle.checks.proofs.listing.both_long.Statement.{statement}
 use Rattle.checks.proofs.listing.both_long.Tie as tie
 

@@ -6,14 +6,14 @@ use mathlib.Core.Bool.{true, _&&_}
 use denote.Ref.{now}
 use Rattle.rules.specs.Checks.{shapeIn, valuesLong, listingsLong}
 use Rattle.rules.specs.Listing.{listingTests}
-use Rattle.checks.specs.Tests.{and-both, passes, fails, none-failed, rows-low}
+use Rattle.lemmas.specs.Tests.{and-both, passes, fails, none-failed, rows-low}
 use Rattle.checks.proofs.listing.listing_verdict.Statement.{statement}
 use Rattle.checks.proofs.listing.listing_verdict.Tie as tie
 
 shaped : (c : tie.Else1) → shapeIn (c .before .before .before .before .args .shape) ≡ true
 shaped c = sym (c .before .shape-in .ensures) ∙ not-false _ (c .if1 .left)
 
-long : (c : tie.Else2) → let a = c .before .before .before .before .before .before .args in (valuesLong (a .shape) (now (a .x)) && listingsLong (a .shape) (now (a .listings))) ≡ true
+long : (c : tie.Else2) → let a = c .before .before .before .before .before .before .args in (valuesLong (a .shape) (now (a .values)) && listingsLong (a .shape) (now (a .listings))) ≡ true
 long c = sym (c .before .both-long .ensures) ∙ not-false _ (c .if2 .left)
 
 shape-in-requires : tie.Need-shape-in-requires

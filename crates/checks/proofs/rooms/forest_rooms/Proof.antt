@@ -5,7 +5,7 @@ use native.Mathlib.Omega.{arith}
 use native.Mathlib.Numerals.{add-one}
 use mathlib.Core.Path.{sym, _∙_, subst}
 use Prim.Native.Nat.{_≤_, _<_}
-use Rattle.checks.specs.Tests.{and-on, and-off}
+use Rattle.lemmas.specs.Tests.{and-on, and-off}
 use Rattle.checks.proofs.rooms.forest_rooms.Statement.{statement}
 use Rattle.checks.proofs.rooms.forest_rooms.Tie as tie
 

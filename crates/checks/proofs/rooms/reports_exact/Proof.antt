@@ -5,7 +5,7 @@ use mathlib.Core.Bool.{Bool, _&&_}
 use lib.Dec.{eqb}
 use Rattle.rules.specs.Checks.{reportsExact}
 use Rattle.rules.specs.Lent.{Reports}
-use Rattle.checks.specs.Tests.{and-on, and-off}
+use Rattle.lemmas.specs.Tests.{and-on, and-off}
 use Rattle.checks.specs.Lent.{ReportsHave}
 use Rattle.checks.proofs.rooms.reports_exact.Statement.{statement}
 use Rattle.checks.proofs.rooms.reports_exact.Tie as tie

@@ -2,7 +2,7 @@
 use borrow.Author.Tests.{le-leb, lt-leb}
 use mathlib.Core.Path.{subst}
 use Prim.Native.Nat.{_≤_, _<_}
-use Rattle.checks.specs.Tests.{and-on, and-off}
+use Rattle.lemmas.specs.Tests.{and-on, and-off}
 use Rattle.checks.proofs.rooms.tree_rooms.Statement.{statement}
 use Rattle.checks.proofs.rooms.tree_rooms.Tie as tie
 

@@ -8,7 +8,7 @@ use Prim.Native.Nat.{_≤_, _<_, _*_, max}
 use lib.Dec.{leb}
 use Rattle.rules.specs.Checks.{workEnough}
 use Rattle.rules.specs.Lent.{WaitingRoom, waitingRoom, Work}
-use Rattle.checks.specs.Tests.{and-on, and-off, entries-low}
+use Rattle.lemmas.specs.Tests.{and-on, and-off, entries-low}
 use Rattle.checks.specs.Lent.{WorkHas}
 use Rattle.checks.proofs.rooms.work_enough.Statement.{statement}
 use Rattle.checks.proofs.rooms.work_enough.Tie as tie

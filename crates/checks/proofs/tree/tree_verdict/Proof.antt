@@ -8,7 +8,7 @@ use denote.Ref.{now}
 use Rattle.rules.specs.Checks.{shapeIn, lengths, numbersGood, countsGood}
 use Rattle.rules.specs.Listing.{listingsGood}
 use Rattle.rules.specs.Lent.{Given, givenOf}
-use Rattle.checks.specs.Tests.{passes, fails, none-failed}
+use Rattle.lemmas.specs.Tests.{passes, fails, none-failed}
 use Rattle.checks.specs.Verdicts.{long-laid, long-counted, tree-same}
 use Rattle.checks.proofs.tree.tree_verdict.Statement.{statement}
 use Rattle.checks.proofs.tree.tree_verdict.Tie as tie

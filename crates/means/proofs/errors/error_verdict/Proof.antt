@@ -5,7 +5,7 @@ use mathlib.Core.Path.{_≡_, sym, _∙_}
 use mathlib.Core.Bool.{true}
 use Rattle.rules.specs.Checks.{rowsIn}
 use Rattle.rules.specs.OutOfBag.{errorTests}
-use Rattle.checks.specs.Tests.{and-on, and-off, passes, fails, none-failed}
+use Rattle.lemmas.specs.Tests.{and-on, and-off, passes, fails, none-failed}
 use Rattle.means.proofs.errors.error_verdict.Statement.{statement}
 use Rattle.means.proofs.errors.error_verdict.Tie as tie
 

@@ -7,7 +7,6 @@ use Prim.Native.Nat.{ℕ, _-_, _+_, _*_, _<_, _≤_}
 use mathlib.Core.List.{List}
 use denote.Ref.{now}
 use lib.ListN.{getD}
-use Rattle.rules.specs.Threshold.{thresholdBetween}
 use Rattle.rules.specs.Lent.{Entry, entriesAt, columnsOf}
 use Rattle.rules.specs.Table.{ForestTable, treeAt, tableOf}
 use Rattle.tables.specs.Laws.{start-below}

@@ -5,7 +5,7 @@ use native.Mathlib.Omega.{arith}
 use mathlib.Core.Path.{_≡_, sym, subst}
 use Prim.Native.Nat.{ℕ, _-_, _+_, _*_, _≤_}
 use denote.Ref.{now}
-use Rattle.checks.specs.Rooms.{totalOn, total-adds, total-ends, total-starts}
+use Rattle.lemmas.specs.Scans.{totalOn, total-adds, total-ends, total-starts}
 use Rattle.means.specs.Sums.{outMark, outNumber, mark-low, out-none}
 use Rattle.means.proofs.sums.out_number.Statement.{statement}
 use Rattle.means.proofs.sums.out_number.Tie as tie

@@ -1,4 +1,4 @@
--- `checks::listing::each_once` meets its contract: what is left to ask of the listing is what was asked, and the marks are the rows behind. Assumes nothing.
+-- `listings::each_once` meets its contract: what is left to ask of the listing is what was asked, and the marks are the rows behind. Assumes nothing.
 use borrow.Author.Needs.{needs}
 use borrow.Author.Tests.{eq-eqb, ne-eqb, eqb-true, eqb-false}
 use native.Mathlib.Omega.{arith}
@@ -11,9 +11,9 @@ use lib.Dec.{eqb}
 use lib.ListN.{length, length-set, getD, set, drop, replicate, length-replicate, getD-replicate}
 use lib.Seq.{getD-set-same, getD-set-other}
 use Rattle.rules.specs.Words.{member, fresh, eachOnce}
-use Rattle.checks.specs.Scans.{fresh-goes, fresh-out, fresh-twice, fresh-ends}
-use Rattle.checks.proofs.listing.each_once.Statement.{statement}
-use Rattle.checks.proofs.listing.each_once.Tie as tie
+use Rattle.lemmas.specs.Scans.{fresh-goes, fresh-out, fresh-twice, fresh-ends}
+use Rattle.listings.proofs.each_once.Statement.{statement}
+use Rattle.listings.proofs.each_once.Tie as tie
 
 record Seen (l : List ℕ) (rows : ℕ) (seen : List Bool) (i : ℕ) : Type 0 where
   behind : List ℕ

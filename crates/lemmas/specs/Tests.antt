@@ -1,4 +1,4 @@
--- Chains of tests, as code makes them: the first that fails decides. And what a shape in range says. Assumes nothing.
+-- Chains of tests, as code makes them: the first that fails decides. How a call ends by its verdict, and what a shape in range says. Assumes nothing.
 use Prim.Native.Nat.{ℕ, zero, suc, _*_, _≤_}
 use native.Mathlib.Nat.{mul-le-mul}
 use native.Mathlib.Omega.{arith}
@@ -12,6 +12,7 @@ use lib.Ieee.Fits.{and-l, and-r}
 use Rattle.rules.specs.declared.Shape.{Shape}
 use Rattle.rules.specs.declared.Reply.{Reply}
 use Rattle.rules.specs.Lent.{unweighted}
+use Rattle.rules.specs.Reading.{reads}
 use Rattle.rules.specs.Checks.{Test, test, firstFailed, replies, within, rowsIn, featuresIn, shapeIn}
 
 -- ---- bools
@@ -56,6 +57,17 @@ pub replies-refused : (n : ℕ) → (n ≡ 0 → ⊥) → Reply.Refused n ≡ re
 unfolding replies
 replies-refused zero h = absurd (h refl)
 replies-refused (suc n) h = refl
+
+-- ---- how a reader ends: done, or refused with its result room as it was
+
+pub reads-done : {n m : ℕ} {new told : List Float} (old : List Float) → n ≡ m → n ≡ 0 → told ≡ new → record { answer = Reply.Done; rooms = told } ≡ reads m new old
+unfolding reads
+reads-done old e h t = λ i. reads ((sym h ∙ e) i) (t i) old
+
+pub reads-refused : (n : ℕ) {m : ℕ} (new old : List Float) → n ≡ m → (n ≡ 0 → ⊥) → record { answer = Reply.Refused n; rooms = old } ≡ reads m new old
+unfolding reads
+reads-refused zero new old e h = absurd (h refl)
+reads-refused (suc n) new old e h = ap (λ m. reads m new old) e
 
 -- ---- an empty slice says that there are no weights
 

@@ -1,4 +1,4 @@
--- `checks::listing::never_falls` meets its contract: what is left to ask is asked from the row whose value is held. Assumes nothing.
+-- `listings::never_falls` meets its contract: what is left to ask is asked from the row whose value is held. Assumes nothing.
 use borrow.Author.Needs.{needs}
 use native.Mathlib.Omega.{arith}
 use mathlib.Core.Path.{_≡_, sym, ap, _∙_}
@@ -12,9 +12,10 @@ use Rattle.rules.specs.Words.{along, alongFrom}
 use Rattle.rules.specs.Lent.{cell}
 use Rattle.rules.specs.Listing.{neverFalls}
 use Rattle.lemmas.specs.Lists.{every-at}
-use Rattle.checks.specs.Scans.{along-none, along-starts, along-goes, along-stops, along-ends}
-use Rattle.checks.proofs.listing.never_falls.Statement.{statement}
-use Rattle.checks.proofs.listing.never_falls.Tie as tie
+use Rattle.lemmas.specs.Scans.{along-none, along-starts, along-goes, along-stops, along-ends}
+use Rattle.listings.specs.Asks.{cell-inside}
+use Rattle.listings.proofs.never_falls.Statement.{statement}
+use Rattle.listings.proofs.never_falls.Tie as tie
 
 module _ (value : ℕ → Float) (l : List ℕ) where
   abbrev holds : ℕ → ℕ → Bool
@@ -48,13 +49,13 @@ module _ (value : ℕ → Float) (l : List ℕ) where
   ends last i s h = along-ends holds l (s .row) i h (s .left)
 
 abbrev Inv-loop : tie.InvT-loop
-Inv-loop listing x rows features j first last₀ i₀ last i = Rising (cell features x j) listing last i
+Inv-loop listing values rows features j first last₀ i₀ last i = Rising (cell features values j) listing last i
 
 abbrev μ-loop : tie.MeasureT-loop
-μ-loop listing x rows features j first last₀ i₀ last i = length listing - i
+μ-loop listing values rows features j first last₀ i₀ last i = length listing - i
 
 abbrev value : tie.Start Inv-loop μ-loop → ℕ → Float
-value a = cell (a .args .features) (now (a .args .x)) (a .args .j)
+value a = cell (a .args .features) (now (a .args .values)) (a .args .j)
 
 returns : tie.Need-returns Inv-loop μ-loop
 returns c =
@@ -70,7 +71,7 @@ cast-first c = omega (arith, c .shared-slice-known3 .given 0)
 cell-at-requires : tie.Need-cell-at-requires Inv-loop μ-loop
 cell-at-requires c κs =
     let a = c .before .before .before .before in
-    record { long = a .pre .long; row = every-at _ (now (a .args .listing)) 0 0 (a .pre .below) (omega arith); known = a .pre .known }
+    cell-inside (a .args .rows) (a .args .features) _ (a .args .j) (now (a .args .values)) (a .pre .long) (every-at _ (now (a .args .listing)) 0 0 (a .pre .below) (omega arith)) (a .pre .known)
 
 loop-holds : tie.Need-loop-holds Inv-loop μ-loop
 loop-holds c =
@@ -90,7 +91,7 @@ cell-at-requires-2 : tie.Need-cell-at-requires-2 Inv-loop μ-loop
 cell-at-requires-2 c κs =
     let at = c .before .before in
     let a = at .before .before .before .before .before .before in
-    record { long = a .pre .long; row = every-at _ (now (a .args .listing)) 0 (at .loop .i) (a .pre .below) (omega arith); known = a .pre .known }
+    cell-inside (a .args .rows) (a .args .features) _ (a .args .j) (now (a .args .values)) (a .pre .long) (every-at _ (now (a .args .listing)) 0 (at .loop .i) (a .pre .below) (omega arith)) (a .pre .known)
 
 returns-2 : tie.Need-returns-2 Inv-loop μ-loop
 returns-2 c =

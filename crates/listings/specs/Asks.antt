@@ -1,0 +1,34 @@
+-- What the checks of a listing ask of their callers.
+use Prim.Native.Nat.{ℕ, _+_, _*_, _<_, _≤_}
+use mathlib.Core.Path.{_≡_, sym, subst}
+use mathlib.Core.List.{List}
+use lib.ListN.{length}
+use lib.Ieee.{Float}
+use Rattle.rules.specs.declared.Shape.{Shape}
+use Rattle.lemmas.specs.Lists.{Every}
+use Rattle.lemmas.specs.Cells.{cell-within}
+
+-- row i's value of feature j is among the values
+pub record Inside (features i j : ℕ) (xs : List Float) : Type 0 where
+  pub known : j < features
+  pub within : i * features + j < length xs
+
+pub cell-inside : (rows features i j : ℕ) (xs : List Float) → length xs ≡ rows * features → i < rows → j < features → Inside features i j xs
+cell-inside rows features i j xs long h k = record { known = k; within = subst (λ n. i * features + j < n) (sym long) (cell-within i rows features j h k) }
+
+-- a list of rows, to be walked along feature j
+pub record Walkable (rows features j : ℕ) (xs : List Float) (l : List ℕ) : Type 0 where
+  pub long : length xs ≡ rows * features
+  pub below : Every (λ k. k < rows) l
+  pub known : j < features
+
+-- values and listings of a shape
+pub record Laid (S : Shape) (xs : List Float) (ls : List ℕ) : Type 0 where
+  pub few : S .rows ≤ 65535
+  pub valuesLong : length xs ≡ S .rows * S .features
+  pub listingsLong : length ls ≡ S .features * S .rows
+
+-- feature j's listing among them
+pub record Listed (S : Shape) (j : ℕ) (xs : List Float) (ls : List ℕ) : Type 0 where
+  pub laid : Laid S xs ls
+  pub known : j < S .features
