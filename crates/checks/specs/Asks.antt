@@ -7,7 +7,7 @@ use lib.ListN.{length}
 use lib.Ieee.{Float}
 use Rattle.rules.specs.declared.Shape.{Shape}
 use Rattle.rules.specs.Checks.{shapeIn}
-use Rattle.laws.specs.Lists.{Every}
+use Rattle.lemmas.specs.Lists.{Every}
 
 -- a cell of a table of feature values
 pub record Inside (rows features i j : ℕ) (xs : List Float) : Type 0 where

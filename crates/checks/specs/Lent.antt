@@ -4,7 +4,7 @@ use mathlib.Core.Path.{_≡_}
 use mathlib.Core.List.{List}
 use lib.ListN.{length}
 use lib.Ieee.{Float}
-use Rattle.rules.specs.Lent.{Work, Reports, Stack, stack}
+use Rattle.rules.specs.Lent.{Work, Reports, WaitingRoom, waitingRoom}
 use Rattle.checks.specs.declared.Lengths.{Lengths}
 use Rattle.checks.specs.declared.ReportLengths.{ReportLengths}
 
@@ -25,11 +25,11 @@ pub record Grown (rows trees : ℕ) (weights : List Float) (counts : List ℕ) :
 
 -- ---- rooms of these lengths
 
-pub record WorkHas (L : Lengths) (w : Work Stack) : Type 0 where
+pub record WorkHas (L : Lengths) (w : Work WaitingRoom) : Type 0 where
   pub order : length (w .order) ≡ L .order
   pub scratch : length (w .scratch) ≡ L .scratch
   pub flags : length (w .flags) ≡ L .flags
-  pub waiting : stack .places (w .waiting) ≡ L .waiting
+  pub waiting : waitingRoom .places (w .waiting) ≡ L .waiting
 
 pub record ReportsHave (L : ReportLengths) (c : Reports) : Type 0 where
   pub nodes : length (c .nodes) ≡ L .nodes

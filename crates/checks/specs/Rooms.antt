@@ -8,7 +8,7 @@ use mathlib.Core.List.{List}
 use lib.ListN.{length}
 use lib.Ieee.{Float}
 use Rattle.rules.specs.Words.{from, putIf, keep, stretch, total}
-use Rattle.rules.specs.Lent.{Frame, keptIn, kept, keptRows}
+use Rattle.rules.specs.Lent.{OneTree, keptIn, kept, keptRows}
 use Rattle.rules.specs.Checks.{roomFor}
 
 -- ---- the numbers
@@ -28,7 +28,7 @@ abbrev pub roomsIn : ℕ → ℕ → List Float → List ℕ → ℕ
 roomsIn rows trees weights counts = total (roomOf rows weights counts) (from 0 trees)
 
 -- they are the rules'
-pub room-is : (F : Frame) → roomFor F ≡ roomIn (F .rows) (F .weights) (F .counts)
+pub room-is : (F : OneTree) → roomFor F ≡ roomIn (F .rows) (F .weights) (F .counts)
 unfolding roomFor keptRows kept
 room-is F = refl
 

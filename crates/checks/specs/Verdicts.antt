@@ -10,12 +10,12 @@ use lib.Ieee.{Float}
 use borrow.Author.Tests.{eqb-true}
 use Rattle.rules.specs.declared.Shape.{Shape}
 use Rattle.rules.specs.Words.{from, total}
-use Rattle.rules.specs.Lent.{Given, TreeRooms, ForestRooms, Stack, stack, unweighted, shortest}
-use Rattle.rules.specs.Checks.{Test, test, firstFailed, shapeIn, treesIn, lengths, goodCuts, numbersGood, countsGood, countsOne, roomFor, workEnough, reportsExact}
+use Rattle.rules.specs.Lent.{Given, TreeRooms, ForestRooms, WaitingRoom, waitingRoom, unweighted, shortest}
+use Rattle.rules.specs.Checks.{Test, test, firstFailed, shapeIn, treesIn, lengths, goodStarts, numbersGood, countsGood, countsOne, roomFor, workEnough, reportsExact}
 use Rattle.rules.specs.Listing.{listingsGood}
-use Rattle.rules.specs.Fit.{TreeCall, frameOf, treeTests}
-use Rattle.rules.specs.Forest.{ForestCall, frameAt, frames, cutsGood, roomsGood, forestTests}
-use Rattle.laws.specs.Lists.{every-all, total-same, total-map}
+use Rattle.rules.specs.Fit.{TreeCall, oneTreeOf, treeTests}
+use Rattle.rules.specs.Forest.{ForestCall, oneTreeAt, eachTree, tapesGood, roomsGood, forestTests}
+use Rattle.lemmas.specs.Lists.{every-all, total-same, total-map}
 use Rattle.checks.specs.declared.Lengths.{Lengths}
 use Rattle.checks.specs.declared.ReportLengths.{ReportLengths}
 use Rattle.checks.specs.Lent.{WorkHas, ReportsHave, Counted, Grown}
@@ -75,69 +75,69 @@ sixTests a b c d e f = test 1 a ∷ test 2 b ∷ test 3 c ∷ test 4 d ∷ test 
 -- ---- one tree
 
 -- a call on these inputs, with rooms of these lengths
-pub record TreeHas (S : Shape) (G : Given) (L : Lengths) (C : TreeCall) (R : TreeRooms Stack) : Type 0 where
+pub record TreeHas (S : Shape) (G : Given) (L : Lengths) (C : TreeCall) (R : TreeRooms WaitingRoom) : Type 0 where
   pub shape : S ≡ C .shape
   pub given : G ≡ C .given
   pub nodes : L .nodes ≡ shortest (R .nodes)
   pub work : WorkHas L (R .work)
 
-tree-room-is : (C : TreeCall) → roomIn (C .shape .rows) (C .given .weights) (C .given .counts) ≡ roomFor (frameOf C)
-unfolding frameOf
-tree-room-is C = sym (room-is (frameOf C))
+tree-room-is : (C : TreeCall) → roomIn (C .shape .rows) (C .given .weights) (C .given .counts) ≡ roomFor (oneTreeOf C)
+unfolding oneTreeOf
+tree-room-is C = sym (room-is (oneTreeOf C))
 
 -- its tests are the call's
-pub tree-same : (S : Shape) (G : Given) (L : Lengths) (C : TreeCall) (R : TreeRooms Stack) → TreeHas S G L C R
+pub tree-same : (S : Shape) (G : Given) (L : Lengths) (C : TreeCall) (R : TreeRooms WaitingRoom) → TreeHas S G L C R
     → firstFailed (sixTests (shapeIn S) (lengths S 1 G) (numbersGood G) (countsGood G) (listingsGood S (G .inputs .values) (G .inputs .listings))
-    (leb (roomIn (S .rows) (G .weights) (G .counts)) (L .nodes) && workEnough stack S (R .work)))
-    ≡ firstFailed (treeTests stack C R)
+    (leb (roomIn (S .rows) (G .weights) (G .counts)) (L .nodes) && workEnough waitingRoom S (R .work)))
+    ≡ firstFailed (treeTests waitingRoom C R)
 unfolding treeTests
 tree-same S G L C R h =
     (λ i. firstFailed (sixTests (shapeIn (h .shape i)) (lengths (h .shape i) 1 (h .given i)) (numbersGood (h .given i)) (countsGood (h .given i))
     (listingsGood (h .shape i) (h .given i .inputs .values) (h .given i .inputs .listings))
-    (leb (roomIn (h .shape i .rows) (h .given i .weights) (h .given i .counts)) (h .nodes i) && workEnough stack (h .shape i) (R .work))))
+    (leb (roomIn (h .shape i .rows) (h .given i .weights) (h .given i .counts)) (h .nodes i) && workEnough waitingRoom (h .shape i) (R .work))))
     ∙ ap (λ n. firstFailed (sixTests (shapeIn (C .shape)) (lengths (C .shape) 1 (C .given)) (numbersGood (C .given)) (countsGood (C .given))
-    (listingsGood (C .shape) (C .given .inputs .values) (C .given .inputs .listings)) (leb n (shortest (R .nodes)) && workEnough stack (C .shape) (R .work))))
+    (listingsGood (C .shape) (C .given .inputs .values) (C .given .inputs .listings)) (leb n (shortest (R .nodes)) && workEnough waitingRoom (C .shape) (R .work))))
     (tree-room-is C)
 
 -- ---- a forest
 
 -- the lengths that a forest's checks are handed besides: both tapes, start table, report columns
-pub record ForestHas (S : Shape) (n : ℕ) (G : Given) (w t : ℕ) (wc tc : List ℕ) (L : Lengths) (s : ℕ) (P : ReportLengths) (C : ForestCall) (R : ForestRooms Stack) : Type 0 where
+pub record ForestHas (S : Shape) (n : ℕ) (G : Given) (w t : ℕ) (wc tc : List ℕ) (L : Lengths) (s : ℕ) (P : ReportLengths) (C : ForestCall) (R : ForestRooms WaitingRoom) : Type 0 where
   pub shape : S ≡ C .shape
   pub trees : n ≡ C .trees
   pub given : G ≡ C .given
   pub words : w ≡ length (C .words)
   pub thresholds : t ≡ length (C .thresholds)
-  pub wordCuts : wc ≡ C .wordCuts
-  pub thresholdCuts : tc ≡ C .thresholdCuts
+  pub wordStarts : wc ≡ C .wordStarts
+  pub thresholdStarts : tc ≡ C .thresholdStarts
   pub nodes : L .nodes ≡ shortest (R .nodes)
   pub work : WorkHas L (R .work)
   pub starts : s ≡ length (R .starts)
   pub reports : ReportsHave P (R .reports)
 
-forest-room-is : (C : ForestCall) → roomsIn (C .shape .rows) (C .trees) (C .given .weights) (C .given .counts) ≡ total roomFor (frames C)
-unfolding frames frameAt
+forest-room-is : (C : ForestCall) → roomsIn (C .shape .rows) (C .trees) (C .given .weights) (C .given .counts) ≡ total roomFor (eachTree C)
+unfolding eachTree oneTreeAt
 forest-room-is C =
-    total-same (roomOf (C .shape .rows) (C .given .weights) (C .given .counts)) (λ t. roomFor (frameAt C t)) (from 0 (C .trees))
-    (every-all _ (λ t. sym (room-is (frameAt C t))) (from 0 (C .trees)))
-    ∙ sym (total-map roomFor (frameAt C) (from 0 (C .trees)))
+    total-same (roomOf (C .shape .rows) (C .given .weights) (C .given .counts)) (λ t. roomFor (oneTreeAt C t)) (from 0 (C .trees))
+    (every-all _ (λ t. sym (room-is (oneTreeAt C t))) (from 0 (C .trees)))
+    ∙ sym (total-map roomFor (oneTreeAt C) (from 0 (C .trees)))
 
 -- its tests are the call's
-pub forest-same : (S : Shape) (n : ℕ) (G : Given) (w t : ℕ) (wc tc : List ℕ) (L : Lengths) (s : ℕ) (P : ReportLengths) (C : ForestCall) (R : ForestRooms Stack)
+pub forest-same : (S : Shape) (n : ℕ) (G : Given) (w t : ℕ) (wc tc : List ℕ) (L : Lengths) (s : ℕ) (P : ReportLengths) (C : ForestCall) (R : ForestRooms WaitingRoom)
     → ForestHas S n G w t wc tc L s P C R
-    → firstFailed (sixTests (shapeIn S && treesIn n) (lengths S n G && (goodCuts n w wc && goodCuts n t tc)) (numbersGood G) (countsGood G && countsOne G)
+    → firstFailed (sixTests (shapeIn S && treesIn n) (lengths S n G && (goodStarts n w wc && goodStarts n t tc)) (numbersGood G) (countsGood G && countsOne G)
     (listingsGood S (G .inputs .values) (G .inputs .listings))
-    (leb (roomsIn (S .rows) n (G .weights) (G .counts)) (L .nodes) && (workEnough stack S (R .work) && (leb (suc n) s && reportsExact n (R .reports)))))
-    ≡ firstFailed (forestTests stack C R)
-unfolding forestTests cutsGood roomsGood
+    (leb (roomsIn (S .rows) n (G .weights) (G .counts)) (L .nodes) && (workEnough waitingRoom S (R .work) && (leb (suc n) s && reportsExact n (R .reports)))))
+    ≡ firstFailed (forestTests waitingRoom C R)
+unfolding forestTests tapesGood roomsGood
 forest-same S n G w t wc tc L s P C R h =
     (λ i. firstFailed (sixTests (shapeIn (h .shape i) && treesIn (h .trees i))
-    (lengths (h .shape i) (h .trees i) (h .given i) && (goodCuts (h .trees i) (h .words i) (h .wordCuts i) && goodCuts (h .trees i) (h .thresholds i) (h .thresholdCuts i)))
+    (lengths (h .shape i) (h .trees i) (h .given i) && (goodStarts (h .trees i) (h .words i) (h .wordStarts i) && goodStarts (h .trees i) (h .thresholds i) (h .thresholdStarts i)))
     (numbersGood (h .given i)) (countsGood (h .given i) && countsOne (h .given i)) (listingsGood (h .shape i) (h .given i .inputs .values) (h .given i .inputs .listings))
     (leb (roomsIn (h .shape i .rows) (h .trees i) (h .given i .weights) (h .given i .counts)) (h .nodes i)
-    && (workEnough stack (h .shape i) (R .work) && (leb (suc (h .trees i)) (h .starts i) && reportsExact (h .trees i) (R .reports))))))
+    && (workEnough waitingRoom (h .shape i) (R .work) && (leb (suc (h .trees i)) (h .starts i) && reportsExact (h .trees i) (R .reports))))))
     ∙ ap (λ m. firstFailed (sixTests (shapeIn (C .shape) && treesIn (C .trees))
-    (lengths (C .shape) (C .trees) (C .given) && (goodCuts (C .trees) (length (C .words)) (C .wordCuts) && goodCuts (C .trees) (length (C .thresholds)) (C .thresholdCuts)))
+    (lengths (C .shape) (C .trees) (C .given) && (goodStarts (C .trees) (length (C .words)) (C .wordStarts) && goodStarts (C .trees) (length (C .thresholds)) (C .thresholdStarts)))
     (numbersGood (C .given)) (countsGood (C .given) && countsOne (C .given)) (listingsGood (C .shape) (C .given .inputs .values) (C .given .inputs .listings))
-    (leb m (shortest (R .nodes)) && (workEnough stack (C .shape) (R .work) && (leb (suc (C .trees)) (length (R .starts)) && reportsExact (C .trees) (R .reports))))))
+    (leb m (shortest (R .nodes)) && (workEnough waitingRoom (C .shape) (R .work) && (leb (suc (C .trees)) (length (R .starts)) && reportsExact (C .trees) (R .reports))))))
     (forest-room-is C)

@@ -4,8 +4,8 @@ ghost use mathlib.Core.Bool.{_&&_, _||_};
 ghost use Prim.Native.Nat.{_≤_};
 ghost use lib.Dec.{leb, eqb};
 ghost use Rattle.rules.specs.Words.{every};
-ghost use Rattle.rules.specs.Lent.{ForestRooms, Stack, stack, unweighted, givenOf};
-ghost use Rattle.rules.specs.Checks.{firstFailed, treesIn, shapeIn, lengths, goodCuts};
+ghost use Rattle.rules.specs.Lent.{ForestRooms, WaitingRoom, waitingRoom, unweighted, givenOf};
+ghost use Rattle.rules.specs.Checks.{firstFailed, treesIn, shapeIn, lengths, goodStarts};
 ghost use Rattle.rules.specs.Forest.{ForestCall, forestTests};
 ghost use Rattle.checks.specs.Asks.{Ranges};
 ghost use Rattle.checks.specs.Verdicts.{ForestHas};
@@ -27,14 +27,14 @@ fn both_cuts(
     trees: usize,
     words: usize,
     thresholds: usize,
-    wordcuts: &[usize],
-    thresholdcuts: &[usize],
+    wordstarts: &[usize],
+    thresholdstarts: &[usize],
 ) -> bool
     requires { ⌜ trees ≤ 1024 ⌝ }
-    ensures { λ r. ⌜ r ≡ (goodCuts trees words (now (wordcuts .entry)) && goodCuts trees thresholds (now (thresholdcuts .entry))) ⌝ }
+    ensures { λ r. ⌜ r ≡ (goodStarts trees words (now (wordstarts .entry)) && goodStarts trees thresholds (now (thresholdstarts .entry))) ⌝ }
 {
-    if crate::inputs::cuts_good(trees, words, wordcuts) {
-        crate::inputs::cuts_good(trees, thresholds, thresholdcuts)
+    if crate::inputs::cuts_good(trees, words, wordstarts) {
+        crate::inputs::cuts_good(trees, thresholds, thresholdstarts)
     } else {
         false
     }
@@ -50,15 +50,15 @@ fn forest_long(
     listings: &[u32],
     words: usize,
     thresholds: usize,
-    wordcuts: &[usize],
-    thresholdcuts: &[usize],
+    wordstarts: &[usize],
+    thresholdstarts: &[usize],
 ) -> bool
     requires { ⌜ Ranges shape trees ⌝ }
     ensures { λ r. ⌜ r ≡ (lengths shape trees (givenOf (now (values .entry)) (now (targets .entry)) (now (weights .entry)) (now (counts .entry)) (now (listings .entry)))
-        && (goodCuts trees words (now (wordcuts .entry)) && goodCuts trees thresholds (now (thresholdcuts .entry)))) ⌝ }
+        && (goodStarts trees words (now (wordstarts .entry)) && goodStarts trees thresholds (now (thresholdstarts .entry)))) ⌝ }
 {
     if crate::inputs::lengths_good(shape, trees, values, targets, weights, counts, listings) {
-        both_cuts(trees, words, thresholds, wordcuts, thresholdcuts)
+        both_cuts(trees, words, thresholds, wordstarts, thresholdstarts)
     } else {
         false
     }
@@ -84,16 +84,16 @@ pub fn forest_verdict(
     listings: &[u32],
     words: usize,
     thresholds: usize,
-    wordcuts: &[usize],
-    thresholdcuts: &[usize],
+    wordstarts: &[usize],
+    thresholdstarts: &[usize],
     room: Lengths,
     starts: usize,
     reports: ReportLengths,
 ) -> u32
-    ensures { λ r. ⌜ ((C : ForestCall) (R : ForestRooms Stack)
+    ensures { λ r. ⌜ ((C : ForestCall) (R : ForestRooms WaitingRoom)
         → ForestHas shape trees (givenOf (now (values .entry)) (now (targets .entry)) (now (weights .entry)) (now (counts .entry)) (now (listings .entry)))
-        words thresholds (now (wordcuts .entry)) (now (thresholdcuts .entry)) room starts reports C R
-        → r ≡ firstFailed (forestTests stack C R)) ⌝ }
+        words thresholds (now (wordstarts .entry)) (now (thresholdstarts .entry)) room starts reports C R
+        → r ≡ firstFailed (forestTests waitingRoom C R)) ⌝ }
 {
     if !forest_in(shape, trees) {
         return 1;
@@ -108,8 +108,8 @@ pub fn forest_verdict(
         listings,
         words,
         thresholds,
-        wordcuts,
-        thresholdcuts,
+        wordstarts,
+        thresholdstarts,
     ) {
         return 2;
     }

@@ -7,7 +7,7 @@ ghost use lib.Dec.{leb, eqb};
 ghost use lib.Ieee.Scale.{finite};
 ghost use Rattle.rules.specs.Words.{every, along};
 ghost use Rattle.rules.specs.Lent.{unweighted, givenOf};
-ghost use Rattle.rules.specs.Checks.{lengths, goodCuts, goodWeight};
+ghost use Rattle.rules.specs.Checks.{lengths, goodStarts, goodWeight};
 ghost use Rattle.checks.specs.Asks.{Ranges};
 use rules::Shape;
 
@@ -76,7 +76,7 @@ fn cuts_rise(cuts: &[usize]) -> bool
 // The rule of a cut table over a tape of so many draws.
 pub fn cuts_good(trees: usize, tape: usize, cuts: &[usize]) -> bool
     requires { ⌜ trees ≤ 1024 ⌝ }
-    ensures { λ r. ⌜ r ≡ goodCuts trees tape (now (cuts .entry)) ⌝ }
+    ensures { λ r. ⌜ r ≡ goodStarts trees tape (now (cuts .entry)) ⌝ }
 {
     if cuts.len() != trees + 1 {
         return false;

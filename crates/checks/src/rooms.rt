@@ -3,7 +3,7 @@ ghost use mathlib.Core.Path.{_≡_};
 ghost use mathlib.Core.Bool.{true, _&&_};
 ghost use Prim.Native.Nat.{suc, min, max};
 ghost use lib.Dec.{leb};
-ghost use Rattle.rules.specs.Lent.{Work, Reports, Stack, stack};
+ghost use Rattle.rules.specs.Lent.{Work, Reports, WaitingRoom, waitingRoom};
 ghost use Rattle.rules.specs.Checks.{shapeIn, workEnough, reportsExact};
 ghost use Rattle.checks.specs.Lent.{Counted, Grown, WorkHas, ReportsHave};
 ghost use Rattle.checks.specs.Rooms.{Kept, TreeRoom, roomIn, ForestRoom, roomsIn};
@@ -67,12 +67,12 @@ pub fn shortest_of(
     feature: usize,
     threshold: usize,
     score: usize,
-    yes: usize,
-    no: usize,
+    truechild: usize,
+    falsechild: usize,
 ) -> usize
-    ensures { λ r. ⌜ r ≡ min value (min feature (min threshold (min score (min yes no)))) ⌝ }
+    ensures { λ r. ⌜ r ≡ min value (min feature (min threshold (min score (min truechild falsechild)))) ⌝ }
 {
-    let children = least(yes, no);
+    let children = least(truechild, falsechild);
     let scored = least(score, children);
     let cut = least(threshold, scored);
     let known = least(feature, cut);
@@ -87,7 +87,7 @@ fn larger(a: usize, b: usize) -> usize
 
 pub fn work_enough(shape: Shape, room: Lengths) -> bool
     requires { ⌜ shapeIn shape ≡ true ⌝ }
-    ensures { λ r. ⌜ ((w : Work Stack) → WorkHas room w → r ≡ workEnough stack shape w) ⌝ }
+    ensures { λ r. ⌜ ((w : Work WaitingRoom) → WorkHas room w → r ≡ workEnough waitingRoom shape w) ⌝ }
 {
     let cells = shape.features * shape.rows;
     let wide = larger(shape.rows, shape.features);
@@ -127,7 +127,7 @@ pub fn reports_exact(trees: usize, reports: ReportLengths) -> bool
 // All rooms of the fit of one tree.
 pub fn tree_rooms(shape: Shape, weights: &[f64], counts: &[u32], room: Lengths) -> bool
     requires { ⌜ (shapeIn shape ≡ true) × Counted (shape .rows) (now weights) (now counts) ⌝ }
-    ensures { λ r. ⌜ ((w : Work Stack) → WorkHas room w → r ≡ (leb (roomIn (shape .rows) (now (weights .entry)) (now (counts .entry))) (room .nodes) && workEnough stack shape w)) ⌝ }
+    ensures { λ r. ⌜ ((w : Work WaitingRoom) → WorkHas room w → r ≡ (leb (roomIn (shape .rows) (now (weights .entry)) (now (counts .entry))) (room .nodes) && workEnough waitingRoom shape w)) ⌝ }
 {
     let need = tree_room(weights, counts, shape.rows);
     if room.nodes < need {
@@ -147,9 +147,9 @@ pub fn forest_rooms(
     reports: ReportLengths,
 ) -> bool
     requires { ⌜ (shapeIn shape ≡ true) × Grown (shape .rows) trees (now weights) (now counts) ⌝ }
-    ensures { λ r. ⌜ ((w : Work Stack) (s : Reports) → WorkHas room w → ReportsHave reports s → r ≡
+    ensures { λ r. ⌜ ((w : Work WaitingRoom) (s : Reports) → WorkHas room w → ReportsHave reports s → r ≡
         (leb (roomsIn (shape .rows) trees (now (weights .entry)) (now (counts .entry))) (room .nodes)
-        && (workEnough stack shape w && (leb (suc trees) starts && reportsExact trees s)))) ⌝ }
+        && (workEnough waitingRoom shape w && (leb (suc trees) starts && reportsExact trees s)))) ⌝ }
 {
     let need = forest_room(weights, counts, shape.rows, trees);
     if room.nodes < need {

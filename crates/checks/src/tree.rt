@@ -1,6 +1,6 @@
 // The verdict of one tree's fit: the first of checks 1 to 6 that fails, or 0.
 ghost use mathlib.Core.Path.{_≡_};
-ghost use Rattle.rules.specs.Lent.{TreeRooms, Stack, stack, givenOf};
+ghost use Rattle.rules.specs.Lent.{TreeRooms, WaitingRoom, waitingRoom, givenOf};
 ghost use Rattle.rules.specs.Checks.{firstFailed};
 ghost use Rattle.rules.specs.Fit.{TreeCall, treeTests};
 ghost use Rattle.checks.specs.Verdicts.{TreeHas};
@@ -16,9 +16,9 @@ pub fn tree_verdict(
     listings: &[u32],
     room: Lengths,
 ) -> u32
-    ensures { λ r. ⌜ ((C : TreeCall) (R : TreeRooms Stack)
+    ensures { λ r. ⌜ ((C : TreeCall) (R : TreeRooms WaitingRoom)
         → TreeHas shape (givenOf (now (values .entry)) (now (targets .entry)) (now (weights .entry)) (now (counts .entry)) (now (listings .entry))) room C R
-        → r ≡ firstFailed (treeTests stack C R)) ⌝ }
+        → r ≡ firstFailed (treeTests waitingRoom C R)) ⌝ }
 {
     if !crate::shape_in(shape) {
         return 1;

@@ -84,13 +84,13 @@ fn fits() {
 
 // ---- a tree of three nodes, over two features
 
-fn tree(feature: u32, yes: u32, no: u32) {
+fn tree(feature: u32, truechild: u32, falsechild: u32) {
     let values = [5.0, 0.0, 10.0];
     let features = [feature, 0, 0];
     let thresholds = [2.5, 0.0, 0.0];
     let scores = [100.0, 0.0, 0.0];
-    let yeses = [yes, 0, 0];
-    let noes = [no, 0, 0];
+    let yeses = [truechild, 0, 0];
+    let noes = [falsechild, 0, 0];
     let r = tables::check_tree(2, &values, &features, &thresholds, &scores, &yeses, &noes);
     tell(number_of(r));
     let node = tables::read_node(

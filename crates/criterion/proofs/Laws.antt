@@ -9,7 +9,7 @@ use lib.Dec.{ltb, lt→ltb}
 use lib.Ieee.{Float, nan, binary64, mul, lt}
 use Rattle.rules.specs.Words.{nought, float}
 use Rattle.rules.specs.Lent.{unweighted, countIn, massIn, keptIn}
-use Rattle.laws.specs.Lists.{is-true}
+use Rattle.lemmas.specs.Lists.{is-true}
 
 none : (ws : List Float) → length ws ≡ 0 → unweighted ws ≡ true
 unfolding unweighted

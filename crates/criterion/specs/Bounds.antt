@@ -6,10 +6,10 @@ use lib.ListN.{length}
 use lib.Dec.{T}
 use lib.Ieee.{Float, lt, le}
 use lib.Ieee.Scale.{finite}
-use Rattle.rules.specs.Threshold.{threshold}
+use Rattle.rules.specs.Threshold.{thresholdBetween}
 
 pub record Between (p x r : Float) : Type 0 where
-  pub exact : r ≡ threshold p x
+  pub exact : r ≡ thresholdBetween p x
   pub inside : T (finite p) → T (finite x) → T (lt p x) → T (le p r) × T (lt r x)
 
 -- row i has a count, and a weight if there are weights

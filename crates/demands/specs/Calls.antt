@@ -10,22 +10,22 @@ use Rattle.rules.specs.declared.Place.{Place}
 use Rattle.rules.specs.declared.TreeAnswer.{TreeAnswer}
 use Rattle.rules.specs.declared.ForestAnswer.{ForestAnswer}
 use Rattle.rules.specs.declared.Reply.{Reply}
-use Rattle.rules.specs.Lent.{Data, Waits, Stack, stack, TreeRooms, ForestRooms, Outcome, entriesAt}
-use Rattle.rules.specs.Fit.{entries, TreeCall, frameOf, grownTree, fitTree}
+use Rattle.rules.specs.Lent.{Data, WaitingForm, WaitingRoom, waitingRoom, TreeRooms, ForestRooms, Outcome, entriesAt}
+use Rattle.rules.specs.Fit.{entries, TreeCall, oneTreeOf, grownTree, fitTree}
 use Rattle.rules.specs.Forest.{ForestCall, fitForest}
 use Rattle.rules.specs.OutOfBag.{outOfBagMeans}
-use Rattle.laws.specs.Passed.{Binary64}
-use Rattle.laws.specs.Answered.{TreeAnswered, tree-answered}
+use Rattle.lemmas.specs.Passed.{Binary64}
+use Rattle.lemmas.specs.Answered.{TreeAnswered, tree-answered}
 use Rattle.demands.specs.LeftOut.{Alike, over, SameFit, demand3}
 use Rattle.demands.specs.OutOfBag.{retarget, ButOne, SameMean, ok-same, own-target}
 use Rattle.demands.specs.Refusals.{Unrefused, TreeZero, tree-bad}
 use Rattle.demands.specs.Walks.{tableAfter, tree-left}
 
-module _ {W : Type 0} (K : Waits W) where
+module _ {W : Type 0} (K : WaitingForm W) where
   -- ---- demand 3: two calls that fit one tree, alike but for rows that the tree leaves out
 
   module _ (C : TreeCall) (E : Data) (R R′ : TreeRooms W) (x y : Outcome TreeAnswer (TreeRooms W)) (met : x ≡ fitTree K C R) (met′ : y ≡ fitTree K (over C E) R′)
-      (like : Alike (frameOf C) (C .given .inputs) E) (ok : Unrefused (x .answer)) (ok′ : Unrefused (y .answer)) where
+      (like : Alike (oneTreeOf C) (C .given .inputs) E) (ok : Unrefused (x .answer)) (ok′ : Unrefused (y .answer)) where
     same : SameFit K C (over C E) R R′
     same =
         demand3 W K C E R R′ like (subst (λ (o : Outcome TreeAnswer (TreeRooms W)). Unrefused (o .answer)) met ok)
@@ -53,7 +53,7 @@ module _ {W : Type 0} (K : Waits W) where
 
   -- in rooms that held the same they leave the same, every node among it
   pub calls-leave : (C : TreeCall) (E : Data) (R : TreeRooms W) (x y : Outcome TreeAnswer (TreeRooms W)) → x ≡ fitTree K C R → y ≡ fitTree K (over C E) R
-      → Alike (frameOf C) (C .given .inputs) E → Unrefused (x .answer) → Unrefused (y .answer) → x ≡ y
+      → Alike (oneTreeOf C) (C .given .inputs) E → Unrefused (x .answer) → Unrefused (y .answer) → x ≡ y
   calls-leave C E R x y met met′ like h h′ = met ∙ same C E R R x y met met′ like h h′ .outcomes ∙ sym met′
 
   -- ---- its corollary: two calls that fit a forest, alike but for row i's target, and the out-of-bag means read from what they left
@@ -73,11 +73,11 @@ module _ {W : Type 0} (K : Waits W) where
 
 -- ---- a bad draw, in whatever rooms: both calls leave 0 at every place
 
-zero-left : (C : TreeCall) (R : TreeRooms Stack) (x : Outcome TreeAnswer (TreeRooms Stack)) → x ≡ fitTree stack C R → (d : Place) → x .answer ≡ TreeAnswer.BadDraw d → TreeZero R (x .rooms)
-zero-left C R x met d h = subst (λ (o : Outcome TreeAnswer (TreeRooms Stack)). TreeZero R (o .rooms)) (sym met) (tree-bad C R d ((λ i. sym met i .answer) ∙ h))
+zero-left : (C : TreeCall) (R : TreeRooms WaitingRoom) (x : Outcome TreeAnswer (TreeRooms WaitingRoom)) → x ≡ fitTree waitingRoom C R → (d : Place) → x .answer ≡ TreeAnswer.BadDraw d → TreeZero R (x .rooms)
+zero-left C R x met d h = subst (λ (o : Outcome TreeAnswer (TreeRooms WaitingRoom)). TreeZero R (o .rooms)) (sym met) (tree-bad C R d ((λ i. sym met i .answer) ∙ h))
 
-pub calls-clear : (C : TreeCall) (E : Data) (R R′ : TreeRooms Stack) (x y : Outcome TreeAnswer (TreeRooms Stack)) → x ≡ fitTree stack C R → y ≡ fitTree stack (over C E) R′
-    → Alike (frameOf C) (C .given .inputs) E → Unrefused (x .answer) → Unrefused (y .answer) → (d : Place) → x .answer ≡ TreeAnswer.BadDraw d
+pub calls-clear : (C : TreeCall) (E : Data) (R R′ : TreeRooms WaitingRoom) (x y : Outcome TreeAnswer (TreeRooms WaitingRoom)) → x ≡ fitTree waitingRoom C R → y ≡ fitTree waitingRoom (over C E) R′
+    → Alike (oneTreeOf C) (C .given .inputs) E → Unrefused (x .answer) → Unrefused (y .answer) → (d : Place) → x .answer ≡ TreeAnswer.BadDraw d
     → TreeZero R (x .rooms) × TreeZero R′ (y .rooms)
 calls-clear C E R R′ x y met met′ like u u′ d h =
-    (zero-left C R x met d h, zero-left (over C E) R′ y met′ d (sym (calls-answer stack C E R R′ x y met met′ like u u′) ∙ h))
+    (zero-left C R x met d h, zero-left (over C E) R′ y met′ d (sym (calls-answer waitingRoom C E R R′ x y met met′ like u u′) ∙ h))

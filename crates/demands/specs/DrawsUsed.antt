@@ -1,5 +1,5 @@
 -- Draws used are exact. Over any tapes that begin with as many words and thresholds as a fit of one tree reports used, and the same ones, it is the same fit: what lies
--- beyond is never looked at, and may be cut off. With either cut to fewer, it is refusal 7. For more tape changes nothing (`growth-again` of crate laws), so a fit that
+-- beyond is never looked at, and may be cut off. With either cut to fewer, it is refusal 7. For more tape changes nothing (`growth-again` of crate lemmas), so a fit that
 -- answers over cut tapes is the whole fit, and has used no more than they hold. No check before growth looks at a tape. Assumes nothing.
 use Prim.Native.Nat.{ℕ, zero, suc, _-_, _<_, _≤_}
 use native.Mathlib.Nat.{le-refl}
@@ -11,15 +11,15 @@ use lib.Seq.{take-take, take-append-le}
 use lib.Ieee.{Float}
 use Rattle.rules.specs.declared.Report.{Report}
 use Rattle.rules.specs.declared.TreeAnswer.{TreeAnswer}
-use Rattle.rules.specs.Lent.{Data, Frame, Waits, TreeRooms, Outcome, kept, keptRows, zeroColumns, zeroWork}
+use Rattle.rules.specs.Lent.{Data, OneTree, WaitingForm, TreeRooms, Outcome, kept, keptRows, zeroColumns, zeroWork}
 use Rattle.rules.specs.Checks.{firstFailed, roomFor}
 use Rattle.rules.specs.Draws.{Out, bad, ok, bind, Tapes}
 use Rattle.rules.specs.Growth.{State}
-use Rattle.rules.specs.Fit.{element, listing, column, root, Tree, treeOf, rooted, fit, TreeCall, frameOf, grownTree, treeTests, treeDone, treeEnds, fitTree}
+use Rattle.rules.specs.Fit.{element, listing, column, root, Tree, treeOf, growFrom, fit, TreeCall, oneTreeOf, grownTree, treeTests, treeDone, treeEnds, fitTree}
 use Rattle.rules.specs.Answers.{Told, treeTold, told}
-use Rattle.laws.specs.Outs.{Then, then-then, then-any, then-both, then-after, then-of}
-use Rattle.laws.specs.Tapes.{Begins, used, growth, Again, growth-again}
-use Rattle.laws.specs.Answered.{TreeAnswered, tree-answered}
+use Rattle.lemmas.specs.Outs.{Then, then-then, then-any, then-both, then-after, then-of}
+use Rattle.lemmas.specs.Tapes.{Begins, used, growth, Again, growth-again}
+use Rattle.lemmas.specs.Answered.{TreeAnswered, tree-answered}
 
 -- ---- the statements
 
@@ -32,12 +32,12 @@ abbrev pub cutTo : ℕ → ℕ → TreeCall → TreeCall
 cutTo n m C = taped C (take n (C .words)) (take m (C .thresholds))
 
 -- a bad draw, with all rooms zero
-abbrev pub Refusal7 : {W : Type 0} → Waits W → TreeRooms W → Outcome TreeAnswer (TreeRooms W) → Type 0
+abbrev pub Refusal7 : {W : Type 0} → WaitingForm W → TreeRooms W → Outcome TreeAnswer (TreeRooms W) → Type 0
 Refusal7 K R o =
     (s : ℕ) × (o ≡ record { answer = TreeAnswer.BadDraw (record { tree = 0; search = s }); rooms = record { nodes = zeroColumns (R .nodes); work = zeroWork K (R .work) } })
 
 -- what the report r of a fit says of its tapes
-pub record Exact {W : Type 0} (K : Waits W) (C : TreeCall) (R : TreeRooms W) (r : Report) : Type 0 where
+pub record Exact {W : Type 0} (K : WaitingForm W) (C : TreeCall) (R : TreeRooms W) (r : Report) : Type 0 where
   pub begun : (ws : List ℕ) (ts : List Float) → Begins (r .words) (C .words) ws → Begins (r .thresholds) (C .thresholds) ts → fitTree K (taped C ws ts) R ≡ fitTree K C R
   pub longer : (ws : List ℕ) (ts : List Float) → fitTree K (taped C (C .words ++ ws) (C .thresholds ++ ts)) R ≡ fitTree K C R
   pub cut : (n m : ℕ) → r .words ≤ n → r .thresholds ≤ m → fitTree K (cutTo n m C) R ≡ fitTree K C R
@@ -45,14 +45,14 @@ pub record Exact {W : Type 0} (K : Waits W) (C : TreeCall) (R : TreeRooms W) (r 
   pub fewerThresholds : (n m : ℕ) → m < r .thresholds → Refusal7 K R (fitTree K (cutTo n m C) R)
 
 abbrev pub DrawsUsed : Type 1
-DrawsUsed = (W : Type 0) (K : Waits W) (C : TreeCall) (R : TreeRooms W) (r : Report) → fitTree K C R .answer ≡ TreeAnswer.Grown r → Exact K C R r
+DrawsUsed = (W : Type 0) (K : WaitingForm W) (C : TreeCall) (R : TreeRooms W) (r : Report) → fitTree K C R .answer ≡ TreeAnswer.Grown r → Exact K C R r
 
 -- a bad draw of the one tree, as it is told
 abbrev pub Tells7 : {R : Type 0} → Outcome Told R → Type 0
 Tells7 y = (y .answer .number ≡ 7) × (y .answer .tree ≡ 0)
 
 -- x is what a call left that told the report r, y what the call left with its tapes cut to what r says was used, or with either one shorter
-pub record CutExact {W : Type 0} (K : Waits W) (C : TreeCall) (R : TreeRooms W) (x : Outcome Told (TreeRooms W)) (r : Report) : Type 0 where
+pub record CutExact {W : Type 0} (K : WaitingForm W) (C : TreeCall) (R : TreeRooms W) (x : Outcome Told (TreeRooms W)) (r : Report) : Type 0 where
   pub same : (y : Outcome Told (TreeRooms W)) → y ≡ told treeTold (fitTree K (cutTo (r .words) (r .thresholds) C) R) → y ≡ x
   pub wordLess : 0 < r .words → (y : Outcome Told (TreeRooms W)) → y ≡ told treeTold (fitTree K (cutTo (r .words - 1) (r .thresholds) C) R) → Tells7 y
   pub thresholdLess : 0 < r .thresholds → (y : Outcome Told (TreeRooms W)) → y ≡ told treeTold (fitTree K (cutTo (r .words) (r .thresholds - 1) C) R) → Tells7 y
@@ -60,30 +60,30 @@ pub record CutExact {W : Type 0} (K : Waits W) (C : TreeCall) (R : TreeRooms W) 
 -- of a call that told no refusal
 abbrev pub CallsExact : Type 1
 CallsExact =
-    (W : Type 0) (K : Waits W) (C : TreeCall) (R : TreeRooms W) (x : Outcome Told (TreeRooms W)) → x ≡ told treeTold (fitTree K C R) → x .answer .number ≡ 0
+    (W : Type 0) (K : WaitingForm W) (C : TreeCall) (R : TreeRooms W) (x : Outcome Told (TreeRooms W)) → x ≡ told treeTold (fitTree K C R) → x .answer .number ≡ 0
     → CutExact K C R x (x .answer .report)
 
 -- ---- of a fit
 
 -- the same frame over other tapes
-abbrev over : Frame → List ℕ → List Float → Frame
+abbrev over : OneTree → List ℕ → List Float → OneTree
 over F ws ts = record { rows = F .rows; params = F .params; weights = F .weights; counts = F .counts; words = ws; thresholds = ts }
 
 -- it grows from the same root, and from the whole of the tapes
-fit-over : (F : Frame) (D : Data) (ws : List ℕ) (ts : List Float)
+fit-over : (F : OneTree) (D : Data) (ws : List ℕ) (ts : List Float)
     → fit (over F ws ts) D ≡ bind (growth (F .params) (root F D) (record { words = ws; thresholds = ts; searches = 0 })) (λ s. ok (treeOf (over F ws ts) (root F D) s))
-unfolding fit rooted root column element listing keptRows kept
+unfolding fit growFrom root column element listing keptRows kept
 fit-over F D ws ts = refl
 
 -- as much is used of a tape that begins so
 as-many : {A : Type 0} (l b k : List A) → Begins (used l b) l k → used k (drop (used l b) k) ≡ used l b
 as-many l b k h = omega (arith, length-drop (used l b) k, length-take (used l b) k, length-take (used l b) l, ap length h)
 
-abbrev SameOver : Frame → Data → Tree → Type 0
+abbrev SameOver : OneTree → Data → Tree → Type 0
 SameOver F D t = (ws : List ℕ) (ts : List Float) → Begins (t .report .words) (F .words) ws → Begins (t .report .thresholds) (F .thresholds) ts → fit (over F ws ts) D ≡ ok t
 
-pub fit-again : (F : Frame) (D : Data) → Then (fit F D) (SameOver F D)
-unfolding fit rooted treeOf bind
+pub fit-again : (F : OneTree) (D : Data) → Then (fit F D) (SameOver F D)
+unfolding fit growFrom treeOf bind
 fit-again F D = then-then (growth (F .params) (root F D) start) _ _ _ (growth-again (F .params) (root F D) start) again
   where
     start : Tapes
@@ -106,19 +106,19 @@ fit-again F D = then-then (growth (F .params) (root F D) start) _ _ _ (growth-ag
         }))
 
 -- no more is used than there is
-abbrev pub Within : Frame → Tree → Type 0
+abbrev pub Within : OneTree → Tree → Type 0
 Within F t = (t .report .words ≤ length (F .words)) × (t .report .thresholds ≤ length (F .thresholds))
 
-pub fit-within : (F : Frame) (D : Data) → Then (fit F D) (Within F)
-unfolding fit rooted treeOf
+pub fit-within : (F : OneTree) (D : Data) → Then (fit F D) (Within F)
+unfolding fit growFrom treeOf
 fit-within F D = then-any (growth (F .params) (root F D) _) _ _ (λ s. (omega arith, omega arith))
 
 -- tapes so cut that it still answers hold all that is used
-fit-cut : (F : Frame) (D : Data) (t : Tree) → fit F D ≡ ok t → (n m : ℕ)
+fit-cut : (F : OneTree) (D : Data) (t : Tree) → fit F D ≡ ok t → (n m : ℕ)
     → Then (fit (over F (take n (F .words)) (take m (F .thresholds))) D) (λ u. (t .report .words ≤ n) × (t .report .thresholds ≤ m))
 fit-cut F D t e n m = then-after (fit G D) _ _ (then-both (fit G D) _ _ (fit-within G D) (fit-again G D)) whole
   where
-    G : Frame
+    G : OneTree
     G = over F (take n (F .words)) (take m (F .thresholds))
 
     whole : (u : Tree) → Within G u × SameOver G D u → (t .report .words ≤ n) × (t .report .thresholds ≤ m)
@@ -131,25 +131,25 @@ fit-cut F D t e n m = then-after (fit G D) _ _ (then-both (fit G D) _ _ (fit-wit
 
 -- ---- of a call
 
-module _ {W : Type 0} (K : Waits W) (C : TreeCall) (R : TreeRooms W) (t : Tree) (passed : firstFailed (treeTests K C R) ≡ 0) (grew : fit (frameOf C) (C .given .inputs) ≡ ok t) where
+module _ {W : Type 0} (K : WaitingForm W) (C : TreeCall) (R : TreeRooms W) (t : Tree) (passed : firstFailed (treeTests K C R) ≡ 0) (grew : fit (oneTreeOf C) (C .given .inputs) ≡ ok t) where
   begins : (ws : List ℕ) (ts : List Float) → Begins (t .report .words) (C .words) ws → Begins (t .report .thresholds) (C .thresholds) ts → fitTree K (taped C ws ts) R ≡ fitTree K C R
-  unfolding fitTree treeTests grownTree frameOf roomFor keptRows kept
-  begins ws ts h k = ap (λ o. treeEnds K (firstFailed (treeTests K C R)) o R) (then-of (SameOver (frameOf C) _) _ t grew (fit-again (frameOf C) _) ws ts h k ∙ sym grew)
+  unfolding fitTree treeTests grownTree oneTreeOf roomFor keptRows kept
+  begins ws ts h k = ap (λ o. treeEnds K (firstFailed (treeTests K C R)) o R) (then-of (SameOver (oneTreeOf C) _) _ t grew (fit-again (oneTreeOf C) _) ws ts h k ∙ sym grew)
 
   short : (n m : ℕ) → ((t .report .words ≤ n) × (t .report .thresholds ≤ m) → ⊥) → Refusal7 K R (fitTree K (cutTo n m C) R)
-  unfolding fitTree treeTests treeEnds treeDone grownTree frameOf roomFor keptRows kept
-  short n m never = go (grownTree (cutTo n m C)) refl (fit-cut (frameOf C) (C .given .inputs) t grew n m)
+  unfolding fitTree treeTests treeEnds treeDone grownTree oneTreeOf roomFor keptRows kept
+  short n m never = go (grownTree (cutTo n m C)) refl (fit-cut (oneTreeOf C) (C .given .inputs) t grew n m)
     where
       go : (o : Out Tree) → grownTree (cutTo n m C) ≡ o → Then o (λ u. (t .report .words ≤ n) × (t .report .thresholds ≤ m)) → Refusal7 K R (fitTree K (cutTo n m C) R)
       go (bad s) e h = (s, λ i. treeEnds K (passed i) (e i) R)
       go (ok u) e h = absurd (never h)
 
 pub draws-used : DrawsUsed
-unfolding frameOf
+unfolding oneTreeOf
 draws-used W K C R r h =
     let a : TreeAnswered K C R r = tree-answered K C R r h in
     let t = a .tree in
-    let (w, v) = then-of (Within (frameOf C)) _ t (a .grew) (fit-within (frameOf C) _) in
+    let (w, v) = then-of (Within (oneTreeOf C)) _ t (a .grew) (fit-within (oneTreeOf C) _) in
     let again = begins K C R t (a .passed) (a .grew) in
     let less = short K C R t (a .passed) (a .grew) in
     subst (Exact K C R) (a .reported)
@@ -162,7 +162,7 @@ draws-used W K C R r h =
     })
 
 -- no refusal is told of a grown tree alone
-told-grown : {W : Type 0} (K : Waits W) (R : TreeRooms W) (k : ℕ) (o : Out Tree) → treeTold (treeEnds K k o R .answer) .number ≡ 0
+told-grown : {W : Type 0} (K : WaitingForm W) (R : TreeRooms W) (k : ℕ) (o : Out Tree) → treeTold (treeEnds K k o R .answer) .number ≡ 0
     → treeEnds K k o R .answer ≡ TreeAnswer.Grown (treeTold (treeEnds K k o R .answer) .report)
 unfolding treeEnds treeDone
 told-grown K R zero (bad s) h = absurd (omega arith)

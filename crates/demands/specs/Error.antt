@@ -19,7 +19,7 @@ use Rattle.rules.specs.declared.ErrorReply.{ErrorReply}
 use Rattle.rules.specs.Words.{nought, float}
 use Rattle.rules.specs.Checks.{firstFailed, within}
 use Rattle.rules.specs.OutOfBag.{squareOff, addSquares, errs, errorTests, outOfBagError}
-use Rattle.laws.specs.Passed.{past}
+use Rattle.lemmas.specs.Passed.{past}
 
 -- ---- the statements
 

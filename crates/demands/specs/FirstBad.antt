@@ -12,18 +12,18 @@ use Rattle.rules.specs.declared.Place.{Place}
 use Rattle.rules.specs.declared.TreeAnswer.{TreeAnswer}
 use Rattle.rules.specs.declared.ForestAnswer.{ForestAnswer}
 use Rattle.rules.specs.Words.{from}
-use Rattle.rules.specs.Lent.{Data, Frame, Waits, TreeRooms, ForestRooms, Outcome}
+use Rattle.rules.specs.Lent.{Data, OneTree, WaitingForm, TreeRooms, ForestRooms, Outcome}
 use Rattle.rules.specs.Checks.{firstFailed}
 use Rattle.rules.specs.Draws.{Out, bad, ok}
 use Rattle.rules.specs.Fit.{Tree, fit, treeDone, fitTree}
-use Rattle.rules.specs.Forest.{ForestCall, frameAt, frames, Forest, stopped, grownAll, withTree, nextTree, growTrees, grownForest, forestTests, forestDone, forestEnds, fitForest}
+use Rattle.rules.specs.Forest.{ForestCall, oneTreeAt, eachTree, Forest, stopped, grownAll, withTree, nextTree, growTrees, grownForest, forestTests, forestDone, forestEnds, fitForest}
 use Rattle.demands.specs.ItsTrees.{treeCallAt, ownRooms, own-fit, room-for-each, not-6}
 use Rattle.demands.specs.Refusals.{ForestUnrefused, forest-passes}
 
 -- ---- the statement
 
 -- tree t, fitted alone, meets a bad draw at search s, and none before it meets one
-pub record MeetsFirst {X : Type 0} (L : Waits X) (C : ForestCall) (Q : ℕ → TreeRooms X) (t s : ℕ) : Type 0 where
+pub record MeetsFirst {X : Type 0} (L : WaitingForm X) (C : ForestCall) (Q : ℕ → TreeRooms X) (t s : ℕ) : Type 0 where
   pub inside : t < C .trees
   pub met : fitTree L (treeCallAt C t) (Q t) .answer ≡ TreeAnswer.BadDraw (record { tree = 0; search = s })
   pub before : (u : ℕ) → u < t → (r : Report) × (fitTree L (treeCallAt C u) (Q u) .answer ≡ TreeAnswer.Grown r)
@@ -31,14 +31,14 @@ pub record MeetsFirst {X : Type 0} (L : Waits X) (C : ForestCall) (Q : ℕ → T
 -- each tree in rooms of its own, not too small
 abbrev pub FirstBad : Type 1
 FirstBad =
-    (W X : Type 0) (K : Waits W) (L : Waits X) (C : ForestCall) (R : ForestRooms W) → ForestUnrefused (fitForest K C R .answer)
+    (W X : Type 0) (K : WaitingForm W) (L : WaitingForm X) (C : ForestCall) (R : ForestRooms W) → ForestUnrefused (fitForest K C R .answer)
     → (Q : ℕ → TreeRooms X) → ((t : ℕ) → t < C .trees → fitTree L (treeCallAt C t) (Q t) .answer ≢ TreeAnswer.Refused 6)
     → (t s : ℕ) → (fitForest K C R .answer ≡ ForestAnswer.BadDraw (record { tree = t; search = s })) ↔ MeetsFirst L C Q t s
 
 -- as the forest's own are
 abbrev pub FirstBadAlone : Type 1
 FirstBadAlone =
-    (W : Type 0) (K : Waits W) (C : ForestCall) (R : ForestRooms W) → ForestUnrefused (fitForest K C R .answer)
+    (W : Type 0) (K : WaitingForm W) (C : ForestCall) (R : ForestRooms W) → ForestUnrefused (fitForest K C R .answer)
     → (t s : ℕ) → (fitForest K C R .answer ≡ ForestAnswer.BadDraw (record { tree = t; search = s })) ↔ MeetsFirst K C (λ u. ownRooms R) t s
 
 -- ---- n trees, grown one after another
@@ -46,7 +46,7 @@ FirstBadAlone =
 ok≢bad : (x : Tree) (s : ℕ) → ok x ≡ bad s → ⊥
 ok≢bad x s e = let z : _≡_ {A = ℕ} 0 1 = cc in absurd (omega arith)
 
-module _ (F : ℕ → Frame) (D : Data) where
+module _ (F : ℕ → OneTree) (D : Data) where
   -- of n trees from tree k on
   record Stops (k n t s : ℕ) : Type 0 where
     above : k ≤ t
@@ -96,34 +96,34 @@ module _ (F : ℕ → Frame) (D : Data) where
           ap (withTree x) (ih (record { above = omega (arith, e .above, z); below = omega (arith, e .below); met = e .met; before = λ u y w. e .before u (omega (arith, y)) w }))
 
 -- an answer tells what the growth came to
-bad-forest : {W : Type 0} (K : Waits W) (R : ForestRooms W) (d : Place) (f : Forest) → forestDone K f R .answer ≡ ForestAnswer.BadDraw d → f ≡ stopped d
+bad-forest : {W : Type 0} (K : WaitingForm W) (R : ForestRooms W) (d : Place) (f : Forest) → forestDone K f R .answer ≡ ForestAnswer.BadDraw d → f ≡ stopped d
 unfolding forestDone
 bad-forest K R d (stopped e) h = cc
 bad-forest K R d (grownAll ts) h = let z : _≡_ {A = ℕ} 0 1 = cc in absurd (omega arith)
 
-bad-tree : {X : Type 0} (L : Waits X) (Q : TreeRooms X) (s : ℕ) (o : Out Tree) → treeDone L o Q .answer ≡ TreeAnswer.BadDraw (record { tree = 0; search = s }) → o ≡ bad s
+bad-tree : {X : Type 0} (L : WaitingForm X) (Q : TreeRooms X) (s : ℕ) (o : Out Tree) → treeDone L o Q .answer ≡ TreeAnswer.BadDraw (record { tree = 0; search = s }) → o ≡ bad s
 unfolding treeDone
 bad-tree L Q s (bad b) h = let p : _≡_ {A = Place} (record { tree = 0; search = b }) (record { tree = 0; search = s }) = cc in ap (λ (d : Place). bad (d .search)) p
 bad-tree L Q s (ok x) h = let z : _≡_ {A = ℕ} 0 1 = cc in absurd (omega arith)
 
-grown-tree : {X : Type 0} (L : Waits X) (Q : TreeRooms X) (r : Report) (o : Out Tree) → treeDone L o Q .answer ≡ TreeAnswer.Grown r → (x : Tree) × (o ≡ ok x)
+grown-tree : {X : Type 0} (L : WaitingForm X) (Q : TreeRooms X) (r : Report) (o : Out Tree) → treeDone L o Q .answer ≡ TreeAnswer.Grown r → (x : Tree) × (o ≡ ok x)
 unfolding treeDone
 grown-tree L Q r (bad b) h = let z : _≡_ {A = ℕ} 0 1 = cc in absurd (omega arith)
 grown-tree L Q r (ok x) h = (x, refl)
 
 pub first-bad : FirstBad
-unfolding fitForest forestEnds forestDone grownForest frames treeDone
+unfolding fitForest forestEnds forestDone grownForest eachTree treeDone
 first-bad W X K L C R g Q n t s = (there, back)
   where
     q : firstFailed (forestTests K C R) ≡ 0
     q = forest-passes K C R g
 
-    own : (u : ℕ) → u < C .trees → fitTree L (treeCallAt C u) (Q u) .answer ≡ treeDone L (fit (frameAt C u) (C .given .inputs)) (Q u) .answer
+    own : (u : ℕ) → u < C .trees → fitTree L (treeCallAt C u) (Q u) .answer ≡ treeDone L (fit (oneTreeAt C u) (C .given .inputs)) (Q u) .answer
     own u h = ap (λ (o : Outcome TreeAnswer (TreeRooms X)). o .answer) (own-fit K L C R q u h (Q u) (n u h))
 
     there : fitForest K C R .answer ≡ ForestAnswer.BadDraw (record { tree = t; search = s }) → MeetsFirst L C Q t s
     there e =
-        let st : Stops (frameAt C) (C .given .inputs) 0 (C .trees) t s = stops (frameAt C) (C .given .inputs) 0 (C .trees) t s
+        let st : Stops (oneTreeAt C) (C .given .inputs) 0 (C .trees) t s = stops (oneTreeAt C) (C .given .inputs) 0 (C .trees) t s
         (bad-forest K R _ (grownForest C) ((λ i. forestEnds K (sym q i) (grownForest C) R .answer) ∙ e)) in
         let h : t < C .trees = omega (arith, st .below) in
         record {
@@ -134,7 +134,7 @@ first-bad W X K L C R g Q n t s = (there, back)
 
     back : MeetsFirst L C Q t s → fitForest K C R .answer ≡ ForestAnswer.BadDraw (record { tree = t; search = s })
     back m =
-        λ i. forestEnds K (q i) (stops-so (frameAt C) (C .given .inputs) 0 (C .trees) t s (record {
+        λ i. forestEnds K (q i) (stops-so (oneTreeAt C) (C .given .inputs) 0 (C .trees) t s (record {
           above = omega arith;
           below = omega (arith, m .inside);
           met = bad-tree L (Q t) s _ (sym (own t (m .inside)) ∙ m .met);

@@ -20,17 +20,17 @@ use Rattle.rules.specs.declared.Place.{Place}
 use Rattle.rules.specs.declared.TreeAnswer.{TreeAnswer}
 use Rattle.rules.specs.declared.ForestAnswer.{ForestAnswer}
 use Rattle.rules.specs.Words.{from, front, filled, total}
-use Rattle.rules.specs.Lent.{Data, Frame, Reports, Waits, TreeRooms, ForestRooms, Outcome, kept, keptRows, shortest, zeroColumns, zeroReports, zeroWork}
-use Rattle.rules.specs.Checks.{firstFailed, lengths, goodCuts, roomFor}
-use Rattle.rules.specs.Fit.{Tree, fit, frameOf, fitTree}
-use Rattle.rules.specs.Forest.{ForestCall, forestCall, part, frameAt, frames, Forest, stopped, grownAll, nextTree, growTrees, grownForest, cutsGood, roomsGood, forestTests, forestDone, forestEnds, fitForest}
+use Rattle.rules.specs.Lent.{Data, OneTree, Reports, WaitingForm, TreeRooms, ForestRooms, Outcome, kept, keptRows, shortest, zeroColumns, zeroReports, zeroWork}
+use Rattle.rules.specs.Checks.{firstFailed, lengths, goodStarts, roomFor}
+use Rattle.rules.specs.Fit.{Tree, fit, oneTreeOf, fitTree}
+use Rattle.rules.specs.Forest.{ForestCall, forestCall, part, oneTreeAt, eachTree, Forest, stopped, grownAll, nextTree, growTrees, grownForest, tapesGood, roomsGood, forestTests, forestDone, forestEnds, fitForest}
 use Rattle.rules.specs.Answers.{Told, forestTold, told}
-use Rattle.laws.specs.Lists.{Every, every-imp, from-below, drop-take, total-map, length-from, getD-from}
-use Rattle.laws.specs.Outs.{then-of}
-use Rattle.laws.specs.Tapes.{Begins}
-use Rattle.laws.specs.Passed.{past, goes-on, none-fails}
-use Rattle.laws.specs.Written.{front-length}
-use Rattle.laws.specs.Answered.{TreeAnswered, tree-answered, ForestAnswered, forest-answered, forest-right, trees-length}
+use Rattle.lemmas.specs.Lists.{Every, every-imp, from-below, drop-take, total-map, length-from, getD-from}
+use Rattle.lemmas.specs.Outs.{then-of}
+use Rattle.lemmas.specs.Tapes.{Begins}
+use Rattle.lemmas.specs.Passed.{past, goes-on, none-fails}
+use Rattle.lemmas.specs.Written.{front-length}
+use Rattle.lemmas.specs.Answered.{TreeAnswered, tree-answered, ForestAnswered, forest-answered, forest-right, trees-length}
 use Rattle.demands.specs.Pieces.{sums, cutsOf, piece-at, cuts-good}
 use Rattle.demands.specs.Numbers.{columns-long}
 use Rattle.demands.specs.ItsTrees.{between, treeCallAt, reportAt, ownRooms, frame-same, its-trees, tree-alone}
@@ -43,7 +43,7 @@ use Rattle.demands.specs.DrawsUsed.{cutTo, Refusal7, Exact, fit-again, W
 -- each tree alone, in any rooms that are not too small
 abbrev pub EachExact : Type 1
 EachExact =
-    (W X : Type 0) (K : Waits W) (L : Waits X) (C : ForestCall) (R : ForestRooms W) → fitForest K C R .answer ≡ ForestAnswer.Grown
+    (W X : Type 0) (K : WaitingForm W) (L : WaitingForm X) (C : ForestCall) (R : ForestRooms W) → fitForest K C R .answer ≡ ForestAnswer.Grown
     → (t : ℕ) → t < C .trees → (Q : TreeRooms X) → fitTree L (treeCallAt C t) Q .answer ≢ TreeAnswer.Refused 6
     → Exact L (treeCallAt C t) Q (reportAt (fitForest K C R .rooms .reports) t)
 
@@ -56,7 +56,7 @@ thresholdsAt C t = treeCallAt C t .thresholds
 
 -- the same call over other tapes
 abbrev pub retaped : ForestCall → List ℕ → List Float → List ℕ → List ℕ → ForestCall
-retaped C ws ts wordCuts thresholdCuts = forestCall (C .shape) (C .trees) (C .settings) (C .tried) (C .given) ws ts wordCuts thresholdCuts
+retaped C ws ts wordStarts thresholdStarts = forestCall (C .shape) (C .trees) (C .settings) (C .tried) (C .given) ws ts wordStarts thresholdStarts
 
 -- of each part as many as place t of ns says
 abbrev pub shortened : {A : Type 0} → ℕ → List ℕ → (ℕ → List A) → List (List A)
@@ -80,7 +80,7 @@ abbrev pub Enough : ℕ → List ℕ → List ℕ → Type 0
 Enough n used ns = (t : ℕ) → t < n → getD used t 0 ≤ getD ns t 0
 
 -- a bad draw at tree t, with all rooms zero
-abbrev pub BadAt : {W : Type 0} → Waits W → ForestRooms W → ℕ → Outcome ForestAnswer (ForestRooms W) → Type 0
+abbrev pub BadAt : {W : Type 0} → WaitingForm W → ForestRooms W → ℕ → Outcome ForestAnswer (ForestRooms W) → Type 0
 BadAt K R t o =
     (s : ℕ)
     × (o ≡ record {
@@ -89,20 +89,20 @@ BadAt K R t o =
     })
 
 -- what the report columns c of a fit say of its tapes
-pub record ForestExact {W : Type 0} (K : Waits W) (C : ForestCall) (R : ForestRooms W) (c : Reports) : Type 0 where
-  pub begun : (ws : List ℕ) (ts : List Float) (wordCuts thresholdCuts : List ℕ) → T (cutsGood (retaped C ws ts wordCuts thresholdCuts)) → Begun c C (retaped C ws ts wordCuts thresholdCuts)
-      → fitForest K (retaped C ws ts wordCuts thresholdCuts) R ≡ fitForest K C R
+pub record ForestExact {W : Type 0} (K : WaitingForm W) (C : ForestCall) (R : ForestRooms W) (c : Reports) : Type 0 where
+  pub begun : (ws : List ℕ) (ts : List Float) (wordStarts thresholdStarts : List ℕ) → T (tapesGood (retaped C ws ts wordStarts thresholdStarts)) → Begun c C (retaped C ws ts wordStarts thresholdStarts)
+      → fitForest K (retaped C ws ts wordStarts thresholdStarts) R ≡ fitForest K C R
   pub cut : (ns ms : List ℕ) → Enough (C .trees) (c .words) ns → Enough (C .trees) (c .thresholds) ms → fitForest K (forestCut ns ms C) R ≡ fitForest K C R
   pub fewerWords : (ns ms : List ℕ) (t : ℕ) → t < C .trees → Enough t (c .words) ns → Enough t (c .thresholds) ms → getD ns t 0 < getD (c .words) t 0
       → BadAt K R t (fitForest K (forestCut ns ms C) R)
   pub fewerThresholds : (ns ms : List ℕ) (t : ℕ) → t < C .trees → Enough t (c .words) ns → Enough t (c .thresholds) ms → getD ms t 0 < getD (c .thresholds) t 0
       → BadAt K R t (fitForest K (forestCut ns ms C) R)
-  pub wordCuts : (ms : List ℕ) → forestCut (c .words) ms C .wordCuts ≡ 0 ∷ sums 0 (c .words)
-  pub thresholdCuts : (ns : List ℕ) → forestCut ns (c .thresholds) C .thresholdCuts ≡ 0 ∷ sums 0 (c .thresholds)
+  pub wordStarts : (ms : List ℕ) → forestCut (c .words) ms C .wordStarts ≡ 0 ∷ sums 0 (c .words)
+  pub thresholdStarts : (ns : List ℕ) → forestCut ns (c .thresholds) C .thresholdStarts ≡ 0 ∷ sums 0 (c .thresholds)
 
 abbrev pub ForestDraws : Type 1
 ForestDraws =
-    (W : Type 0) (K : Waits W) (C : ForestCall) (R : ForestRooms W) → fitForest K C R .answer ≡ ForestAnswer.Grown → ForestExact K C R (fitForest K C R .rooms .reports)
+    (W : Type 0) (K : WaitingForm W) (C : ForestCall) (R : ForestRooms W) → fitForest K C R .answer ≡ ForestAnswer.Grown → ForestExact K C R (fitForest K C R .rooms .reports)
 
 -- one less at place t
 abbrev pub lessAt : ℕ → List ℕ → List ℕ
@@ -113,7 +113,7 @@ abbrev pub ToldBad : {W : Type 0} → ℕ → Outcome Told (ForestRooms W) → T
 ToldBad t y = (y .answer .number ≡ 7) × (y .answer .tree ≡ t)
 
 -- x is what a call left, the columns c among it, y what the call left with its tapes cut to what c says was used, or with one tree's words or thresholds one shorter
-pub record ForestCutExact {W : Type 0} (K : Waits W) (C : ForestCall) (R : ForestRooms W) (x : Outcome Told (ForestRooms W)) (c : Reports) : Type 0 where
+pub record ForestCutExact {W : Type 0} (K : WaitingForm W) (C : ForestCall) (R : ForestRooms W) (x : Outcome Told (ForestRooms W)) (c : Reports) : Type 0 where
   pub same : (y : Outcome Told (ForestRooms W)) → y ≡ told forestTold (fitForest K (forestCut (c .words) (c .thresholds) C) R) → y ≡ x
   pub wordLess : (t : ℕ) → t < C .trees → 0 < getD (c .words) t 0
       → (y : Outcome Told (ForestRooms W)) → y ≡ told forestTold (fitForest K (forestCut (lessAt t (c .words)) (c .thresholds) C) R) → ToldBad t y
@@ -123,7 +123,7 @@ pub record ForestCutExact {W : Type 0} (K : Waits W) (C : ForestCall) (R : Fores
 -- of a call that told no refusal
 abbrev pub ForestCallsExact : Type 1
 ForestCallsExact =
-    (W : Type 0) (K : Waits W) (C : ForestCall) (R : ForestRooms W) (x : Outcome Told (ForestRooms W)) → x ≡ told forestTold (fitForest K C R) → x .answer .number ≡ 0
+    (W : Type 0) (K : WaitingForm W) (C : ForestCall) (R : ForestRooms W) (x : Outcome Told (ForestRooms W)) → x ≡ told forestTold (fitForest K C R) → x .answer .number ≡ 0
     → ForestCutExact K C R x (x .rooms .reports)
 
 -- ---- each tree
@@ -141,8 +141,8 @@ module _ {A : Type 0} (trees : ℕ) (ns : List ℕ) (p : ℕ → List A) where
   as-many = length-map (from 0 trees) (λ t. take (getD ns t 0) (p t)) ∙ length-from 0 trees
 
   -- its table is good
-  good-anew : T (goodCuts trees (length (flatten pieces)) (cutsOf pieces))
-  good-anew = subst (λ n. T (goodCuts n (length (flatten pieces)) (cutsOf pieces))) as-many (cuts-good pieces)
+  good-anew : T (goodStarts trees (length (flatten pieces)) (cutsOf pieces))
+  good-anew = subst (λ n. T (goodStarts n (length (flatten pieces)) (cutsOf pieces))) as-many (cuts-good pieces)
 
   piece : (t : ℕ) → t < trees → getD pieces t [] ≡ take (getD ns t 0) (p t)
   piece t h = getD-from (λ t. take (getD ns t 0) (p t)) 0 trees t [] h ∙ ap (λ t. take (getD ns t 0) (p t)) (zero-add t)
@@ -180,36 +180,36 @@ call-cut C ns ms t h =
       thresholds = own-part (C .trees) ms (thresholdsAt C) t h i;
     }
 
-cut-good : (C : ForestCall) (ns ms : List ℕ) → T (cutsGood (forestCut ns ms C))
-unfolding cutsGood
+cut-good : (C : ForestCall) (ns ms : List ℕ) → T (tapesGood (forestCut ns ms C))
+unfolding tapesGood
 cut-good C ns ms =
     let new = forestCut ns ms C in
-    and-i (goodCuts (C .trees) (length (new .words)) (new .wordCuts)) (goodCuts (C .trees) (length (new .thresholds)) (new .thresholdCuts))
+    and-i (goodStarts (C .trees) (length (new .words)) (new .wordStarts)) (goodStarts (C .trees) (length (new .thresholds)) (new .thresholdStarts))
     (good-anew (C .trees) ns (wordsAt C)) (good-anew (C .trees) ms (thresholdsAt C))
 
 -- ---- other tapes are not refused before growth
 
-done-unrefused : {W : Type 0} (K : Waits W) (f : Forest) (R : ForestRooms W) → ForestUnrefused (forestDone K f R .answer)
+done-unrefused : {W : Type 0} (K : WaitingForm W) (f : Forest) (R : ForestRooms W) → ForestUnrefused (forestDone K f R .answer)
 unfolding forestDone
 done-unrefused K (stopped d) R = tt
 done-unrefused K (grownAll ts) R = tt
 
-module _ {W : Type 0} (K : Waits W) (C : ForestCall) (R : ForestRooms W) (q : firstFailed (forestTests K C R) ≡ 0) (ws : List ℕ) (ts : List Float) (wordCuts thresholdCuts : List ℕ)
-    (good : T (cutsGood (retaped C ws ts wordCuts thresholdCuts))) where
+module _ {W : Type 0} (K : WaitingForm W) (C : ForestCall) (R : ForestRooms W) (q : firstFailed (forestTests K C R) ≡ 0) (ws : List ℕ) (ts : List Float) (wordStarts thresholdStarts : List ℕ)
+    (good : T (tapesGood (retaped C ws ts wordStarts thresholdStarts))) where
   abbrev new : ForestCall
-  new = retaped C ws ts wordCuts thresholdCuts
+  new = retaped C ws ts wordStarts thresholdStarts
 
   still-passes : firstFailed (forestTests K new R) ≡ 0
-  unfolding forestTests roomsGood frames frameAt roomFor keptRows kept
+  unfolding forestTests roomsGood eachTree oneTreeAt roomFor keptRows kept
   still-passes =
       let (t₁, q₂) = past 0 _ _ q in let (t₂, q₃) = past 1 _ _ q₂ in let (t₃, q₄) = past 2 _ _ q₃ in
       let (t₄, q₅) = past 3 _ _ q₄ in let (t₅, q₆) = past 4 _ _ q₅ in let (t₆, q₇) = past 5 _ _ q₆ in
       let n = lengths (C .shape) (C .trees) (C .given) in
-      goes-on 1 _ _ t₁ (goes-on 2 _ _ (and-i n (cutsGood new) (and-l n (cutsGood C) t₂) good)
+      goes-on 1 _ _ t₁ (goes-on 2 _ _ (and-i n (tapesGood new) (and-l n (tapesGood C) t₂) good)
       (goes-on 3 _ _ t₃ (goes-on 4 _ _ t₄ (goes-on 5 _ _ t₅ (goes-on 6 _ _ (subst (λ k. T (leb k (shortest (R .nodes)) && roomsGood K C R)) rooms t₆) none-fails)))))
     where
-      rooms : total roomFor (frames C) ≡ total roomFor (frames new)
-      rooms = total-map roomFor (frameAt C) (from 0 (C .trees)) ∙ sym (total-map roomFor (frameAt new) (from 0 (C .trees)))
+      rooms : total roomFor (eachTree C) ≡ total roomFor (eachTree new)
+      rooms = total-map roomFor (oneTreeAt C) (from 0 (C .trees)) ∙ sym (total-map roomFor (oneTreeAt new) (from 0 (C .trees)))
 
   still-unrefused : ForestUnrefused (fitForest K new R .answer)
   unfolding fitForest forestEnds
@@ -217,7 +217,7 @@ module _ {W : Type 0} (K : Waits W) (C : ForestCall) (R : ForestRooms W) (q : fi
 
 -- ---- a bad draw leaves all rooms zero
 
-all-zero : {W : Type 0} (K : Waits W) (R : ForestRooms W) (d : Place) (k : ℕ) (f : Forest) → forestEnds K k f R .answer ≡ ForestAnswer.BadDraw d
+all-zero : {W : Type 0} (K : WaitingForm W) (R : ForestRooms W) (d : Place) (k : ℕ) (f : Forest) → forestEnds K k f R .answer ≡ ForestAnswer.BadDraw d
     → forestEnds K k f R ≡ forestDone K (stopped d) R
 unfolding forestEnds forestDone
 all-zero K R d zero (stopped e) h = λ i. record { answer = h i; rooms = forestDone K (stopped e) R .rooms }
@@ -226,12 +226,12 @@ all-zero K R d (suc k) f h = let z : _≡_ {A = ℕ} 0 1 = cc in absurd (omega a
 
 -- ---- growth, tree after tree
 
-grow-same : (F G : ℕ → Frame) (D : Data) (k : ℕ) (l : List ℕ) → Every (λ t. fit (F t) D ≡ fit (G t) D) l → growTrees k (map F l) D ≡ growTrees k (map G l) D
+grow-same : (F G : ℕ → OneTree) (D : Data) (k : ℕ) (l : List ℕ) → Every (λ t. fit (F t) D ≡ fit (G t) D) l → growTrees k (map F l) D ≡ growTrees k (map G l) D
 unfolding growTrees
 grow-same F G D k [] h = refl
 grow-same F G D k (t ∷ l) h = λ i. nextTree k (h .0 i) (grow-same F G D (suc k) l (h .1) i)
 
-module _ {W : Type 0} (K : Waits W) (C : ForestCall) (R : ForestRooms W) (g : fitForest K C R .answer ≡ ForestAnswer.Grown) where
+module _ {W : Type 0} (K : WaitingForm W) (C : ForestCall) (R : ForestRooms W) (g : fitForest K C R .answer ≡ ForestAnswer.Grown) where
   abbrev columns : Reports
   columns = fitForest K C R .rooms .reports
 
@@ -241,23 +241,23 @@ module _ {W : Type 0} (K : Waits W) (C : ForestCall) (R : ForestRooms W) (g : fi
   answered : (t : ℕ) → t < C .trees → TreeAnswered K (treeCallAt C t) (ownRooms R) (reportAt columns t)
   answered t h = tree-answered K (treeCallAt C t) (ownRooms R) _ (tree-alone K C R g t h .answer)
 
-  exact-begun : (ws : List ℕ) (ts : List Float) (wordCuts thresholdCuts : List ℕ) → T (cutsGood (retaped C ws ts wordCuts thresholdCuts)) → Begun columns C (retaped C ws ts wordCuts thresholdCuts)
-      → fitForest K (retaped C ws ts wordCuts thresholdCuts) R ≡ fitForest K C R
-  unfolding fitForest grownForest frames frameOf
-  exact-begun ws ts wordCuts thresholdCuts good b =
-      λ i. forestEnds K ((still-passes K C R passed ws ts wordCuts thresholdCuts good ∙ sym passed) i)
-      (grow-same (frameAt E) (frameAt C) D 0 (from 0 (C .trees)) (every-imp _ _ (λ t h. same t (omega (arith, h))) (from 0 (C .trees)) (from-below 0 (C .trees))) i) R
+  exact-begun : (ws : List ℕ) (ts : List Float) (wordStarts thresholdStarts : List ℕ) → T (tapesGood (retaped C ws ts wordStarts thresholdStarts)) → Begun columns C (retaped C ws ts wordStarts thresholdStarts)
+      → fitForest K (retaped C ws ts wordStarts thresholdStarts) R ≡ fitForest K C R
+  unfolding fitForest grownForest eachTree oneTreeOf
+  exact-begun ws ts wordStarts thresholdStarts good b =
+      λ i. forestEnds K ((still-passes K C R passed ws ts wordStarts thresholdStarts good ∙ sym passed) i)
+      (grow-same (oneTreeAt E) (oneTreeAt C) D 0 (from 0 (C .trees)) (every-imp _ _ (λ t h. same t (omega (arith, h))) (from 0 (C .trees)) (from-below 0 (C .trees))) i) R
     where
       E : ForestCall
-      E = retaped C ws ts wordCuts thresholdCuts
+      E = retaped C ws ts wordStarts thresholdStarts
 
       D : Data
       D = C .given .inputs
 
-      same : (t : ℕ) → t < C .trees → fit (frameAt E t) D ≡ fit (frameAt C t) D
+      same : (t : ℕ) → t < C .trees → fit (oneTreeAt E t) D ≡ fit (oneTreeAt C t) D
       same t h =
           let a = answered t h in
-          let F : Frame = frameOf (treeCallAt C t) in
+          let F : OneTree = oneTreeOf (treeCallAt C t) in
           let (w, v) = subst (λ (r : Report). Begins (r .words) (F .words) (wordsAt E t) × Begins (r .thresholds) (F .thresholds) (thresholdsAt E t)) (sym (a .reported)) (b t h) in
           (λ i. fit (sym (frame-same E t) i) D) ∙ then-of _ (fit F D) (a .tree) (a .grew) (fit-again F D) _ _ w v ∙ sym (a .grew) ∙ (λ i. fit (frame-same C t i) D)
 
@@ -288,11 +288,11 @@ module _ {W : Type 0} (K : Waits W) (C : ForestCall) (R : ForestRooms W) (g : fi
 
   -- no tree uses more than it has
   within : (t : ℕ) → t < C .trees → (getD (columns .words) t 0 ≤ length (wordsAt C t)) × (getD (columns .thresholds) t 0 ≤ length (thresholdsAt C t))
-  unfolding frameOf
+  unfolding oneTreeOf
   within t h =
       let a = answered t h in
       subst (λ (r : Report). (r .words ≤ length (wordsAt C t)) × (r .thresholds ≤ length (thresholdsAt C t))) (a .reported)
-      (then-of (Within (frameOf (treeCallAt C t))) _ (a .tree) (a .grew) (fit-within (frameOf (treeCallAt C t)) (C .given .inputs)))
+      (then-of (Within (oneTreeOf (treeCallAt C t))) _ (a .tree) (a .grew) (fit-within (oneTreeOf (treeCallAt C t)) (C .given .inputs)))
 
   -- the columns have a place a tree
   long : (length (columns .words) ≡ C .trees) × (length (columns .thresholds) ≡ C .trees)
@@ -319,12 +319,12 @@ forest-draws W K C R g =
       cut = exact-cut K C R g;
       fewerWords = λ ns ms t h l m b. short K C R g ns ms t h l m (alone K C R g t h .fewerWords (getD ns t 0) (getD ms t 0) b);
       fewerThresholds = λ ns ms t h l m b. short K C R g ns ms t h l m (alone K C R g t h .fewerThresholds (getD ns t 0) (getD ms t 0) b);
-      wordCuts = λ ms. sums-anew (C .trees) (columns K C R g .words) (wordsAt C) (long K C R g .0) (λ t h. within K C R g t h .0);
-      thresholdCuts = λ ns. sums-anew (C .trees) (columns K C R g .thresholds) (thresholdsAt C) (long K C R g .1) (λ t h. within K C R g t h .1);
+      wordStarts = λ ms. sums-anew (C .trees) (columns K C R g .words) (wordsAt C) (long K C R g .0) (λ t h. within K C R g t h .0);
+      thresholdStarts = λ ns. sums-anew (C .trees) (columns K C R g .thresholds) (thresholdsAt C) (long K C R g .1) (λ t h. within K C R g t h .1);
     }
 
 -- no refusal is told of a grown forest alone
-told-grown : {W : Type 0} (K : Waits W) (R : ForestRooms W) (k : ℕ) (f : Forest) → forestTold (forestEnds K k f R .answer) .number ≡ 0 → forestEnds K k f R .answer ≡ ForestAnswer.Grown
+told-grown : {W : Type 0} (K : WaitingForm W) (R : ForestRooms W) (k : ℕ) (f : Forest) → forestTold (forestEnds K k f R .answer) .number ≡ 0 → forestEnds K k f R .answer ≡ ForestAnswer.Grown
 unfolding forestEnds forestDone
 told-grown K R zero (stopped d) h = absurd (omega arith)
 told-grown K R zero (grownAll ts) h = refl

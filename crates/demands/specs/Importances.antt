@@ -5,7 +5,7 @@ use Prim.Native.Nat.{ℕ, zero, suc, _<_, min}
 use native.Mathlib.Nat.{zero-add}
 use native.Mathlib.Omega.{arith}
 use mathlib.Core.Path.{_≡_, refl, sym, ap, _∙_, subst}
-use mathlib.Core.Bool.{Bool, true, false}
+use mathlib.Core.Bool.{Bool, true, false, not}
 use mathlib.Core.List.{List, [], _∷_, _++_, map, append-nil}
 use lib.ListN.{length, getD, replicate, length-map, length-replicate, List·getD-map}
 use lib.Seq.{drop-nil}
@@ -24,9 +24,9 @@ use Rattle.rules.specs.Checks.{firstFailed, featuresIn, treesIn}
 use Rattle.rules.specs.Table.{isLeaf, goodTree, treeIn, ForestTable, startsGood, treeAt, treesOf, goodForest}
 use Rattle.rules.specs.Reading.{reads, scored, addScores, scoresOf, sumFrom, dividedIf, normalised, scaled, treeImportanceTests, treeImportances}
 use Rattle.rules.specs.Reading.{addEach, addImportances, forestImportanceTests, forestImportances}
-use Rattle.laws.specs.Lists.{Every, each, every-imp, from-below}
-use Rattle.laws.specs.Passed.{past, goes-on, none-fails}
-use Rattle.laws.specs.Written.{entries-written}
+use Rattle.lemmas.specs.Lists.{Every, each, every-imp, from-below}
+use Rattle.lemmas.specs.Passed.{past, goes-on, none-fails}
+use Rattle.lemmas.specs.Written.{entries-written}
 use Rattle.demands.specs.Means.{reads-done}
 
 -- ---- the statements
@@ -193,7 +193,7 @@ same-side features by c out done j =
 no-scores : (v : List Float) (es : List Entry) → Every (λ e. isLeaf e ≡ true) es → addScores v es ≡ v
 unfolding addScores scored
 no-scores v [] h = refl
-no-scores v (e ∷ es) h = ap (λ b. addScores (scored b e v) es) (h .0) ∙ no-scores v es (h .1)
+no-scores v (e ∷ es) h = ap (λ b. addScores (scored (not b) e v) es) (h .0) ∙ no-scores v es (h .1)
 
 none-divided : (s : Float) (n : ℕ) → dividedIf s (replicate n nought) ≡ replicate n nought
 unfolding dividedIf ofBits

@@ -17,18 +17,18 @@ use Rattle.rules.specs.declared.Report.{Report}
 use Rattle.rules.specs.declared.TreeAnswer.{TreeAnswer}
 use Rattle.rules.specs.declared.ForestAnswer.{ForestAnswer}
 use Rattle.rules.specs.Words.{front, total}
-use Rattle.rules.specs.Lent.{Frame, Reports, Waits, TreeRooms, ForestRooms, Outcome, unweighted, shortest, entriesAt}
+use Rattle.rules.specs.Lent.{OneTree, Reports, WaitingForm, TreeRooms, ForestRooms, Outcome, unweighted, shortest, entriesAt}
 use Rattle.rules.specs.Checks.{Test, test, firstFailed, shapeIn, treesIn, valuesLong, listingsLong, lengths, numbersGood, countsGood, countsOne, roomFor, workEnough}
 use Rattle.rules.specs.Draws.{Out, bad, ok}
-use Rattle.rules.specs.Fit.{Tree, fit, entries, paramsOf, TreeCall, frameOf, grownTree, treeTests, treeDone, treeEnds, fitTree}
+use Rattle.rules.specs.Fit.{Tree, fit, entries, paramsOf, TreeCall, oneTreeOf, grownTree, treeTests, treeDone, treeEnds, fitTree}
 use Rattle.rules.specs.Table.{treeAt, treesOf}
-use Rattle.rules.specs.Forest.{ForestCall, triedOf, part, frameAt, frames, cutsGood, forestTests, fitForest}
-use Rattle.laws.specs.Lists.{is-true, each, all-pass, every-take, every-drop, drop-take, total-from, getD-from}
-use Rattle.laws.specs.Outs.{then-of}
-use Rattle.laws.specs.Root.{fit-reported}
-use Rattle.laws.specs.Passed.{past, ForestPassed, forest-passed}
-use Rattle.laws.specs.Written.{tree-written, tables, trees-written}
-use Rattle.laws.specs.Answered.{reportOr, GrewAt, ForestAnswered, forest-answered, trees-length, tree-at}
+use Rattle.rules.specs.Forest.{ForestCall, triedOf, part, oneTreeAt, eachTree, tapesGood, forestTests, fitForest}
+use Rattle.lemmas.specs.Lists.{is-true, each, all-pass, every-take, every-drop, drop-take, total-from, getD-from}
+use Rattle.lemmas.specs.Outs.{then-of}
+use Rattle.lemmas.specs.Root.{fit-reported}
+use Rattle.lemmas.specs.Passed.{past, ForestPassed, forest-passed}
+use Rattle.lemmas.specs.Written.{tree-written, tables, trees-written}
+use Rattle.lemmas.specs.Answered.{reportOr, GrewAt, ForestAnswered, forest-answered, trees-length, tree-at}
 use Rattle.demands.specs.Refusals.{Unrefused, ForestUnrefused, forest-passes}
 use Rattle.demands.specs.Parts.{tree-parts}
 
@@ -50,8 +50,8 @@ treeCallAt C t =
         weights = C .given .weights;
         counts = between (t * C .shape .rows) (suc t * C .shape .rows) (C .given .counts);
       };
-      words = between (getD (C .wordCuts) t 0) (getD (C .wordCuts) (suc t) 0) (C .words);
-      thresholds = between (getD (C .thresholdCuts) t 0) (getD (C .thresholdCuts) (suc t) 0) (C .thresholds);
+      words = between (getD (C .wordStarts) t 0) (getD (C .wordStarts) (suc t) 0) (C .words);
+      thresholds = between (getD (C .thresholdStarts) t 0) (getD (C .thresholdStarts) (suc t) 0) (C .thresholds);
     }
 
 -- place t of the six report columns
@@ -74,7 +74,7 @@ pub record IsTree {W X : Type 0} (left : ForestRooms W) (t : ℕ) (o : Outcome T
 -- in any rooms that are not too small
 abbrev pub ItsTrees : Type 1
 ItsTrees =
-    (W X : Type 0) (K : Waits W) (L : Waits X) (C : ForestCall) (R : ForestRooms W) → fitForest K C R .answer ≡ ForestAnswer.Grown
+    (W X : Type 0) (K : WaitingForm W) (L : WaitingForm X) (C : ForestCall) (R : ForestRooms W) → fitForest K C R .answer ≡ ForestAnswer.Grown
     → (t : ℕ) → t < C .trees → (Q : TreeRooms X) → fitTree L (treeCallAt C t) Q .answer ≢ TreeAnswer.Refused 6
     → IsTree (fitForest K C R .rooms) t (fitTree L (treeCallAt C t) Q)
 
@@ -84,7 +84,7 @@ ownRooms R = record { nodes = R .nodes; work = R .work }
 
 abbrev pub RoomForEach : Type 1
 RoomForEach =
-    (W : Type 0) (K : Waits W) (C : ForestCall) (R : ForestRooms W) → ForestUnrefused (fitForest K C R .answer)
+    (W : Type 0) (K : WaitingForm W) (C : ForestCall) (R : ForestRooms W) → ForestUnrefused (fitForest K C R .answer)
     → (t : ℕ) → t < C .trees → Unrefused (fitTree K (treeCallAt C t) (ownRooms R) .answer)
 
 -- two forest fits that answer, one tree of each: where the calls that fit these trees alone are one, so are reports and nodes
@@ -94,14 +94,14 @@ pub record SameTree {W X : Type 0} (left : ForestRooms W) (t : ℕ) (other : For
 
 abbrev pub SomeAtATime : Type 1
 SomeAtATime =
-    (W X : Type 0) (K : Waits W) (L : Waits X) (C E : ForestCall) (R : ForestRooms W) (Q : ForestRooms X)
+    (W X : Type 0) (K : WaitingForm W) (L : WaitingForm X) (C E : ForestCall) (R : ForestRooms W) (Q : ForestRooms X)
     → fitForest K C R .answer ≡ ForestAnswer.Grown → fitForest L E Q .answer ≡ ForestAnswer.Grown
     → (t u : ℕ) → t < C .trees → u < E .trees → treeCallAt C t ≡ treeCallAt E u → SameTree (fitForest K C R .rooms) t (fitForest L E Q .rooms) u
 
 -- ---- a tree's frame
 
-pub frame-same : (C : ForestCall) (t : ℕ) → frameOf (treeCallAt C t) ≡ frameAt C t
-unfolding frameOf frameAt part
+pub frame-same : (C : ForestCall) (t : ℕ) → oneTreeOf (treeCallAt C t) ≡ oneTreeAt C t
+unfolding oneTreeOf oneTreeAt part
 frame-same C t =
     λ i.
     record {
@@ -111,8 +111,8 @@ frame-same C t =
       counts =
           (drop-take (t * C .shape .rows) (suc t * C .shape .rows) (C .given .counts)
           ∙ ap (λ n. take n (drop (t * C .shape .rows) (C .given .counts))) (wide t (C .shape .rows))) i;
-      words = drop-take (getD (C .wordCuts) t 0) (getD (C .wordCuts) (suc t) 0) (C .words) i;
-      thresholds = drop-take (getD (C .thresholdCuts) t 0) (getD (C .thresholdCuts) (suc t) 0) (C .thresholds) i;
+      words = drop-take (getD (C .wordStarts) t 0) (getD (C .wordStarts) (suc t) 0) (C .words) i;
+      thresholds = drop-take (getD (C .thresholdStarts) t 0) (getD (C .thresholdStarts) (suc t) 0) (C .thresholds) i;
     }
   where
     wide : (t n : ℕ) → suc t * n - t * n ≡ n
@@ -133,19 +133,19 @@ eq-test : (a b : ℕ) → a ≡ b → eqb a b ≡ true
 eq-test a b q = is-true (eqb a b) (subst (λ n. T (eqb a n)) q (eqb-refl a))
 
 lengths-own : (C : ForestCall) (t : ℕ) → t < C .trees → length (C .given .counts) ≡ C .trees * C .shape .rows
-    → T (lengths (C .shape) (C .trees) (C .given) && cutsGood C) → T (lengths (C .shape) 1 (treeCallAt C t .given))
-unfolding lengths frameOf
+    → T (lengths (C .shape) (C .trees) (C .given) && tapesGood C) → T (lengths (C .shape) 1 (treeCallAt C t .given))
+unfolding lengths oneTreeOf
 lengths-own C t h long g =
     subst (λ b. T (valuesLong (C .shape) (C .given .inputs .values) && (eqb (length (C .given .inputs .targets)) (C .shape .rows)
     && ((unweighted (C .given .weights) || eqb (length (C .given .weights)) (C .shape .rows)) && (b && listingsLong (C .shape) (C .given .inputs .listings))))))
     (eq-test (length (C .given .counts)) (C .trees * C .shape .rows) long
     ∙ sym (eq-test (length (treeCallAt C t .given .counts)) (1 * C .shape .rows)
-    (ap (λ (F : Frame). length (F .counts)) (frame-same C t) ∙ tree-parts C g .counts .sizes t h ∙ sym (one-mul (C .shape .rows)))))
-    (and-l (lengths (C .shape) (C .trees) (C .given)) (cutsGood C) g)
+    (ap (λ (F : OneTree). length (F .counts)) (frame-same C t) ∙ tree-parts C g .counts .sizes t h ∙ sym (one-mul (C .shape .rows)))))
+    (and-l (lengths (C .shape) (C .trees) (C .given)) (tapesGood C) g)
 
-module _ {W X : Type 0} (K : Waits W) (L : Waits X) (C : ForestCall) (R : ForestRooms W) (q : firstFailed (forestTests K C R) ≡ 0) (t : ℕ) (h : t < C .trees) where
+module _ {W X : Type 0} (K : WaitingForm W) (L : WaitingForm X) (C : ForestCall) (R : ForestRooms W) (q : firstFailed (forestTests K C R) ≡ 0) (t : ℕ) (h : t < C .trees) where
   abbrev enough : TreeRooms X → Bool
-  enough Q = leb (roomFor (frameOf (treeCallAt C t))) (shortest (Q .nodes)) && workEnough L (C .shape) (Q .work)
+  enough Q = leb (roomFor (oneTreeOf (treeCallAt C t))) (shortest (Q .nodes)) && workEnough L (C .shape) (Q .work)
 
   -- all but the last pass
   checked : (Q : TreeRooms X) → firstFailed (treeTests L (treeCallAt C t) Q) ≡ cond (enough Q) 0 6
@@ -162,17 +162,17 @@ module _ {W X : Type 0} (K : Waits W) (L : Waits X) (C : ForestCall) (R : Forest
       ∙ last-check 6 (enough Q)
 
   -- so in rooms that are not too small it is the growth of the forest's frame
-  pub own-fit : (Q : TreeRooms X) → fitTree L (treeCallAt C t) Q .answer ≢ TreeAnswer.Refused 6 → fitTree L (treeCallAt C t) Q ≡ treeDone L (fit (frameAt C t) (C .given .inputs)) Q
+  pub own-fit : (Q : TreeRooms X) → fitTree L (treeCallAt C t) Q .answer ≢ TreeAnswer.Refused 6 → fitTree L (treeCallAt C t) Q ≡ treeDone L (fit (oneTreeAt C t) (C .given .inputs)) Q
   unfolding fitTree treeEnds grownTree
   own-fit Q n = go (enough Q) (checked Q)
     where
-      go : (b : Bool) → firstFailed (treeTests L (treeCallAt C t) Q) ≡ cond b 0 6 → fitTree L (treeCallAt C t) Q ≡ treeDone L (fit (frameAt C t) (C .given .inputs)) Q
+      go : (b : Bool) → firstFailed (treeTests L (treeCallAt C t) Q) ≡ cond b 0 6 → fitTree L (treeCallAt C t) Q ≡ treeDone L (fit (oneTreeAt C t) (C .given .inputs)) Q
       go true e = λ i. treeEnds L (e i) (fit (frame-same C t i) (C .given .inputs)) Q
       go false e = absurd (n (λ i. treeEnds L (e i) (grownTree (treeCallAt C t)) Q .answer))
 
 -- ---- what the forest left of it
 
-module _ {W : Type 0} (K : Waits W) (C : ForestCall) (R : ForestRooms W) (a : ForestAnswered K C R) (t : ℕ) (h : t < C .trees) where
+module _ {W : Type 0} (K : WaitingForm W) (C : ForestCall) (R : ForestRooms W) (a : ForestAnswered K C R) (t : ℕ) (h : t < C .trees) where
   abbrev grown : Tree
   grown = tree-at K C R a t h .tree
 
@@ -214,14 +214,14 @@ its-trees W X K L C R g t h Q n =
       nodes =
           (λ i. entriesAt (done i .rooms .nodes) 0 (report-left K C R a t h i .nodes))
           ∙ tree-written (u .tree) (Q .nodes)
-          (then-of (λ (x : Tree). x .report .nodes ≡ length (x .nodes)) (fit (frameAt C t) (C .given .inputs)) (u .tree) (u .grew) (fit-reported (frameAt C t) (C .given .inputs)))
+          (then-of (λ (x : Tree). x .report .nodes ≡ length (x .nodes)) (fit (oneTreeAt C t) (C .given .inputs)) (u .tree) (u .grew) (fit-reported (oneTreeAt C t) (C .given .inputs)))
           ∙ sym (nodes-left K C R a t h);
     }
   where
     a : ForestAnswered K C R
     a = forest-answered K C R g
 
-    u : GrewAt (fit (frameAt C t) (C .given .inputs)) (a .trees) t
+    u : GrewAt (fit (oneTreeAt C t) (C .given .inputs)) (a .trees) t
     u = tree-at K C R a t h
 
     done : fitTree L (treeCallAt C t) Q ≡ treeDone L (ok (u .tree)) Q
@@ -229,13 +229,13 @@ its-trees W X K L C R g t h Q n =
 
 -- ---- a forest that is not refused
 
-done-unrefused : {W : Type 0} (K : Waits W) (o : Out Tree) (Q : TreeRooms W) → Unrefused (treeDone K o Q .answer)
+done-unrefused : {W : Type 0} (K : WaitingForm W) (o : Out Tree) (Q : TreeRooms W) → Unrefused (treeDone K o Q .answer)
 unfolding treeDone
 done-unrefused K (bad s) Q = tt
 done-unrefused K (ok x) Q = tt
 
 pub room-for-each : RoomForEach
-unfolding fitTree treeEnds frames
+unfolding fitTree treeEnds eachTree
 room-for-each W K C R g t h =
     subst (λ n. Unrefused (treeEnds K n (grownTree (treeCallAt C t)) (ownRooms R) .answer))
     (sym (checked K K C R q t h (ownRooms R) ∙ ap (λ b. cond b 0 6) (is-true (enough K K C R q t h (ownRooms R)) all)))
@@ -247,20 +247,20 @@ room-for-each W K C R g t h =
     p : ForestPassed K C R
     p = forest-passed K C R q
 
-    room : roomFor (frameOf (treeCallAt C t)) ≤ shortest (R .nodes)
+    room : roomFor (oneTreeOf (treeCallAt C t)) ≤ shortest (R .nodes)
     room =
-        le-trans (subst (λ F. roomFor F ≤ total roomFor (frames C)) (ap (frameAt C) (zero-add t) ∙ sym (frame-same C t)) (total-from roomFor (frameAt C) 0 (C .trees) t h))
+        le-trans (subst (λ F. roomFor F ≤ total roomFor (eachTree C)) (ap (oneTreeAt C) (zero-add t) ∙ sym (frame-same C t)) (total-from roomFor (oneTreeAt C) 0 (C .trees) t h))
         (p .room)
 
     all : T (enough K K C R q t h (ownRooms R))
-    all = and-i (leb (roomFor (frameOf (treeCallAt C t))) (shortest (R .nodes))) (workEnough K (C .shape) (R .work)) (le→leb _ _ room) (p .work)
+    all = and-i (leb (roomFor (oneTreeOf (treeCallAt C t))) (shortest (R .nodes))) (workEnough K (C .shape) (R .work)) (le→leb _ _ room) (p .work)
 
 -- ---- so each tree of a forest that answers is had in the forest's own rooms
 
 pub not-6 : (a : TreeAnswer) → Unrefused a → a ≢ TreeAnswer.Refused 6
 not-6 a h e = subst Unrefused e h
 
-pub tree-alone : {W : Type 0} (K : Waits W) (C : ForestCall) (R : ForestRooms W) → fitForest K C R .answer ≡ ForestAnswer.Grown → (t : ℕ) → t < C .trees
+pub tree-alone : {W : Type 0} (K : WaitingForm W) (C : ForestCall) (R : ForestRooms W) → fitForest K C R .answer ≡ ForestAnswer.Grown → (t : ℕ) → t < C .trees
     → IsTree (fitForest K C R .rooms) t (fitTree K (treeCallAt C t) (ownRooms R))
 tree-alone {W} K C R g t h =
     its-trees W W K K C R g t h (ownRooms R) (not-6 _ (room-for-each W K C R (subst ForestUnrefused (sym g) tt) t h))

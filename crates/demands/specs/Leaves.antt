@@ -3,7 +3,7 @@
 use Prim.Native.Nat.{ℕ, zero, suc, _+_, _*_, _<_}
 use native.Mathlib.Nat.{zero-add}
 use mathlib.Core.Path.{_≡_, refl, sym, ap, _∙_, subst}
-use mathlib.Core.Bool.{Bool, true, false, _&&_, cond}
+use mathlib.Core.Bool.{Bool, true, false, not, _&&_, cond}
 use mathlib.Core.List.{List, [], _∷_, map}
 use lib.ListN.{length, getD, take, replicate, length-map, List·getD-map}
 use lib.Dec.{leb, ltb, eqb}
@@ -17,7 +17,7 @@ use Rattle.rules.specs.Table.{isLeaf, goodEntry, goodFrom, goodTree, treeIn, Fo
 use Rattle.rules.specs.Reading.{noEntry, onto, walked, leafValue, reads, predictTests, predictTree, addTrees, meanOf, meanTests, forestMeans}
 use Rattle.rules.specs.Reading.{scored, addScores, scoresOf, normalised, scaled, treeImportanceTests, treeImportances, addImportances, forestImportanceTests, forestImportances}
 use Rattle.rules.specs.OutOfBag.{outTrees, outOfBagMean, outTests, outOfBagMeans}
-use Rattle.laws.specs.Lists.{Every, every-imp, put-map, from-below}
+use Rattle.lemmas.specs.Lists.{Every, every-imp, put-map, from-below}
 
 -- ---- the statements
 
@@ -96,9 +96,9 @@ leaf-same es xs =
     ∙ seen-same (λ (e : Entry). e .value) (getD es _ noEntry) (λ q. refl)
     ∙ ap (λ (e : Entry). e .value) (sym (entry-seen es _))
 
-score-same : (v : List Float) (e : Entry) → scored (isLeaf e) e v ≡ scored (isLeaf (seen e)) (seen e) v
+score-same : (v : List Float) (e : Entry) → scored (not (isLeaf e)) e v ≡ scored (not (isLeaf (seen e))) (seen e) v
 unfolding scored isLeaf
-score-same v e = seen-same (λ r. scored (isLeaf r) r v) e (λ q. rw q refl)
+score-same v e = seen-same (λ r. scored (not (isLeaf r)) r v) e (λ q. rw q refl)
 
 scores-same : (v : List Float) (es : List Entry) → addScores v es ≡ addScores v (map seen es)
 unfolding addScores

@@ -18,19 +18,19 @@ use Rattle.rules.specs.declared.Shape.{Shape}
 use Rattle.rules.specs.declared.Totals.{Totals}
 use Rattle.rules.specs.Words.{nought, float, from, keep}
 use Rattle.rules.specs.Totals.{empty, takeIn}
-use Rattle.rules.specs.Lent.{Data, Given, Frame, Waits, TreeRooms, unweighted, kept, valuesAt, countIn, massIn, keptIn}
+use Rattle.rules.specs.Lent.{Data, Given, OneTree, WaitingForm, TreeRooms, unweighted, kept, valuesAt, countIn, massIn, keptIn}
 use Rattle.rules.specs.Checks.{firstFailed, goodWeight}
 use Rattle.rules.specs.Draws.{Out, bad, ok}
-use Rattle.rules.specs.Search.{totals}
-use Rattle.rules.specs.Fit.{elementIn, listing, element, column, root, Tree, rooted, fit, TreeCall, frameOf, grownTree, treeTests, treeDone, treeEnds, fitTree}
-use Rattle.laws.specs.Lists.{is-false, Every, every-imp, every-at, every-or, kept-pass, map-same, every-all, from-below}
-use Rattle.laws.specs.Passed.{past, goes-on, none-fails, Passed, Framed, tree-passed, tree-framed}
+use Rattle.rules.specs.Search.{totalsOf}
+use Rattle.rules.specs.Fit.{elementIn, listing, element, column, root, Tree, growFrom, fit, TreeCall, oneTreeOf, grownTree, treeTests, treeDone, treeEnds, fitTree}
+use Rattle.lemmas.specs.Lists.{is-false, Every, every-imp, every-at, every-or, kept-pass, map-same, every-all, from-below}
+use Rattle.lemmas.specs.Passed.{past, goes-on, none-fails, Passed, Framed, tree-passed, tree-framed}
 use Rattle.demands.specs.Refusals.{Unrefused, tree-passes}
 
 -- ---- the statement
 
 -- D and E agree at the rows that are kept, and their listings read the same with the others struck
-pub record Alike (F : Frame) (D E : Data) : Type 0 where
+pub record Alike (F : OneTree) (D E : Data) : Type 0 where
   pub targets : (i : ℕ) → kept F i ≡ true → getD (D .targets) i nan ≡ getD (E .targets) i nan
   pub values : (i : ℕ) → kept F i ≡ true → valuesAt (F .params .features) (D .values) i ≡ valuesAt (F .params .features) (E .values) i
   pub listings : (j : ℕ) → keep (kept F) (listing F D j) ≡ keep (kept F) (listing F E j)
@@ -48,20 +48,20 @@ over C E =
     }
 
 -- the growths are one: nodes and report, or the bad draw; so are the answers, whatever rooms were lent; and in the same rooms so is all that is left
-pub record SameFit {W : Type 0} (K : Waits W) (C C′ : TreeCall) (R R′ : TreeRooms W) : Type 0 where
+pub record SameFit {W : Type 0} (K : WaitingForm W) (C C′ : TreeCall) (R R′ : TreeRooms W) : Type 0 where
   pub grown : grownTree C ≡ grownTree C′
   pub answers : fitTree K C R .answer ≡ fitTree K C′ R′ .answer
   pub outcomes : fitTree K C R ≡ fitTree K C′ R
 
 abbrev pub Demand3 : Type 1
 Demand3 =
-    (W : Type 0) (K : Waits W) (C : TreeCall) (E : Data) (R R′ : TreeRooms W) → Alike (frameOf C) (C .given .inputs) E
+    (W : Type 0) (K : WaitingForm W) (C : TreeCall) (E : Data) (R R′ : TreeRooms W) → Alike (oneTreeOf C) (C .given .inputs) E
     → Unrefused (fitTree K C R .answer) → Unrefused (fitTree K (over C E) R′ .answer) → SameFit K C (over C E) R R′
 
 -- ---- a left-out row adds a zero
 
 -- of what refusals 3 and 4 keep out, the part that is used
-pub record Accepted (F : Frame) (D : Data) : Type 0 where
+pub record Accepted (F : OneTree) (D : Data) : Type 0 where
   pub targets : (i : ℕ) → i < F .rows → T (finite (getD (D .targets) i nan))
   pub weights : unweighted (F .weights) ≡ false → (i : ℕ) → i < F .rows → T (finite (getD (F .weights) i nan)) × (lt (getD (F .weights) i nan) nought ≡ false)
   pub counts : (i : ℕ) → i < F .rows → countIn (F .counts) i ≤ 65535
@@ -85,7 +85,7 @@ no-count n h = zeros n (nltb→le 0 n (subst (λ b. T (not b)) (sym h) tt))
     zeros : (n : ℕ) → n ≤ 0 → n ≡ 0
     zeros n h = omega arith
 
-mass-fits : (F : Frame) (i : ℕ) → T (fits binary64 (massIn (F .weights) (F .counts) i))
+mass-fits : (F : OneTree) (i : ℕ) → T (fits binary64 (massIn (F .weights) (F .counts) i))
 unfolding massIn
 mass-fits F i = go (unweighted (F .weights))
   where
@@ -93,7 +93,7 @@ mass-fits F i = go (unweighted (F .weights))
     go true = ofInt-fits binary64 _
     go false = mul-fits binary64 (float (countIn (F .counts) i)) (getD (F .weights) i nan)
 
-mass-zero : (F : Frame) (D : Data) → Accepted F D → (i : ℕ) → i < F .rows → kept F i ≡ false → T (isZero (massIn (F .weights) (F .counts) i))
+mass-zero : (F : OneTree) (D : Data) → Accepted F D → (i : ℕ) → i < F .rows → kept F i ≡ false → T (isZero (massIn (F .weights) (F .counts) i))
 unfolding kept keptIn massIn
 mass-zero F D a i h k = go (unweighted (F .weights)) refl (ltb 0 (countIn (F .counts) i)) refl (lt nought w) refl k
   where
@@ -125,11 +125,11 @@ pub clean-start : Clean empty
 unfolding Clean Plain fits ofBits
 clean-start = ((tt, tt), (tt, tt))
 
-clean-on : (F : Frame) (t : Totals) (y : Float) (i : ℕ) → Clean t → Clean (takeIn t y (massIn (F .weights) (F .counts) i))
+clean-on : (F : OneTree) (t : Totals) (y : Float) (i : ℕ) → Clean t → Clean (takeIn t y (massIn (F .weights) (F .counts) i))
 unfolding Clean takeIn
 clean-on F t y i c = (plain-add (t .sum) (mul binary64 y (massIn (F .weights) (F .counts) i)) (c .0) (mul-fits binary64 y (massIn (F .weights) (F .counts) i)), plain-add (t .mass) (massIn (F .weights) (F .counts) i) (c .1) (mass-fits F i))
 
-pub idle : (F : Frame) (D : Data) → Accepted F D → (t : Totals) (i : ℕ) → i < F .rows → Clean t → kept F i ≡ false → takeIn t (getD (D .targets) i nan) (massIn (F .weights) (F .counts) i) ≡ t
+pub idle : (F : OneTree) (D : Data) → Accepted F D → (t : Totals) (i : ℕ) → i < F .rows → Clean t → kept F i ≡ false → takeIn t (getD (D .targets) i nan) (massIn (F .weights) (F .counts) i) ≡ t
 unfolding Clean Plain takeIn
 idle F D a t i h c k =
     let z : T (isZero (massIn (F .weights) (F .counts) i)) = mass-zero F D a i h k in
@@ -141,7 +141,7 @@ idle F D a t i h c k =
 
 -- ---- so the roots are one, and the growths
 
-module _ (F : Frame) (D E : Data) (d : Accepted F D) (e : Accepted F E) (like : Alike F D E) where
+module _ (F : OneTree) (D E : Data) (d : Accepted F D) (e : Accepted F E) (like : Alike F D E) where
   element-same : (i : ℕ) → kept F i ≡ true → element F D i ≡ element F E i
   unfolding element elementIn
   element-same i k = λ r. record { row = i; count = countIn (F .counts) i; mass = massIn (F .weights) (F .counts) i; target = like .targets i k r; values = like .values i k r }
@@ -152,17 +152,17 @@ module _ (F : Frame) (D E : Data) (d : Accepted F D) (e : Accepted F E) (like : 
       ap (map (element F D)) (like .listings j)
       ∙ map-same (element F D) (element F E) (keep (kept F) (listing F E j)) (every-imp _ _ (λ i k. element-same i k) (keep (kept F) (listing F E j)) (kept-pass (kept F) (listing F E j)))
 
-  sweep-same : (t : Totals) → Clean t → (l : List ℕ) → Every (λ i. i < F .rows) l → totals t (map (element F D) l) ≡ totals t (map (element F E) l)
-  unfolding totals element elementIn
+  sweep-same : (t : Totals) → Clean t → (l : List ℕ) → Every (λ i. i < F .rows) l → totalsOf t (map (element F D) l) ≡ totalsOf t (map (element F E) l)
+  unfolding totalsOf element elementIn
   sweep-same t c [] b = refl
   sweep-same t c (i ∷ l) b = go (kept F i) refl (λ u x. sweep-same u x l (b .1))
     where
-      go : (k : Bool) → kept F i ≡ k → ((u : Totals) → Clean u → totals u (map (element F D) l) ≡ totals u (map (element F E) l))
-          → totals (takeIn t (getD (D .targets) i nan) (massIn (F .weights) (F .counts) i)) (map (element F D) l) ≡ totals (takeIn t (getD (E .targets) i nan) (massIn (F .weights) (F .counts) i)) (map (element F E) l)
+      go : (k : Bool) → kept F i ≡ k → ((u : Totals) → Clean u → totalsOf u (map (element F D) l) ≡ totalsOf u (map (element F E) l))
+          → totalsOf (takeIn t (getD (D .targets) i nan) (massIn (F .weights) (F .counts) i)) (map (element F D) l) ≡ totalsOf (takeIn t (getD (E .targets) i nan) (massIn (F .weights) (F .counts) i)) (map (element F E) l)
       go true k h =
-          h (takeIn t (getD (D .targets) i nan) (massIn (F .weights) (F .counts) i)) (clean-on F t (getD (D .targets) i nan) i c) ∙ ap (λ y. totals (takeIn t y (massIn (F .weights) (F .counts) i)) (map (element F E) l)) (like .targets i k)
+          h (takeIn t (getD (D .targets) i nan) (massIn (F .weights) (F .counts) i)) (clean-on F t (getD (D .targets) i nan) i c) ∙ ap (λ y. totalsOf (takeIn t y (massIn (F .weights) (F .counts) i)) (map (element F E) l)) (like .targets i k)
       go false k h =
-          ap (λ u. totals u (map (element F D) l)) (idle F D d t i (b .0) c k) ∙ h t c ∙ ap (λ u. totals u (map (element F E) l)) (sym (idle F E e t i (b .0) c k))
+          ap (λ u. totalsOf u (map (element F D) l)) (idle F D d t i (b .0) c k) ∙ h t c ∙ ap (λ u. totalsOf u (map (element F E) l)) (sym (idle F E e t i (b .0) c k))
 
   root-same : root F D ≡ root F E
   unfolding root
@@ -176,12 +176,12 @@ module _ (F : Frame) (D E : Data) (d : Accepted F D) (e : Accepted F E) (like : 
 
   pub fit-same : fit F D ≡ fit F E
   unfolding fit
-  fit-same = ap (rooted F) root-same
+  fit-same = ap (growFrom F) root-same
 
 -- ---- over the call
 
 -- passed checks accept
-pub accepted : (S : Shape) (trees : ℕ) (G : Given) → Passed S trees G → (F : Frame) → Framed S G F → Accepted F (G .inputs)
+pub accepted : (S : Shape) (trees : ℕ) (G : Given) → Passed S trees G → (F : OneTree) → Framed S G F → Accepted F (G .inputs)
 unfolding countIn goodWeight
 accepted S trees G p F f =
     record {
@@ -199,7 +199,7 @@ accepted S trees G p F f =
         let good : T (goodWeight w) = every-at _ (G .weights) nan i (p .weightsGood) (subst (λ n. i < n) (sym (p .weightsLong u)) h) in
         (and-l (finite w) (not (lt w nought)) good, is-false (lt w nought) (and-r (finite w) (not (lt w nought)) good))
 
-module _ {W : Type 0} (K : Waits W) where
+module _ {W : Type 0} (K : WaitingForm W) where
   done-same : (o : Out Tree) (R R′ : TreeRooms W) → treeDone K o R .answer ≡ treeDone K o R′ .answer
   unfolding treeDone
   done-same (bad s) R R′ = refl
@@ -207,7 +207,7 @@ module _ {W : Type 0} (K : Waits W) where
 
   -- where the one is not refused in R, nor the other in any rooms, the other is not refused in R
   passes-too : (C : TreeCall) (E : Data) (R R′ : TreeRooms W) → firstFailed (treeTests K C R) ≡ 0 → firstFailed (treeTests K (over C E) R′) ≡ 0 → firstFailed (treeTests K (over C E) R) ≡ 0
-  unfolding treeTests frameOf
+  unfolding treeTests oneTreeOf
   passes-too C E R R′ c₁ e₁ =
       let (x₁, c₂) = past 0 _ _ c₁ in let (x₂, c₃) = past 1 _ _ c₂ in let (x₃, c₄) = past 2 _ _ c₃ in
       let (x₄, c₅) = past 3 _ _ c₄ in let (x₅, c₆) = past 4 _ _ c₅ in let (x₆, c₇) = past 5 _ _ c₆ in
@@ -216,7 +216,7 @@ module _ {W : Type 0} (K : Waits W) where
       goes-on 1 _ _ t₁ (goes-on 2 _ _ t₂ (goes-on 3 _ _ t₃ (goes-on 4 _ _ t₄ (goes-on 5 _ _ t₅ (goes-on 6 _ _ x₆ none-fails)))))
 
 pub demand3 : Demand3
-unfolding fitTree treeEnds grownTree frameOf
+unfolding fitTree treeEnds grownTree oneTreeOf
 demand3 W K C E R R′ like h h′ =
     record {
       grown = same;
@@ -235,7 +235,7 @@ demand3 W K C E R R′ like h h′ =
     same =
         let p = tree-passed K C R q .passed in
         let p′ = tree-passed K (over C E) R′ q′ .passed in
-        fit-same (frameOf C) (C .given .inputs) E
-        (accepted (C .shape) 1 (C .given) p (frameOf C) (tree-framed C p))
-        (accepted (C .shape) 1 (over C E .given) p′ (frameOf C) (tree-framed (over C E) p′))
+        fit-same (oneTreeOf C) (C .given .inputs) E
+        (accepted (C .shape) 1 (C .given) p (oneTreeOf C) (tree-framed C p))
+        (accepted (C .shape) 1 (over C E .given) p′ (oneTreeOf C) (tree-framed (over C E) p′))
         like

@@ -18,19 +18,19 @@ use Rattle.rules.specs.declared.Report.{Report}
 use Rattle.rules.specs.declared.TreeAnswer.{TreeAnswer}
 use Rattle.rules.specs.Words.{nought, from, total}
 use Rattle.rules.specs.Totals.{empty, valueOf}
-use Rattle.rules.specs.Lent.{Data, Frame, Waits, TreeRooms, ForestRooms, Outcome, kept, countIn, keptRows, leafEntry, writeEntries, zeroWork}
+use Rattle.rules.specs.Lent.{Data, OneTree, WaitingForm, TreeRooms, ForestRooms, Outcome, kept, countIn, keptRows, leafEntry, writeEntries, zeroWork}
 use Rattle.rules.specs.Checks.{firstFailed, roomFor}
 use Rattle.rules.specs.Draws.{Out, ok, bind, Tapes, tape}
-use Rattle.rules.specs.Search.{Task, Found, uncut, cut, totals, search}
+use Rattle.rules.specs.Search.{NodeRows, Found, noCut, cutFound, totalsOf, search}
 use Rattle.rules.specs.Growth.{Waiting, State, joins, searchIf, runs, expand, growAll, fromRoot, leafOf}
-use Rattle.rules.specs.Fit.{element, elementIn, listing, column, root, Tree, treeOf, rooted, fit, entryOf, entries, limitOf, paramsOf, TreeCall, frameOf, grownTree, treeTests, treeDone, treeEnds, fitTree}
-use Rattle.rules.specs.Forest.{ForestCall, frameAt, frames, grownForest, roomsGood, cutsGood, forestTests, fitForest}
-use Rattle.laws.specs.Lists.{Every, every-imp, every-append, keep-none, from-below}
-use Rattle.laws.specs.Outs.{Then, then-then, then-both, then-after, always, then-of}
-use Rattle.laws.specs.Stack.{children-length, searchIf-joins, expand-nodes, expand-depth, expand-level, root-keep}
-use Rattle.laws.specs.Unmet.{relimit, search-same, root-unmet}
-use Rattle.laws.specs.Passed.{tree-passed, tree-framed}
-use Rattle.laws.specs.Answered.{TreeAnswered, tree-answered}
+use Rattle.rules.specs.Fit.{element, elementIn, listing, column, root, Tree, treeOf, growFrom, fit, entryOf, entries, limitOf, paramsOf, TreeCall, oneTreeOf, grownTree, treeTests, treeDone, treeEnds, fitTree}
+use Rattle.rules.specs.Forest.{ForestCall, oneTreeAt, eachTree, grownForest, roomsGood, tapesGood, forestTests, fitForest}
+use Rattle.lemmas.specs.Lists.{Every, every-imp, every-append, keep-none, from-below}
+use Rattle.lemmas.specs.Outs.{Then, then-then, then-both, then-after, always, then-of}
+use Rattle.lemmas.specs.WaitingOrder.{children-length, searchIf-joins, expand-nodes, expand-depth, expand-level, root-keep}
+use Rattle.lemmas.specs.Unmet.{relimit, search-same, root-unmet}
+use Rattle.lemmas.specs.Passed.{tree-passed, tree-framed}
+use Rattle.lemmas.specs.Answered.{TreeAnswered, tree-answered}
 use Rattle.demands.specs.LeftOut.{Accepted, clean-start, idle, accepted}
 use Rattle.demands.specs.Refusals.{Unrefused, tree-passes}
 
@@ -54,13 +54,13 @@ forestUnder d C =
       given = C .given;
       words = C .words;
       thresholds = C .thresholds;
-      wordCuts = C .wordCuts;
-      thresholdCuts = C .thresholdCuts;
+      wordStarts = C .wordStarts;
+      thresholdStarts = C .thresholdStarts;
     }
 
 abbrev pub NoLimit : Type 1
 NoLimit =
-    (W : Type 0) (K : Waits W)
+    (W : Type 0) (K : WaitingForm W)
     → ((C : TreeCall) (R : TreeRooms W) → fitTree K (treeUnder Unlimited C) R ≡ fitTree K (treeUnder (AtMost 65535) C) R)
     × ((C : ForestCall) (R : ForestRooms W) → fitForest K (forestUnder Unlimited C) R ≡ fitForest K (forestUnder (AtMost 65535) C) R)
 
@@ -80,16 +80,16 @@ pub record Within (limit : ℕ) (r : Report) : Type 0 where
 
 abbrev pub WithinLimit : Type 1
 WithinLimit =
-    (W : Type 0) (K : Waits W) (C : TreeCall) (R : TreeRooms W) (r : Report) → fitTree K C R .answer ≡ TreeAnswer.Grown r → Within (most (C .settings .depth)) r
+    (W : Type 0) (K : WaitingForm W) (C : TreeCall) (R : TreeRooms W) (r : Report) → fitTree K C R .answer ≡ TreeAnswer.Grown r → Within (most (C .settings .depth)) r
 
 -- the root has level 1, so that a limit of 1 is met by a tree of one node
 abbrev pub LimitUnmet : Type 1
 LimitUnmet =
-    (W : Type 0) (K : Waits W) (C : TreeCall) (R : TreeRooms W) (r : Report) (d : Depth) → fitTree K C R .answer ≡ TreeAnswer.Grown r
+    (W : Type 0) (K : WaitingForm W) (C : TreeCall) (R : TreeRooms W) (r : Report) (d : Depth) → fitTree K C R .answer ≡ TreeAnswer.Grown r
     → max 1 (r .depth) < most (C .settings .depth) → max 1 (r .depth) < most d → fitTree K (treeUnder d C) R ≡ fitTree K C R
 
 -- one leaf of value 0, and nothing searched or drawn
-abbrev pub oneLeaf : {W : Type 0} → Waits W → TreeRooms W → Outcome TreeAnswer (TreeRooms W)
+abbrev pub oneLeaf : {W : Type 0} → WaitingForm W → TreeRooms W → Outcome TreeAnswer (TreeRooms W)
 oneLeaf K R =
     record {
       answer = TreeAnswer.Grown (record { nodes = 1; depth = 0; mass = nought; searches = 0; words = 0; thresholds = 0 });
@@ -98,18 +98,18 @@ oneLeaf K R =
 
 abbrev pub NothingKept : Type 1
 NothingKept =
-    (W : Type 0) (K : Waits W) (C : TreeCall) (R : TreeRooms W) → ((i : ℕ) → i < C .shape .rows → kept (frameOf C) i ≡ false)
+    (W : Type 0) (K : WaitingForm W) (C : TreeCall) (R : TreeRooms W) → ((i : ℕ) → i < C .shape .rows → kept (oneTreeOf C) i ≡ false)
     → Unrefused (fitTree K C R .answer) → fitTree K C R ≡ oneLeaf K R
 
 -- ---- no limit
 
 pub no-limit : NoLimit
-unfolding fitTree treeTests frameOf grownTree fitForest forestTests roomsGood cutsGood grownForest frames frameAt paramsOf limitOf
+unfolding fitTree treeTests oneTreeOf grownTree fitForest forestTests roomsGood tapesGood grownForest eachTree oneTreeAt paramsOf limitOf
 no-limit W K = ((λ C R. refl), (λ C R. refl))
 
 -- ---- within the limit
 
-module _ (P : Params) {S : Type 0} (choose : S → Task → Out (Found × S)) where
+module _ (P : Params) {S : Type 0} (choose : S → NodeRows → Out (Found × S)) where
   abbrev Deep : List Waiting → State S → Type 0
   Deep ws s = Every (λ w. 1 ≤ w .level) ws × (s .depth ≤ P .limit) × OneOrSplit (length (s .nodes)) (s .depth)
 
@@ -128,7 +128,7 @@ module _ (P : Params) {S : Type 0} (choose : S → Task → Out (Found × S)) wh
       some n m q (inl p) = omega (arith, p .0)
       some n m q (inr p) = omega (arith, p .0)
 
-  growth-deep : (root : Task) (s : S) → Then (fromRoot P choose root s) (λ s′. Deep [] s′)
+  growth-deep : (root : NodeRows) (s : S) → Then (fromRoot P choose root s) (λ s′. Deep [] s′)
   unfolding joins
   growth-deep root s =
       root-keep P choose Deep expand-deep root s
@@ -137,11 +137,11 @@ module _ (P : Params) {S : Type 0} (choose : S → Task → Out (Found × S)) wh
       (λ r l. (l, omega arith, inl (refl, refl))))
     where
       first : (f : Found) → Every (λ w. 1 ≤ w .level) (joins 0 1 root f)
-      first uncut = tt
-      first (cut c) = (omega arith, tt)
+      first noCut = tt
+      first (cutFound c) = (omega arith, tt)
 
-pub fit-within : (F : Frame) (D : Data) → Then (fit F D) (λ t. Within (F .params .limit) (t .report))
-unfolding fit rooted treeOf
+pub fit-within : (F : OneTree) (D : Data) → Then (fit F D) (λ t. Within (F .params .limit) (t .report))
+unfolding fit growFrom treeOf
 fit-within F D =
     then-then (fromRoot (F .params) (search (tape (F .params .features)) (F .params)) (root F D) _) _ _ _ (growth-deep (F .params) _ (root F D) _)
     (λ s h. record { depth = h .1; nodes = h .2 })
@@ -152,46 +152,46 @@ limit-most Unlimited = refl
 limit-most (AtMost d) = refl
 
 pub within-limit : WithinLimit
-unfolding frameOf paramsOf
+unfolding oneTreeOf paramsOf
 within-limit W K C R r h =
     let a : TreeAnswered K C R r = tree-answered K C R r h in
     subst (λ n. Within n r) (limit-most (C .settings .depth))
     (subst (Within (limitOf (C .settings .depth))) (a .reported)
-    (then-of (λ t. Within (limitOf (C .settings .depth)) (t .report)) (fit (frameOf C) (C .given .inputs)) (a .tree) (a .grew) (fit-within (frameOf C) (C .given .inputs))))
+    (then-of (λ t. Within (limitOf (C .settings .depth)) (t .report)) (fit (oneTreeOf C) (C .given .inputs)) (a .tree) (a .grew) (fit-within (oneTreeOf C) (C .given .inputs))))
 
 -- ---- a limit that is not met
 
-abbrev frameUnder : ℕ → Frame → Frame
+abbrev frameUnder : ℕ → OneTree → OneTree
 frameUnder n F = record { rows = F .rows; params = relimit n (F .params); weights = F .weights; counts = F .counts; words = F .words; thresholds = F .thresholds }
 
-fit-unmet : (F : Frame) (D : Data) (n b : ℕ) → 1 ≤ b → b < F .params .limit → b < n → Then (fit F D) (λ t. t .report .depth ≤ b → fit (frameUnder n F) D ≡ ok t)
-unfolding fit rooted treeOf root column listing element kept keptRows bind
+fit-unmet : (F : OneTree) (D : Data) (n b : ℕ) → 1 ≤ b → b < F .params .limit → b < n → Then (fit F D) (λ t. t .report .depth ≤ b → fit (frameUnder n F) D ≡ ok t)
+unfolding fit growFrom treeOf root column listing element kept keptRows bind
 fit-unmet F D n b h u u′ =
-    then-then (fromRoot P (choose P) task start) _ _ _ (root-unmet P n b u u′ (choose P) task start h)
-    (λ s g k. (λ i. ends (fromRoot (relimit n P) (λ d t. sym (search-same P n (tape (P .features)) d t) i) task start)) ∙ ap ends (g k))
+    then-then (fromRoot P (choose P) node start) _ _ _ (root-unmet P n b u u′ (choose P) node start h)
+    (λ s g k. (λ i. ends (fromRoot (relimit n P) (λ d t. sym (search-same P n (tape (P .features)) d t) i) node start)) ∙ ap ends (g k))
   where
     P : Params
     P = F .params
 
-    task : Task
-    task = root F D
+    node : NodeRows
+    node = root F D
 
     start : Tapes
     start = record { words = F .words; thresholds = F .thresholds; searches = 0 }
 
-    choose : Params → Tapes → Task → Out (Found × Tapes)
+    choose : Params → Tapes → NodeRows → Out (Found × Tapes)
     choose Q = search (tape (Q .features)) Q
 
     ends : Out (State Tapes) → Out Tree
-    ends m = bind m (λ s. ok (treeOf F task s))
+    ends m = bind m (λ s. ok (treeOf F node s))
 
 pub limit-unmet : LimitUnmet
-unfolding fitTree treeTests roomFor keptRows kept frameOf paramsOf grownTree
+unfolding fitTree treeTests roomFor keptRows kept oneTreeOf paramsOf grownTree
 limit-unmet W K C R r d h u u′ =
     let a : TreeAnswered K C R r = tree-answered K C R r h in
     let same : grownTree (treeUnder d C) ≡ ok (a .tree) =
     then-of (λ t. t .report .depth ≤ max 1 (r .depth) → grownTree (treeUnder d C) ≡ ok t) (grownTree C) (a .tree) (a .grew)
-    (fit-unmet (frameOf C) (C .given .inputs) (limitOf d) (max 1 (r .depth)) (omega arith) (below (C .settings .depth) u) (below d u′)) (omega (arith, ap (λ (x : Report). x .depth) (a .reported))) in
+    (fit-unmet (oneTreeOf C) (C .given .inputs) (limitOf d) (max 1 (r .depth)) (omega arith) (below (C .settings .depth) u) (below d u′)) (omega (arith, ap (λ (x : Report). x .depth) (a .reported))) in
     λ i. treeEnds K (firstFailed (treeTests K C R)) ((same ∙ sym (a .grew)) i) R
   where
     below : (d : Depth) → max 1 (r .depth) < most d → max 1 (r .depth) < limitOf d
@@ -199,17 +199,17 @@ limit-unmet W K C R r d h u u′ =
 
 -- ---- nothing kept
 
-module _ (F : Frame) (D : Data) (a : Accepted F D) (none : (i : ℕ) → i < F .rows → kept F i ≡ false) where
+module _ (F : OneTree) (D : Data) (a : Accepted F D) (none : (i : ℕ) → i < F .rows → kept F i ≡ false) where
   rows-none : Every (λ i. kept F i ≡ false) (from 0 (F .rows))
   rows-none = every-imp _ _ (λ i h. none i (subst (λ n. i < n) (zero-add (F .rows)) h)) (from 0 (F .rows)) (from-below 0 (F .rows))
 
   -- every row adds a zero
-  sweep : (l : List ℕ) → Every (λ i. i < 0 + F .rows) l → totals empty (map (element F D) l) ≡ empty
-  unfolding totals element elementIn
+  sweep : (l : List ℕ) → Every (λ i. i < 0 + F .rows) l → totalsOf empty (map (element F D) l) ≡ empty
+  unfolding totalsOf element elementIn
   sweep [] b = refl
   sweep (i ∷ l) b =
       let h : i < F .rows = subst (λ n. i < n) (zero-add (F .rows)) (b .0) in
-      ap (λ t. totals t (map (element F D) l)) (idle F D a empty i h clean-start (none i h)) ∙ sweep l (b .1)
+      ap (λ t. totalsOf t (map (element F D) l)) (idle F D a empty i h clean-start (none i h)) ∙ sweep l (b .1)
 
   root-empty : root F D ≡ record { columns = root F D .columns; totals = empty; count = 0 }
   unfolding root keptRows total
@@ -222,11 +222,11 @@ module _ (F : Frame) (D : Data) (a : Accepted F D) (none : (i : ℕ) → i < F .
       }
 
 pub nothing-kept : NothingKept
-unfolding fitTree grownTree treeEnds treeDone entries entryOf valueOf lt ofBits fit rooted fromRoot searchIf growAll runs bind treeOf leafOf frameOf
-nothing-kept W K C R none h = λ i. treeEnds K (q i) ((ap (rooted F) (root-empty F D accepts none) ∙ unused) i) R
+unfolding fitTree grownTree treeEnds treeDone entries entryOf valueOf lt ofBits fit growFrom fromRoot searchIf growAll runs bind treeOf leafOf oneTreeOf
+nothing-kept W K C R none h = λ i. treeEnds K (q i) ((ap (growFrom F) (root-empty F D accepts none) ∙ unused) i) R
   where
-    F : Frame
-    F = frameOf C
+    F : OneTree
+    F = oneTreeOf C
 
     D : Data
     D = C .given .inputs
@@ -237,10 +237,10 @@ nothing-kept W K C R none h = λ i. treeEnds K (q i) ((ap (rooted F) (root-empty
     accepts : Accepted F D
     accepts = let p = tree-passed K C R q .passed in accepted (C .shape) 1 (C .given) p F (tree-framed C p)
 
-    bare : Task
+    bare : NodeRows
     bare = record { columns = root F D .columns; totals = empty; count = 0 }
 
-    unused : rooted F bare ≡ ok (record { nodes = leafOf bare ∷ []; report = record { nodes = 1; depth = 0; mass = nought; searches = 0; words = 0; thresholds = 0 } })
+    unused : growFrom F bare ≡ ok (record { nodes = leafOf bare ∷ []; report = record { nodes = 1; depth = 0; mass = nought; searches = 0; words = 0; thresholds = 0 } })
     unused =
         λ i.
         ok (record {

@@ -19,8 +19,8 @@ use Rattle.rules.specs.Checks.{Test, test, firstFailed, within, rowsIn, treesIn
 use Rattle.rules.specs.Table.{goodFrom, goodTree, treeIn, ForestTable, startsGood, treeAt, treesOf, goodForest, startsEnough}
 use Rattle.rules.specs.Reading.{noEntry, leafValue, reads, predictTests, predictTree, addTrees, meanOf, meanTests, forestMeans}
 use Rattle.rules.specs.OutOfBag.{outTrees, outOfBagMean, outTests, outOfBagMeans}
-use Rattle.laws.specs.Lists.{Every, every-or, every-all, every-map, length-from, is-true, getD-from}
-use Rattle.laws.specs.Passed.{and2, Binary64}
+use Rattle.lemmas.specs.Lists.{Every, every-or, every-all, every-map, length-from, is-true, getD-from}
+use Rattle.lemmas.specs.Passed.{and2, Binary64}
 
 -- ---- the statements
 

@@ -16,20 +16,20 @@ use Rattle.rules.specs.declared.TreeAnswer.{TreeAnswer}
 use Rattle.rules.specs.declared.ForestAnswer.{ForestAnswer}
 use Rattle.rules.specs.Words.{from, front, total}
 use Rattle.rules.specs.Totals.{empty, takeIn}
-use Rattle.rules.specs.Lent.{Data, Given, Frame, Reports, Waits, TreeRooms, ForestRooms, shortest, massIn}
+use Rattle.rules.specs.Lent.{Data, Given, OneTree, Reports, WaitingForm, TreeRooms, ForestRooms, shortest, massIn}
 use Rattle.rules.specs.Checks.{roomFor, reportsExact}
 use Rattle.rules.specs.Draws.{tape}
-use Rattle.rules.specs.Search.{totals, search}
+use Rattle.rules.specs.Search.{totalsOf, search}
 use Rattle.rules.specs.Growth.{fromRoot}
-use Rattle.rules.specs.Fit.{elementIn, element, root, Tree, treeOf, rooted, fit, paramsOf, TreeCall, frameOf, fitTree}
-use Rattle.rules.specs.Forest.{ForestCall, frameAt, startsFrom, forestEntries, fitForest}
-use Rattle.laws.specs.Lists.{Every, map-same}
-use Rattle.laws.specs.Outs.{Then, then-then, then-any, then-of}
-use Rattle.laws.specs.Root.{fit-reported, fit-nodes}
-use Rattle.laws.specs.Spent.{growth-spent}
-use Rattle.laws.specs.Passed.{and2, and5, tree-passed, Binary64}
-use Rattle.laws.specs.Written.{first-start, last-start, next-start, length-forest}
-use Rattle.laws.specs.Answered.{TreeAnswered, tree-answered, tree-listed, ForestAnswered, forest-answered, forest-right, trees-length, trees-each, forest-room}
+use Rattle.rules.specs.Fit.{elementIn, element, root, Tree, treeOf, growFrom, fit, paramsOf, TreeCall, oneTreeOf, fitTree}
+use Rattle.rules.specs.Forest.{ForestCall, oneTreeAt, startsFrom, forestEntries, fitForest}
+use Rattle.lemmas.specs.Lists.{Every, map-same}
+use Rattle.lemmas.specs.Outs.{Then, then-then, then-any, then-of}
+use Rattle.lemmas.specs.Root.{fit-reported, fit-nodes}
+use Rattle.lemmas.specs.Spent.{growth-spent}
+use Rattle.lemmas.specs.Passed.{and2, and5, tree-passed, Binary64}
+use Rattle.lemmas.specs.Written.{first-start, last-start, next-start, length-forest}
+use Rattle.lemmas.specs.Answered.{TreeAnswered, tree-answered, tree-listed, ForestAnswered, forest-answered, forest-right, trees-length, trees-each, forest-room}
 use Rattle.demands.specs.Walks.{reported-nodes}
 use Rattle.demands.specs.ItsTrees.{treeCallAt, reportAt, ownRooms, tree-alone}
 
@@ -41,15 +41,15 @@ totalsTo G zero = empty
 totalsTo G (suc n) = takeIn (totalsTo G n) (getD (G .inputs .targets) n nan) (massIn (G .weights) (G .counts) n)
 
 -- what a tree of frame F over D is given
-abbrev pub givenBy : Frame → Data → Given
+abbrev pub givenBy : OneTree → Data → Given
 givenBy F D = record { inputs = D; weights = F .weights; counts = F .counts }
 
 abbrev pub RootByNumber : Type 0
-RootByNumber = (F : Frame) (D : Data) → root F D .totals ≡ totalsTo (givenBy F D) (F .rows)
+RootByNumber = (F : OneTree) (D : Data) → root F D .totals ≡ totalsTo (givenBy F D) (F .rows)
 
 abbrev pub RootMass : Type 1
 RootMass =
-    (W : Type 0) (K : Waits W) (C : TreeCall) (R : TreeRooms W) (r : Report) → fitTree K C R .answer ≡ TreeAnswer.Grown r
+    (W : Type 0) (K : WaitingForm W) (C : TreeCall) (R : TreeRooms W) (r : Report) → fitTree K C R .answer ≡ TreeAnswer.Grown r
     → r .mass ≡ totalsTo (C .given) (C .shape .rows) .mass
 
 -- of a tree that reports r, over so many features
@@ -58,22 +58,22 @@ pub record Counted (features : ℕ) (r : Report) : Type 0 where
   pub searches : r .searches ≤ r .nodes
 
 abbrev pub TreeNumbers : Type 1
-TreeNumbers = (W : Type 0) (K : Waits W) (C : TreeCall) (R : TreeRooms W) (r : Report) → fitTree K C R .answer ≡ TreeAnswer.Grown r → Counted (C .shape .features) r
+TreeNumbers = (W : Type 0) (K : WaitingForm W) (C : TreeCall) (R : TreeRooms W) (r : Report) → fitTree K C R .answer ≡ TreeAnswer.Grown r → Counted (C .shape .features) r
 
 abbrev pub TreeRoom : Type 1
 TreeRoom =
-    (W : Type 0) (K : Waits W) (C : TreeCall) (R : TreeRooms W) (r : Report) → Binary64 (C .given .inputs .values) → fitTree K C R .answer ≡ TreeAnswer.Grown r
-    → (r .nodes ≤ roomFor (frameOf C)) × (roomFor (frameOf C) ≤ shortest (R .nodes))
+    (W : Type 0) (K : WaitingForm W) (C : TreeCall) (R : TreeRooms W) (r : Report) → Binary64 (C .given .inputs .values) → fitTree K C R .answer ≡ TreeAnswer.Grown r
+    → (r .nodes ≤ roomFor (oneTreeOf C)) × (roomFor (oneTreeOf C) ≤ shortest (R .nodes))
 
 -- the same of a forest, by what its columns hold at each tree's place
 abbrev pub ForestMass : Type 1
 ForestMass =
-    (W : Type 0) (K : Waits W) (C : ForestCall) (R : ForestRooms W) → fitForest K C R .answer ≡ ForestAnswer.Grown → (t : ℕ) → t < C .trees
+    (W : Type 0) (K : WaitingForm W) (C : ForestCall) (R : ForestRooms W) → fitForest K C R .answer ≡ ForestAnswer.Grown → (t : ℕ) → t < C .trees
     → getD (fitForest K C R .rooms .reports .mass) t nan ≡ totalsTo (treeCallAt C t .given) (C .shape .rows) .mass
 
 abbrev pub ForestNumbers : Type 1
 ForestNumbers =
-    (W : Type 0) (K : Waits W) (C : ForestCall) (R : ForestRooms W) → fitForest K C R .answer ≡ ForestAnswer.Grown → (t : ℕ) → t < C .trees
+    (W : Type 0) (K : WaitingForm W) (C : ForestCall) (R : ForestRooms W) → fitForest K C R .answer ≡ ForestAnswer.Grown → (t : ℕ) → t < C .trees
     → Counted (C .shape .features) (reportAt (fitForest K C R .rooms .reports) t)
 
 -- the trees lie one behind another from the first place on, each as long as the node column says, all of them together within the room
@@ -85,14 +85,14 @@ pub record Lies (trees room : ℕ) (starts nodes : List ℕ) : Type 0 where
 
 abbrev pub ForestRoom : Type 1
 ForestRoom =
-    (W : Type 0) (K : Waits W) (C : ForestCall) (R : ForestRooms W) → Binary64 (C .given .inputs .values) → fitForest K C R .answer ≡ ForestAnswer.Grown
+    (W : Type 0) (K : WaitingForm W) (C : ForestCall) (R : ForestRooms W) → Binary64 (C .given .inputs .values) → fitForest K C R .answer ≡ ForestAnswer.Grown
     → Lies (C .trees) (shortest (R .nodes)) (fitForest K C R .rooms .starts) (fitForest K C R .rooms .reports .nodes)
 
 -- ---- the root
 
 -- the rows after the first n, taken in one by one
-totals-from : (F : Frame) (D : Data) (n k : ℕ) → totals (totalsTo (givenBy F D) n) (map (element F D) (from n k)) ≡ totalsTo (givenBy F D) (n + k)
-unfolding totals from element elementIn totalsTo
+totals-from : (F : OneTree) (D : Data) (n k : ℕ) → totalsOf (totalsTo (givenBy F D) n) (map (element F D) (from n k)) ≡ totalsTo (givenBy F D) (n + k)
+unfolding totalsOf from element elementIn totalsTo
 totals-from F D n zero = ap (totalsTo (givenBy F D)) (sym (add-zero n))
 totals-from F D n (suc k) = totals-from F D (suc n) k ∙ ap (totalsTo (givenBy F D)) (shift n k)
   where
@@ -104,17 +104,17 @@ unfolding root totalsTo
 root-by-number F D = totals-from F D 0 (F .rows) ∙ ap (totalsTo (givenBy F D)) (zero-add (F .rows))
 
 pub root-mass : RootMass
-unfolding fit rooted treeOf frameOf
+unfolding fit growFrom treeOf oneTreeOf
 root-mass W K C R r h =
     let a : TreeAnswered K C R r = tree-answered K C R r h in
     ap (λ (x : Report). x .mass) (sym (a .reported))
-    ∙ then-of (λ (t : Tree). t .report .mass ≡ root (frameOf C) (C .given .inputs) .totals .mass) (fit (frameOf C) (C .given .inputs)) (a .tree) (a .grew) (then-any _ _ _ (λ s. refl))
-    ∙ ap (λ (t : Totals). t .mass) (root-by-number (frameOf C) (C .given .inputs))
+    ∙ then-of (λ (t : Tree). t .report .mass ≡ root (oneTreeOf C) (C .given .inputs) .totals .mass) (fit (oneTreeOf C) (C .given .inputs)) (a .tree) (a .grew) (then-any _ _ _ (λ s. refl))
+    ∙ ap (λ (t : Totals). t .mass) (root-by-number (oneTreeOf C) (C .given .inputs))
 
 -- ---- of a fit
 
-pub fit-counted : (F : Frame) (D : Data) → Then (fit F D) (λ t. Counted (F .params .features) (t .report))
-unfolding fit rooted treeOf
+pub fit-counted : (F : OneTree) (D : Data) → Then (fit F D) (λ t. Counted (F .params .features) (t .report))
+unfolding fit growFrom treeOf
 fit-counted F D =
     then-then (fromRoot (F .params) (search (tape (F .params .features)) (F .params)) (root F D) _) _ _ _ (growth-spent (F .params) (root F D) _ refl)
     (λ s h. record { words = less (length (F .words)) (length (s .left .words)) (F .params .features * s .left .searches) (h .words); searches = h .searches })
@@ -123,17 +123,17 @@ fit-counted F D =
     less a b c h = omega arith
 
 pub tree-numbers : TreeNumbers
-unfolding frameOf paramsOf
+unfolding oneTreeOf paramsOf
 tree-numbers W K C R r h =
     let a : TreeAnswered K C R r = tree-answered K C R r h in
-    subst (Counted (C .shape .features)) (a .reported) (then-of (λ t. Counted (C .shape .features) (t .report)) (fit (frameOf C) (C .given .inputs)) (a .tree) (a .grew) (fit-counted (frameOf C) (C .given .inputs)))
+    subst (Counted (C .shape .features)) (a .reported) (then-of (λ t. Counted (C .shape .features) (t .report)) (fit (oneTreeOf C) (C .given .inputs)) (a .tree) (a .grew) (fit-counted (oneTreeOf C) (C .given .inputs)))
 
 pub tree-room : TreeRoom
 tree-room W K C R r held h =
     let a : TreeAnswered K C R r = tree-answered K C R r h in
     let (l, some) = tree-listed K C R held (a .passed) in (
-      subst (λ n. n ≤ roomFor (frameOf C)) (sym (reported-nodes C (a .tree) (a .grew)) ∙ ap (λ (x : Report). x .nodes) (a .reported))
-          (then-of (λ t. length (t .nodes) ≤ roomFor (frameOf C)) (fit (frameOf C) (C .given .inputs)) (a .tree) (a .grew) (fit-nodes (frameOf C) (C .given .inputs) l some)),
+      subst (λ n. n ≤ roomFor (oneTreeOf C)) (sym (reported-nodes C (a .tree) (a .grew)) ∙ ap (λ (x : Report). x .nodes) (a .reported))
+          (then-of (λ t. length (t .nodes) ≤ roomFor (oneTreeOf C)) (fit (oneTreeOf C) (C .given .inputs)) (a .tree) (a .grew) (fit-nodes (oneTreeOf C) (C .given .inputs) l some)),
       tree-passed K C R (a .passed) .room,
     )
 
@@ -182,7 +182,7 @@ forest-room-enough W K C R held g =
     subst (λ (r : ForestRooms W). Lies (C .trees) (shortest (R .nodes)) (r .starts) (r .reports .nodes)) (sym (a .after))
     (subst (Lies (C .trees) (shortest (R .nodes)) _)
     (sym (nodes-written (a .trees) (R .reports .nodes) (columns-long (C .trees) (R .reports) (forest-right K C R a .reports) .0 ∙ sym n)
-    (trees-each K C R a (λ (t : Tree). t .report .nodes ≡ length (t .nodes)) held (λ t l. fit-reported (frameAt C t) (C .given .inputs)))))
+    (trees-each K C R a (λ (t : Tree). t .report .nodes ≡ length (t .nodes)) held (λ t l. fit-reported (oneTreeAt C t) (C .given .inputs)))))
     (lies (C .trees) (shortest (R .nodes)) (a .trees) (R .starts) n (forest-room K C R a held)))
   where
     a : ForestAnswered K C R

@@ -19,7 +19,7 @@ use Rattle.rules.specs.declared.TreeTold.{TreeTold}
 use Rattle.rules.specs.declared.ForestTold.{ForestTold}
 use Rattle.rules.specs.declared.ErrorTold.{ErrorTold}
 use Rattle.rules.specs.declared.NodeTold.{NodeTold}
-use Rattle.rules.specs.Lent.{Given, Columns, Waits, TreeRooms, ForestRooms, Outcome, Stack, stack}
+use Rattle.rules.specs.Lent.{Given, Columns, WaitingForm, TreeRooms, ForestRooms, Outcome, WaitingRoom, waitingRoom}
 use Rattle.rules.specs.Listing.{checkListings}
 use Rattle.rules.specs.Fit.{TreeCall, treeCall, fitTree}
 use Rattle.rules.specs.Table.{checkTree, ForestTable, tableOf, checkForest, readNode}
@@ -29,7 +29,7 @@ use Rattle.rules.specs.OutOfBag.{outOfBagMeans, outOfBagError}
 use Rattle.rules.specs.Answers.{treeTold, forestTold, replyTold, errorTold, nodeTold, told}
 use Rattle.rules.specs.Plain.{treeSettingsOf, forestSettingsOf, triedFrom, scaleOf, treeNumbers, forestNumbers, errorNumbers, nodeNumbers}
 
-module _ {W : Type 0} (K : Waits W) where
+module _ {W : Type 0} (K : WaitingForm W) where
   -- every public call, with its inputs and the rooms lent to it
   pub data PublicCall : Type 0 where
     fits-tree : TreeCall → TreeRooms W → PublicCall
@@ -84,8 +84,8 @@ module _ {W : Type 0} (K : Waits W) where
 -- ---- the exported calls, each by its own name: plain numbers in and out, a record of lists for slices that go together
 
 pub data Exported : Type 0 where
-  fit-tree : (rows features : ℕ) → TreeSettings → Given → List ℕ → List Float → TreeRooms Stack → Exported
-  fit-forest : (rows features trees : ℕ) → ForestSettings → Given → List ℕ → List Float → List ℕ → List ℕ → ForestRooms Stack → Exported
+  fit-tree : (rows features : ℕ) → TreeSettings → Given → List ℕ → List Float → TreeRooms WaitingRoom → Exported
+  fit-forest : (rows features trees : ℕ) → ForestSettings → Given → List ℕ → List Float → List ℕ → List ℕ → ForestRooms WaitingRoom → Exported
   predict-tree : (rows features : ℕ) → List Float → Columns → List Float → Exported
   forest-means : (rows features trees : ℕ) → List Float → List ℕ → Columns → List Float → Exported
   out-of-bag-means : (rows features trees : ℕ) → List Float → List ℕ → List ℕ → Columns → List Float → Exported
@@ -99,8 +99,8 @@ pub data Exported : Type 0 where
 
 -- what crosses back
 abbrev pub Back : Exported → Type 0
-Back (fit-tree rows features s given ws ts R) = Outcome TreeTold (TreeRooms Stack)
-Back (fit-forest rows features trees s given ws ts wcs tcs R) = Outcome ForestTold (ForestRooms Stack)
+Back (fit-tree rows features s given ws ts R) = Outcome TreeTold (TreeRooms WaitingRoom)
+Back (fit-forest rows features trees s given ws ts wcs tcs R) = Outcome ForestTold (ForestRooms WaitingRoom)
 Back (predict-tree rows features xs c out) = Outcome ℕ (List Float)
 Back (forest-means rows features trees xs starts c out) = Outcome ℕ (List Float)
 Back (out-of-bag-means rows features trees xs counts starts c out) = Outcome ℕ (List Float)
@@ -118,10 +118,10 @@ shapeOf rows features = record { rows = rows; features = features }
 -- what its contract says of it, written again: that the two are one is read, not proved
 abbrev pub Promised : (c : Exported) → Back c → Type 0
 Promised (fit-tree rows features s given ws ts R) b =
-    told treeNumbers b ≡ told treeTold (fitTree stack (treeCall (shapeOf rows features) (treeSettingsOf s) (s .tried) given ws ts) R)
+    told treeNumbers b ≡ told treeTold (fitTree waitingRoom (treeCall (shapeOf rows features) (treeSettingsOf s) (s .tried) given ws ts) R)
 Promised (fit-forest rows features trees s given ws ts wcs tcs R) b =
     told forestNumbers b
-    ≡ told forestTold (fitForest stack (forestCall (shapeOf rows features) trees (forestSettingsOf s) (triedFrom (s .said) (s .tried)) given ws ts wcs tcs) R)
+    ≡ told forestTold (fitForest waitingRoom (forestCall (shapeOf rows features) trees (forestSettingsOf s) (triedFrom (s .said) (s .tried)) given ws ts wcs tcs) R)
 Promised (predict-tree rows features xs c out) b = b ≡ told replyTold (predictTree (shapeOf rows features) xs c out)
 Promised (forest-means rows features trees xs starts c out) b = b ≡ told replyTold (forestMeans (shapeOf rows features) xs (tableOf trees starts c) out)
 Promised (out-of-bag-means rows features trees xs counts starts c out) b =
@@ -167,8 +167,8 @@ node-numbers a b h =
       feature = h i .entry .feature;
       threshold = h i .entry .threshold;
       score = h i .entry .score;
-      yes = h i .entry .trueChild;
-      no = h i .entry .falseChild;
+      truechild = h i .entry .trueChild;
+      falsechild = h i .entry .falseChild;
     }
 
 -- so are outcomes

@@ -14,18 +14,18 @@ use lib.Ieee.Fits.{and-i}
 use Rattle.rules.specs.declared.ForestAnswer.{ForestAnswer}
 use Rattle.rules.specs.declared.Reply.{Reply}
 use Rattle.rules.specs.Words.{nought, from, putIf}
-use Rattle.rules.specs.Lent.{Waits, ForestRooms, Outcome, valuesAt, unweighted, kept, countIn, keptIn}
+use Rattle.rules.specs.Lent.{WaitingForm, ForestRooms, Outcome, valuesAt, unweighted, kept, countIn, keptIn}
 use Rattle.rules.specs.Checks.{firstFailed}
 use Rattle.rules.specs.Draws.{Out, bad, ok}
 use Rattle.rules.specs.Fit.{listing, Tree, fit, entries}
 use Rattle.rules.specs.Table.{treesOf}
 use Rattle.rules.specs.Reading.{meanOf, reads}
-use Rattle.rules.specs.Forest.{ForestCall, frameAt, frames, startsFrom, fitForest}
+use Rattle.rules.specs.Forest.{ForestCall, oneTreeAt, eachTree, startsFrom, fitForest}
 use Rattle.rules.specs.OutOfBag.{outTrees, outOfBagMean, outTests, outOfBagMeans}
-use Rattle.laws.specs.Lists.{getD-from}
-use Rattle.laws.specs.Passed.{goes-on, none-fails, Passed, ForestPassed, forest-framed, Binary64}
-use Rattle.laws.specs.Written.{tables, trees-written, front-length, starts-length}
-use Rattle.laws.specs.Answered.{Grew, ForestAnswered, forest-answered, forest-right, trees-length}
+use Rattle.lemmas.specs.Lists.{getD-from}
+use Rattle.lemmas.specs.Passed.{goes-on, none-fails, Passed, ForestPassed, forest-framed, Binary64}
+use Rattle.lemmas.specs.Written.{tables, trees-written, front-length, starts-length}
+use Rattle.lemmas.specs.Answered.{Grew, ForestAnswered, forest-answered, forest-right, trees-length}
 use Rattle.demands.specs.LeftOut.{accepted, fit-same}
 use Rattle.demands.specs.Walks.{tableAfter, forest-good}
 
@@ -46,8 +46,8 @@ retarget C ys =
       };
       words = C .words;
       thresholds = C .thresholds;
-      wordCuts = C .wordCuts;
-      thresholdCuts = C .thresholdCuts;
+      wordStarts = C .wordStarts;
+      thresholdStarts = C .thresholdStarts;
     }
 
 -- the targets agree but at row i
@@ -55,7 +55,7 @@ abbrev pub ButOne : ℕ → List Float → List Float → Type 0
 ButOne i ys zs = (k : ℕ) → k ≢ i → getD ys k nan ≡ getD zs k nan
 
 -- the out-of-bag means of a fit's own table, counts and features
-abbrev pub ownMeans : {W : Type 0} → Waits W → ForestCall → ForestRooms W → List Float → Outcome Reply (List Float)
+abbrev pub ownMeans : {W : Type 0} → WaitingForm W → ForestCall → ForestRooms W → List Float → Outcome Reply (List Float)
 ownMeans K C R out =
     outOfBagMeans (C .shape) (C .given .inputs .values) (C .given .counts) (tableAfter C (fitForest K C R .rooms)) out
 
@@ -66,7 +66,7 @@ pub record SameMean (i : ℕ) (m m′ : Outcome Reply (List Float)) : Type 0 whe
 
 abbrev pub OwnTarget : Type 1
 OwnTarget =
-    (W : Type 0) (K : Waits W) (C : ForestCall) (ys : List Float) (i : ℕ) → i < C .shape .rows → ButOne i (C .given .inputs .targets) ys
+    (W : Type 0) (K : WaitingForm W) (C : ForestCall) (ys : List Float) (i : ℕ) → i < C .shape .rows → ButOne i (C .given .inputs .targets) ys
     → Binary64 (C .given .inputs .values) → (R R′ : ForestRooms W) → fitForest K C R .answer ≡ ForestAnswer.Grown → fitForest K (retarget C ys) R′ .answer ≡ ForestAnswer.Grown
     → (out out′ : List Float) → length out ≡ C .shape .rows → length out′ ≡ C .shape .rows
     → SameMean i (ownMeans K C R out) (ownMeans K (retarget C ys) R′ out′)
@@ -87,22 +87,22 @@ module _ (C : ForestCall) (ys : List Float) (i : ℕ) (inside : i < C .shape .ro
   count t = getD (C .given .counts) (t * C .shape .rows + i) 0
 
   -- where it is 0, the row is left out
-  out : (t : ℕ) → count t ≡ 0 → kept (frameAt C t) i ≡ false
-  unfolding kept keptIn countIn frameAt
+  out : (t : ℕ) → count t ≡ 0 → kept (oneTreeAt C t) i ≡ false
+  unfolding kept keptIn countIn oneTreeAt
   out t z =
       ap (λ n. ltb 0 n && (unweighted (C .given .weights) || lt nought (getD (C .given .weights) i nan)))
       (getD-take (C .shape .rows) (drop (t * C .shape .rows) (C .given .counts)) i 0 inside ∙ getD-drop (t * C .shape .rows) (C .given .counts) i 0 ∙ z)
 
-  tree-same : (t : ℕ) → count t ≡ 0 → fit (frameAt C t) (C .given .inputs) ≡ fit (frameAt C t) (retarget C ys .given .inputs)
-  unfolding listing frameAt
+  tree-same : (t : ℕ) → count t ≡ 0 → fit (oneTreeAt C t) (C .given .inputs) ≡ fit (oneTreeAt C t) (retarget C ys .given .inputs)
+  unfolding listing oneTreeAt
   tree-same t z =
-      fit-same (frameAt C t) (C .given .inputs) (retarget C ys .given .inputs)
-      (accepted (C .shape) (C .trees) (C .given) p (frameAt C t) (forest-framed C p t))
-      (accepted (C .shape) (C .trees) (retarget C ys .given) p′ (frameAt C t) (forest-framed (retarget C ys) p′ t))
-      (record { targets = λ k q. but k (λ e. true≢false (sym q ∙ ap (kept (frameAt C t)) e ∙ out t z)); values = λ k q. refl; listings = λ j. refl })
+      fit-same (oneTreeAt C t) (C .given .inputs) (retarget C ys .given .inputs)
+      (accepted (C .shape) (C .trees) (C .given) p (oneTreeAt C t) (forest-framed C p t))
+      (accepted (C .shape) (C .trees) (retarget C ys .given) p′ (oneTreeAt C t) (forest-framed (retarget C ys) p′ t))
+      (record { targets = λ k q. but k (λ e. true≢false (sym q ∙ ap (kept (oneTreeAt C t)) e ∙ out t z)); values = λ k q. refl; listings = λ j. refl })
 
   -- the trees from tree t on that leave the row out
-  out-same : (t n : ℕ) (ts us : List Tree) → Grew (map (frameAt C) (from t n)) (C .given .inputs) ts → Grew (map (frameAt C) (from t n)) (retarget C ys .given .inputs) us
+  out-same : (t n : ℕ) (ts us : List Tree) → Grew (map (oneTreeAt C) (from t n)) (C .given .inputs) ts → Grew (map (oneTreeAt C) (from t n)) (retarget C ys .given .inputs) us
       → outTrees (C .shape .rows) (C .given .counts) i t (tables ts) ≡ outTrees (C .shape .rows) (C .given .counts) i t (tables us)
   unfolding from outTrees putIf
   out-same t zero [] [] g h = refl
@@ -122,7 +122,7 @@ module _ (C : ForestCall) (ys : List Float) (i : ℕ) (inside : i < C .shape .ro
 eq-test : (a b : ℕ) → a ≡ b → T (eqb a b)
 eq-test a b q = subst (λ x. T (eqb a x)) q (eqb-refl a)
 
-module _ {W : Type 0} (K : Waits W) (C : ForestCall) (R : ForestRooms W) (held : Binary64 (C .given .inputs .values)) (h : fitForest K C R .answer ≡ ForestAnswer.Grown) where
+module _ {W : Type 0} (K : WaitingForm W) (C : ForestCall) (R : ForestRooms W) (held : Binary64 (C .given .inputs .values)) (h : fitForest K C R .answer ≡ ForestAnswer.Grown) where
   a : ForestAnswered K C R
   a = forest-answered K C R h
 
@@ -170,7 +170,7 @@ module _ {W : Type 0} (K : Waits W) (C : ForestCall) (R : ForestRooms W) (held :
       ∙ ap (λ ts. meanOf (outTrees (C .shape .rows) (C .given .counts) i 0 ts) (valuesAt (C .shape .features) (C .given .inputs .values) i)) trees-read
 
 pub own-target : OwnTarget
-unfolding frames frameAt
+unfolding eachTree oneTreeAt
 own-target W K C ys i b but held R R′ h h′ out out′ o o′ =
     record {
       done = own-done K C R held h out o;

@@ -13,10 +13,10 @@ use lib.Dec.{T, leb, eqb, eqb→eq}
 use Rattle.rules.specs.declared.Shape.{Shape}
 use Rattle.rules.specs.Words.{from, along, stretch}
 use Rattle.rules.specs.Lent.{Given, valuesAt, listingAt, unweighted}
-use Rattle.rules.specs.Checks.{lengths, goodCuts}
-use Rattle.rules.specs.Forest.{ForestCall, part, frameAt, cutsGood}
-use Rattle.laws.specs.Lists.{same-default}
-use Rattle.laws.specs.Passed.{and3, and4, and5, cut-at}
+use Rattle.rules.specs.Checks.{lengths, goodStarts}
+use Rattle.rules.specs.Forest.{ForestCall, part, oneTreeAt, tapesGood}
+use Rattle.lemmas.specs.Lists.{same-default}
+use Rattle.lemmas.specs.Passed.{and3, and4, and5, cut-at}
 
 -- ---- the statements
 
@@ -39,12 +39,12 @@ cutSize cuts t = getD cuts (suc t) 0 - getD cuts t 0
 
 -- of what each tree of a forest grows by
 pub record TreesDivided (C : ForestCall) : Type 0 where
-  pub counts : Divided (C .given .counts) (C .trees) (λ t. C .shape .rows) (λ t. frameAt C t .counts)
-  pub words : Divided (C .words) (C .trees) (cutSize (C .wordCuts)) (λ t. frameAt C t .words)
-  pub thresholds : Divided (C .thresholds) (C .trees) (cutSize (C .thresholdCuts)) (λ t. frameAt C t .thresholds)
+  pub counts : Divided (C .given .counts) (C .trees) (λ t. C .shape .rows) (λ t. oneTreeAt C t .counts)
+  pub words : Divided (C .words) (C .trees) (cutSize (C .wordStarts)) (λ t. oneTreeAt C t .words)
+  pub thresholds : Divided (C .thresholds) (C .trees) (cutSize (C .thresholdStarts)) (λ t. oneTreeAt C t .thresholds)
 
 abbrev pub TreeParts : Type 0
-TreeParts = (C : ForestCall) → T (lengths (C .shape) (C .trees) (C .given) && cutsGood C) → TreesDivided C
+TreeParts = (C : ForestCall) → T (lengths (C .shape) (C .trees) (C .given) && tapesGood C) → TreesDivided C
 
 -- ---- one law for all: part t is size t entries from place at t on
 
@@ -74,8 +74,8 @@ even : {A : Type 0} (l : List A) (n width : ℕ) → length l ≡ n * width → 
 even l n width e = divided l n (λ t. t * width) (λ t. width) (zero-mul width) (λ t h. suc-mul t width) (sym e)
 
 -- of a tape
-tape-parts : {A : Type 0} (trees : ℕ) (cuts : List ℕ) (tape : List A) → T (goodCuts trees (length tape) cuts) → Divided tape trees (cutSize cuts) (part cuts tape)
-unfolding part goodCuts
+tape-parts : {A : Type 0} (trees : ℕ) (cuts : List ℕ) (tape : List A) → T (goodStarts trees (length tape) cuts) → Divided tape trees (cutSize cuts) (part cuts tape)
+unfolding part goodStarts
 tape-parts trees cuts tape g =
     let (long, z, rise, e) = and4 (eqb (length cuts) (suc trees)) (eqb (getD cuts 0 1) 0) (along leb cuts) (eqb (getD cuts trees (suc (length tape))) (length tape)) g in
     let known : length cuts ≡ suc trees = eqb→eq _ _ long in
@@ -108,11 +108,11 @@ data-parts S trees G g =
     }
 
 pub tree-parts : TreeParts
-unfolding frameAt cutsGood
+unfolding oneTreeAt tapesGood
 tree-parts C g =
-    let (n, w, t) = and3 (lengths (C .shape) (C .trees) (C .given)) (goodCuts (C .trees) (length (C .words)) (C .wordCuts)) (goodCuts (C .trees) (length (C .thresholds)) (C .thresholdCuts)) g in
+    let (n, w, t) = and3 (lengths (C .shape) (C .trees) (C .given)) (goodStarts (C .trees) (length (C .words)) (C .wordStarts)) (goodStarts (C .trees) (length (C .thresholds)) (C .thresholdStarts)) g in
     record {
       counts = even (C .given .counts) (C .trees) (C .shape .rows) (as-asked (C .shape) (C .trees) (C .given) n .1);
-      words = tape-parts (C .trees) (C .wordCuts) (C .words) w;
-      thresholds = tape-parts (C .trees) (C .thresholdCuts) (C .thresholds) t;
+      words = tape-parts (C .trees) (C .wordStarts) (C .words) w;
+      thresholds = tape-parts (C .trees) (C .thresholdStarts) (C .thresholds) t;
     }

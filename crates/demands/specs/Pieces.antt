@@ -11,7 +11,7 @@ use lib.Seq.{take-append-seam, drop-append-seam}
 use lib.Dec.{T, leb, eqb, eqb-refl, le→leb}
 use lib.Ieee.Fits.{and-i}
 use Rattle.rules.specs.Words.{along, alongFrom}
-use Rattle.rules.specs.Checks.{goodCuts}
+use Rattle.rules.specs.Checks.{goodStarts}
 use Rattle.rules.specs.Forest.{part}
 
 -- a + n₀, a + n₀ + n₁ and on
@@ -38,8 +38,8 @@ module _ {A : Type 0} where
   pub piece-at : (ps : List (List A)) (t : ℕ) → t < length ps → part (cutsOf ps) (flatten ps) t ≡ getD ps t []
   piece-at ps t h = piece-from [] ps t h
 
-  pub cuts-good : (ps : List (List A)) → T (goodCuts (length ps) (length (flatten ps)) (cutsOf ps))
-  unfolding goodCuts along alongFrom flatten
+  pub cuts-good : (ps : List (List A)) → T (goodStarts (length ps) (length (flatten ps)) (cutsOf ps))
+  unfolding goodStarts along alongFrom flatten
   cuts-good ps =
       let ends = eqb (getD (cutsOf ps) (length ps) (suc (length (flatten ps)))) (length (flatten ps)) in
       and-i (eqb (length (cutsOf ps)) (suc (length ps))) (along leb (cutsOf ps) && ends) (equal _ _ (ap suc (long 0 ps)))

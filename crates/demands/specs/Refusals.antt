@@ -18,7 +18,7 @@ use Rattle.rules.specs.declared.Reply.{Reply}
 use Rattle.rules.specs.declared.ErrorReply.{ErrorReply}
 use Rattle.rules.specs.declared.NodeReply.{NodeReply}
 use Rattle.rules.specs.Words.{nought, filled}
-use Rattle.rules.specs.Lent.{Columns, Reports, Waits, Stack, stack, Work, TreeRooms, ForestRooms, Outcome, shortest, entryAt, zeroColumns, zeroReports, zeroWork}
+use Rattle.rules.specs.Lent.{Columns, Reports, WaitingForm, WaitingRoom, waitingRoom, Work, TreeRooms, ForestRooms, Outcome, shortest, entryAt, zeroColumns, zeroReports, zeroWork}
 use Rattle.rules.specs.Checks.{Test, firstFailed, replies}
 use Rattle.rules.specs.Listing.{listingTests, checkListings}
 use Rattle.rules.specs.Draws.{Out, bad, ok}
@@ -27,14 +27,14 @@ use Rattle.rules.specs.Table.{treeTableTests, checkTree, ForestTable, forestTab
 use Rattle.rules.specs.Reading.{reads, predictTests, predictTree, meanTests, forestMeans, treeImportanceTests, treeImportances, forestImportanceTests, forestImportances}
 use Rattle.rules.specs.Forest.{ForestCall, Forest, stopped, grownAll, grownForest, forestTests, forestDone, forestEnds, fitForest}
 use Rattle.rules.specs.OutOfBag.{outTests, outOfBagMeans, errs, errorTests, outOfBagError}
-use Rattle.laws.specs.Lists.{Every}
+use Rattle.lemmas.specs.Lists.{Every}
 
 -- ---- the statements
 
 abbrev pub numbers : List Test → List ℕ
 numbers ts = map (λ (t : Test). t .number) ts
 
-pub record OrderOfChecks {W : Type 0} (K : Waits W) : Type 0 where
+pub record OrderOfChecks {W : Type 0} (K : WaitingForm W) : Type 0 where
   pub tree : (C : TreeCall) (R : TreeRooms W) → numbers (treeTests K C R) ≡ 1 ∷ 2 ∷ 3 ∷ 4 ∷ 5 ∷ 6 ∷ []
   pub forest : (C : ForestCall) (R : ForestRooms W) → numbers (forestTests K C R) ≡ 1 ∷ 2 ∷ 3 ∷ 4 ∷ 5 ∷ 6 ∷ []
   pub listings : (S : Shape) (xs : List Float) (ls : List ℕ) → numbers (listingTests S xs ls) ≡ 1 ∷ 2 ∷ 5 ∷ []
@@ -49,7 +49,7 @@ pub record OrderOfChecks {W : Type 0} (K : Waits W) : Type 0 where
 
 abbrev pub TreeRefused : Type 1
 TreeRefused =
-    (W : Type 0) (K : Waits W) (C : TreeCall) (R : TreeRooms W) (n : ℕ) → fitTree K C R .answer ≡ TreeAnswer.Refused n
+    (W : Type 0) (K : WaitingForm W) (C : TreeCall) (R : TreeRooms W) (n : ℕ) → fitTree K C R .answer ≡ TreeAnswer.Refused n
     → (fitTree K C R .rooms ≡ R) × (firstFailed (treeTests K C R) ≡ n)
 
 -- a slice is as long as it was, and x stands at each of its places, whatever a place beyond them is taken to hold
@@ -73,33 +73,33 @@ pub record ReportsZero (before after : Reports) : Type 0 where
   pub thresholds : Everywhere 0 (before .thresholds) (after .thresholds)
 
 -- of the waiting list each place: its six whole numbers and its three floats
-pub record WorkZero (before after : Work Stack) : Type 0 where
+pub record WorkZero (before after : Work WaitingRoom) : Type 0 where
   pub order : Everywhere 0 (before .order) (after .order)
   pub scratch : Everywhere 0 (before .scratch) (after .scratch)
   pub flags : Everywhere false (before .flags) (after .flags)
   pub wholes : Everywhere (0 ∷ 0 ∷ 0 ∷ 0 ∷ 0 ∷ 0 ∷ []) (before .waiting .wholes) (after .waiting .wholes)
   pub reals : Everywhere (nought ∷ nought ∷ nought ∷ []) (before .waiting .reals) (after .waiting .reals)
 
-pub record TreeZero (before after : TreeRooms Stack) : Type 0 where
+pub record TreeZero (before after : TreeRooms WaitingRoom) : Type 0 where
   pub nodes : NodesZero (before .nodes) (after .nodes)
   pub work : WorkZero (before .work) (after .work)
 
 abbrev pub TreeBad : Type 0
-TreeBad = (C : TreeCall) (R : TreeRooms Stack) (d : Place) → fitTree stack C R .answer ≡ TreeAnswer.BadDraw d → TreeZero R (fitTree stack C R .rooms)
+TreeBad = (C : TreeCall) (R : TreeRooms WaitingRoom) (d : Place) → fitTree waitingRoom C R .answer ≡ TreeAnswer.BadDraw d → TreeZero R (fitTree waitingRoom C R .rooms)
 
 abbrev pub ForestRefused : Type 1
 ForestRefused =
-    (W : Type 0) (K : Waits W) (C : ForestCall) (R : ForestRooms W) (n : ℕ) → fitForest K C R .answer ≡ ForestAnswer.Refused n
+    (W : Type 0) (K : WaitingForm W) (C : ForestCall) (R : ForestRooms W) (n : ℕ) → fitForest K C R .answer ≡ ForestAnswer.Refused n
     → (fitForest K C R .rooms ≡ R) × (firstFailed (forestTests K C R) ≡ n)
 
-pub record ForestZero (before after : ForestRooms Stack) : Type 0 where
+pub record ForestZero (before after : ForestRooms WaitingRoom) : Type 0 where
   pub nodes : NodesZero (before .nodes) (after .nodes)
   pub starts : Everywhere 0 (before .starts) (after .starts)
   pub reports : ReportsZero (before .reports) (after .reports)
   pub work : WorkZero (before .work) (after .work)
 
 abbrev pub ForestBad : Type 0
-ForestBad = (C : ForestCall) (R : ForestRooms Stack) (d : Place) → fitForest stack C R .answer ≡ ForestAnswer.BadDraw d → ForestZero R (fitForest stack C R .rooms)
+ForestBad = (C : ForestCall) (R : ForestRooms WaitingRoom) (d : Place) → fitForest waitingRoom C R .answer ≡ ForestAnswer.BadDraw d → ForestZero R (fitForest waitingRoom C R .rooms)
 
 -- not refused by 1 to 6
 abbrev pub Unrefused : TreeAnswer → Type 0
@@ -146,7 +146,7 @@ pub record ReaderRefused : Type 0 where
 
 -- ---- the order
 
-pub order-of-checks : {W : Type 0} (K : Waits W) → OrderOfChecks K
+pub order-of-checks : {W : Type 0} (K : WaitingForm W) → OrderOfChecks K
 unfolding treeTests forestTests listingTests predictTests meanTests outTests errorTests treeImportanceTests forestImportanceTests treeTableTests forestTableTests
 order-of-checks K =
     record {
@@ -195,7 +195,7 @@ reports-zero c =
       thresholds = all-filled 0 (c .thresholds);
     }
 
-work-zero : (w : Work Stack) → WorkZero w (zeroWork stack w)
+work-zero : (w : Work WaitingRoom) → WorkZero w (zeroWork waitingRoom w)
 work-zero w =
     record {
       order = all-filled 0 (w .order);
@@ -218,9 +218,9 @@ tree-refused W K C R n h = go (firstFailed (treeTests K C R)) (grownTree C) h
 
 pub tree-bad : TreeBad
 unfolding fitTree treeEnds treeDone
-tree-bad C R d h = go (firstFailed (treeTests stack C R)) (grownTree C) h
+tree-bad C R d h = go (firstFailed (treeTests waitingRoom C R)) (grownTree C) h
   where
-    go : (k : ℕ) (o : Out Tree) → treeEnds stack k o R .answer ≡ TreeAnswer.BadDraw d → TreeZero R (treeEnds stack k o R .rooms)
+    go : (k : ℕ) (o : Out Tree) → treeEnds waitingRoom k o R .answer ≡ TreeAnswer.BadDraw d → TreeZero R (treeEnds waitingRoom k o R .rooms)
     go zero (bad s) h = record { nodes = nodes-zero (R .nodes); work = work-zero (R .work) }
     go zero (ok t) h = let z : _≡_ {A = ℕ} 0 1 = cc in absurd (omega arith)
     go (suc k) o h = let z : _≡_ {A = ℕ} 0 1 = cc in absurd (omega arith)
@@ -238,9 +238,9 @@ forest-refused W K C R n h = go (firstFailed (forestTests K C R)) (grownForest C
 
 pub forest-bad : ForestBad
 unfolding fitForest forestEnds forestDone
-forest-bad C R d h = go (firstFailed (forestTests stack C R)) (grownForest C) h
+forest-bad C R d h = go (firstFailed (forestTests waitingRoom C R)) (grownForest C) h
   where
-    go : (k : ℕ) (f : Forest) → forestEnds stack k f R .answer ≡ ForestAnswer.BadDraw d → ForestZero R (forestEnds stack k f R .rooms)
+    go : (k : ℕ) (f : Forest) → forestEnds waitingRoom k f R .answer ≡ ForestAnswer.BadDraw d → ForestZero R (forestEnds waitingRoom k f R .rooms)
     go zero (stopped e) h = record { nodes = nodes-zero (R .nodes); starts = all-filled 0 (R .starts); reports = reports-zero (R .reports); work = work-zero (R .work) }
     go zero (grownAll ts) h = let z : _≡_ {A = ℕ} 0 1 = cc in absurd (omega arith)
     go (suc k) f h = let z : _≡_ {A = ℕ} 0 1 = cc in absurd (omega arith)
@@ -306,7 +306,7 @@ failed-within top (t ∷ ts) e = go (t .passes) (e .0) (failed-within top ts (e 
 
 -- ---- where a fit is not refused, no test fails
 
-pub tree-passes : {W : Type 0} (K : Waits W) (C : TreeCall) (R : TreeRooms W) → Unrefused (fitTree K C R .answer) → firstFailed (treeTests K C R) ≡ 0
+pub tree-passes : {W : Type 0} (K : WaitingForm W) (C : TreeCall) (R : TreeRooms W) → Unrefused (fitTree K C R .answer) → firstFailed (treeTests K C R) ≡ 0
 unfolding fitTree treeEnds
 tree-passes K C R h = go (firstFailed (treeTests K C R)) refl h
   where
@@ -314,7 +314,7 @@ tree-passes K C R h = go (firstFailed (treeTests K C R)) refl h
     go zero q h = q
     go (suc k) q h = absurd h
 
-pub forest-passes : {W : Type 0} (K : Waits W) (C : ForestCall) (R : ForestRooms W) → ForestUnrefused (fitForest K C R .answer) → firstFailed (forestTests K C R) ≡ 0
+pub forest-passes : {W : Type 0} (K : WaitingForm W) (C : ForestCall) (R : ForestRooms W) → ForestUnrefused (fitForest K C R .answer) → firstFailed (forestTests K C R) ≡ 0
 unfolding fitForest forestEnds
 forest-passes K C R h = go (firstFailed (forestTests K C R)) refl h
   where

@@ -12,12 +12,12 @@ use Rattle.rules.specs.declared.Shape.{Shape}
 use Rattle.rules.specs.declared.TreeAnswer.{TreeAnswer}
 use Rattle.rules.specs.declared.ForestAnswer.{ForestAnswer}
 use Rattle.rules.specs.Words.{from, total}
-use Rattle.rules.specs.Lent.{Frame, Columns, Reports, Stack, stack, Work, TreeRooms, ForestRooms, keptRows, shortest}
+use Rattle.rules.specs.Lent.{OneTree, Columns, Reports, WaitingRoom, waitingRoom, Work, TreeRooms, ForestRooms, keptRows, shortest}
 use Rattle.rules.specs.Checks.{firstFailed, roomFor, workEnough, reportsExact}
-use Rattle.rules.specs.Fit.{TreeCall, frameOf, treeTests, fitTree}
-use Rattle.rules.specs.Forest.{ForestCall, frameAt, frames, roomsGood, forestTests, fitForest}
-use Rattle.laws.specs.Lists.{is-true, total-map}
-use Rattle.laws.specs.Passed.{and2, tree-passed, forest-passed}
+use Rattle.rules.specs.Fit.{TreeCall, oneTreeOf, treeTests, fitTree}
+use Rattle.rules.specs.Forest.{ForestCall, oneTreeAt, eachTree, roomsGood, forestTests, fitForest}
+use Rattle.lemmas.specs.Lists.{is-true, total-map}
+use Rattle.lemmas.specs.Passed.{and2, tree-passed, forest-passed}
 use Rattle.demands.specs.Refusals.{Unrefused, ForestUnrefused, tree-refused, forest-refused, failed-within, tree-passes, forest-passes}
 
 -- ---- the statements
@@ -31,7 +31,7 @@ pub record NodesLong (n : ℕ) (c : Columns) : Type 0 where
   pub trueChild : n ≤ length (c .trueChild)
   pub falseChild : n ≤ length (c .falseChild)
 
-pub record WorkLong (S : Shape) (w : Work Stack) : Type 0 where
+pub record WorkLong (S : Shape) (w : Work WaitingRoom) : Type 0 where
   pub order : S .features * S .rows ≤ length (w .order)
   pub scratch : S .rows ≤ length (w .scratch)
   pub flagsByRows : S .rows ≤ length (w .flags)
@@ -48,30 +48,30 @@ pub record ReportsLong (trees : ℕ) (c : Reports) : Type 0 where
   pub thresholds : length (c .thresholds) ≡ trees
 
 -- what a tree may come to, by its kept rows
-abbrev pub nodesAtMost : Frame → ℕ
+abbrev pub nodesAtMost : OneTree → ℕ
 nodesAtMost F = max 1 (2 * length (keptRows F) - 1)
 
-pub record TreeLong (C : TreeCall) (R : TreeRooms Stack) : Type 0 where
-  pub nodes : NodesLong (nodesAtMost (frameOf C)) (R .nodes)
+pub record TreeLong (C : TreeCall) (R : TreeRooms WaitingRoom) : Type 0 where
+  pub nodes : NodesLong (nodesAtMost (oneTreeOf C)) (R .nodes)
   pub work : WorkLong (C .shape) (R .work)
 
-pub record ForestLong (C : ForestCall) (R : ForestRooms Stack) : Type 0 where
-  pub nodes : NodesLong (total (λ t. nodesAtMost (frameAt C t)) (from 0 (C .trees))) (R .nodes)
+pub record ForestLong (C : ForestCall) (R : ForestRooms WaitingRoom) : Type 0 where
+  pub nodes : NodesLong (total (λ t. nodesAtMost (oneTreeAt C t)) (from 0 (C .trees))) (R .nodes)
   pub starts : C .trees + 1 ≤ length (R .starts)
   pub reports : ReportsLong (C .trees) (R .reports)
   pub work : WorkLong (C .shape) (R .work)
 
 abbrev pub TreeRoomsLong : Type 0
-TreeRoomsLong = (C : TreeCall) (R : TreeRooms Stack) → Unrefused (fitTree stack C R .answer) → TreeLong C R
+TreeRoomsLong = (C : TreeCall) (R : TreeRooms WaitingRoom) → Unrefused (fitTree waitingRoom C R .answer) → TreeLong C R
 
 abbrev pub TreeRoomsTaken : Type 0
-TreeRoomsTaken = (C : TreeCall) (R : TreeRooms Stack) → TreeLong C R → fitTree stack C R .answer ≡ TreeAnswer.Refused 6 → ⊥
+TreeRoomsTaken = (C : TreeCall) (R : TreeRooms WaitingRoom) → TreeLong C R → fitTree waitingRoom C R .answer ≡ TreeAnswer.Refused 6 → ⊥
 
 abbrev pub ForestRoomsLong : Type 0
-ForestRoomsLong = (C : ForestCall) (R : ForestRooms Stack) → ForestUnrefused (fitForest stack C R .answer) → ForestLong C R
+ForestRoomsLong = (C : ForestCall) (R : ForestRooms WaitingRoom) → ForestUnrefused (fitForest waitingRoom C R .answer) → ForestLong C R
 
 abbrev pub ForestRoomsTaken : Type 0
-ForestRoomsTaken = (C : ForestCall) (R : ForestRooms Stack) → ForestLong C R → fitForest stack C R .answer ≡ ForestAnswer.Refused 6 → ⊥
+ForestRoomsTaken = (C : ForestCall) (R : ForestRooms WaitingRoom) → ForestLong C R → fitForest waitingRoom C R .answer ≡ ForestAnswer.Refused 6 → ⊥
 
 -- ---- what the tests say
 
@@ -107,12 +107,12 @@ nodes-long n c h =
 nodes-fit : (n : ℕ) (c : Columns) → NodesLong n c → n ≤ shortest c
 nodes-fit n c h = omega (arith, h .value, h .feature, h .threshold, h .score, h .trueChild, h .falseChild)
 
-work-long : (S : Shape) (w : Work Stack) → workEnough stack S w ≡ true → WorkLong S w
+work-long : (S : Shape) (w : Work WaitingRoom) → workEnough waitingRoom S w ≡ true → WorkLong S w
 unfolding workEnough
 work-long S w t =
     let (order, t₂) = parts t in let (scratch, t₃) = parts t₂ in let (flags, places) = parts t₃ in
     let f : max (S .rows) (S .features) ≤ length (w .flags) = least flags in
-    let p : S .rows ≤ stack .places (w .waiting) = least places in
+    let p : S .rows ≤ waitingRoom .places (w .waiting) = least places in
     record {
       order = least order;
       scratch = least scratch;
@@ -122,11 +122,11 @@ work-long S w t =
       reals = omega (arith, p);
     }
 
-work-fits : (S : Shape) (w : Work Stack) → WorkLong S w → workEnough stack S w ≡ true
+work-fits : (S : Shape) (w : Work WaitingRoom) → WorkLong S w → workEnough waitingRoom S w ≡ true
 unfolding workEnough
 work-fits S w h =
     let flags : max (S .rows) (S .features) ≤ length (w .flags) = omega (arith, h .flagsByRows, h .flagsByFeatures) in
-    let places : S .rows ≤ stack .places (w .waiting) = omega (arith, h .wholes, h .reals) in
+    let places : S .rows ≤ waitingRoom .places (w .waiting) = omega (arith, h .wholes, h .reals) in
     both (enough (h .order)) (both (enough (h .scratch)) (both (enough flags) (enough places)))
 
 reports-long : (trees : ℕ) (c : Reports) → reportsExact trees c ≡ true → ReportsLong trees c
@@ -149,43 +149,43 @@ not-six k h₁ h₂ = omega arith
 pub tree-rooms-long : TreeRoomsLong
 unfolding roomFor
 tree-rooms-long C R un =
-    let p = tree-passed stack C R (tree-passes stack C R un) in
-    record { nodes = nodes-long (nodesAtMost (frameOf C)) (R .nodes) (p .room); work = work-long (C .shape) (R .work) (is-true (workEnough stack (C .shape) (R .work)) (p .work)) }
+    let p = tree-passed waitingRoom C R (tree-passes waitingRoom C R un) in
+    record { nodes = nodes-long (nodesAtMost (oneTreeOf C)) (R .nodes) (p .room); work = work-long (C .shape) (R .work) (is-true (workEnough waitingRoom (C .shape) (R .work)) (p .work)) }
 
 pub tree-rooms-taken : TreeRoomsTaken
 unfolding treeTests roomFor
 tree-rooms-taken C R long h =
-    not-six (firstFailed (treeTests stack C R)) (tree-refused Stack stack C R 6 h .1)
-    (failed-within 5 (treeTests stack C R) (λ f. lit≤ tt, (λ f. lit≤ tt, (λ f. lit≤ tt, (λ f. lit≤ tt, (λ f. lit≤ tt, (λ f. absurd (subst T (sym passes ∙ f) tt), tt)))))))
+    not-six (firstFailed (treeTests waitingRoom C R)) (tree-refused WaitingRoom waitingRoom C R 6 h .1)
+    (failed-within 5 (treeTests waitingRoom C R) (λ f. lit≤ tt, (λ f. lit≤ tt, (λ f. lit≤ tt, (λ f. lit≤ tt, (λ f. lit≤ tt, (λ f. absurd (subst T (sym passes ∙ f) tt), tt)))))))
   where
-    passes : leb (nodesAtMost (frameOf C)) (shortest (R .nodes)) && workEnough stack (C .shape) (R .work) ≡ true
-    passes = both (enough (nodes-fit (nodesAtMost (frameOf C)) (R .nodes) (long .nodes))) (work-fits (C .shape) (R .work) (long .work))
+    passes : leb (nodesAtMost (oneTreeOf C)) (shortest (R .nodes)) && workEnough waitingRoom (C .shape) (R .work) ≡ true
+    passes = both (enough (nodes-fit (nodesAtMost (oneTreeOf C)) (R .nodes) (long .nodes))) (work-fits (C .shape) (R .work) (long .work))
 
 -- ---- a forest
 
 -- what all the trees may come to
-room-same : (C : ForestCall) → total roomFor (frames C) ≡ total (λ t. nodesAtMost (frameAt C t)) (from 0 (C .trees))
-unfolding frames roomFor
-room-same C = total-map roomFor (frameAt C) (from 0 (C .trees))
+room-same : (C : ForestCall) → total roomFor (eachTree C) ≡ total (λ t. nodesAtMost (oneTreeAt C t)) (from 0 (C .trees))
+unfolding eachTree roomFor
+room-same C = total-map roomFor (oneTreeAt C) (from 0 (C .trees))
 
 pub forest-rooms-long : ForestRoomsLong
 forest-rooms-long C R un =
-    let p = forest-passed stack C R (forest-passes stack C R un) in
+    let p = forest-passed waitingRoom C R (forest-passes waitingRoom C R un) in
     record {
-      nodes = nodes-long (total (λ t. nodesAtMost (frameAt C t)) (from 0 (C .trees))) (R .nodes) (subst (λ n. n ≤ shortest (R .nodes)) (room-same C) (p .room));
+      nodes = nodes-long (total (λ t. nodesAtMost (oneTreeAt C t)) (from 0 (C .trees))) (R .nodes) (subst (λ n. n ≤ shortest (R .nodes)) (room-same C) (p .room));
       starts = omega (arith, p .startsRoom);
       reports = reports-long (C .trees) (R .reports) (is-true (reportsExact (C .trees) (R .reports)) (p .reports));
-      work = work-long (C .shape) (R .work) (is-true (workEnough stack (C .shape) (R .work)) (p .work));
+      work = work-long (C .shape) (R .work) (is-true (workEnough waitingRoom (C .shape) (R .work)) (p .work));
     }
 
 pub forest-rooms-taken : ForestRoomsTaken
 unfolding forestTests roomsGood
 forest-rooms-taken C R long h =
-    not-six (firstFailed (forestTests stack C R)) (forest-refused Stack stack C R 6 h .1)
-    (failed-within 5 (forestTests stack C R) (λ f. lit≤ tt, (λ f. lit≤ tt, (λ f. lit≤ tt, (λ f. lit≤ tt, (λ f. lit≤ tt, (λ f. absurd (subst T (sym passes ∙ f) tt), tt)))))))
+    not-six (firstFailed (forestTests waitingRoom C R)) (forest-refused WaitingRoom waitingRoom C R 6 h .1)
+    (failed-within 5 (forestTests waitingRoom C R) (λ f. lit≤ tt, (λ f. lit≤ tt, (λ f. lit≤ tt, (λ f. lit≤ tt, (λ f. lit≤ tt, (λ f. absurd (subst T (sym passes ∙ f) tt), tt)))))))
   where
-    passes : leb (total roomFor (frames C)) (shortest (R .nodes)) && roomsGood stack C R ≡ true
+    passes : leb (total roomFor (eachTree C)) (shortest (R .nodes)) && roomsGood waitingRoom C R ≡ true
     passes =
         let starts : suc (C .trees) ≤ length (R .starts) = omega (arith, long .starts) in
-        both (enough (subst (λ n. n ≤ shortest (R .nodes)) (sym (room-same C)) (nodes-fit (total (λ t. nodesAtMost (frameAt C t)) (from 0 (C .trees))) (R .nodes) (long .nodes))))
+        both (enough (subst (λ n. n ≤ shortest (R .nodes)) (sym (room-same C)) (nodes-fit (total (λ t. nodesAtMost (oneTreeAt C t)) (from 0 (C .trees))) (R .nodes) (long .nodes))))
         (both (work-fits (C .shape) (R .work) (long .work)) (both (enough starts) (reports-fit (C .trees) (R .reports) (long .reports))))

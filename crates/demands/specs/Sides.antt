@@ -4,7 +4,7 @@
 -- same square, and because no side is divided by whose mass is not above 0. Assumes nothing.
 use Prim.Native.Nat.{ℕ}
 use mathlib.Core.Path.{_≡_, refl}
-use mathlib.Core.Bool.{Bool, true, false, not, _||_, cond}
+use mathlib.Core.Bool.{Bool, true, false, _||_, cond}
 use mathlib.Core.List.{[]}
 use lib.ListN.{getD}
 use lib.Dec.{T}
@@ -14,7 +14,7 @@ use Rattle.floats.specs.Turned.{mul-comm64, square-turned}
 use Rattle.rules.specs.declared.Totals.{Totals}
 use Rattle.rules.specs.Words.{nought}
 use Rattle.rules.specs.Totals.{empty, massless, gap, proxy, score}
-use Rattle.rules.specs.Search.{totals, tally, same, sideOf}
+use Rattle.rules.specs.Search.{totalsOf, tally, onTrue, onFalse, sideOf}
 use Rattle.rules.specs.Growth.{Waiting, child, splitting}
 
 -- ---- the statements
@@ -30,7 +30,7 @@ NeverBelow = (t f : Totals) → (lt (proxy t f) nought ≡ false) × ((m : Float
 -- w and w′ may differ in their other columns, and in the totals and counts that they carry
 abbrev pub ColumnAlone : Type 0
 ColumnAlone =
-    (w w′ : Waiting) → w .cut ≡ w′ .cut → getD (w .task .columns) (w .cut .feature) [] ≡ getD (w′ .task .columns) (w′ .cut .feature) []
+    (w w′ : Waiting) → w .cut ≡ w′ .cut → getD (w .node .columns) (w .cut .feature) [] ≡ getD (w′ .node .columns) (w′ .cut .feature) []
     → ((k : ℕ) → splitting w k ≡ splitting w′ k)
     × ((b : Bool → Bool) → (child b w .totals ≡ child b w′ .totals) × (child b w .count ≡ child b w′ .count))
 
@@ -85,9 +85,9 @@ never-below t f = (
 pub column-alone : ColumnAlone
 unfolding splitting child
 column-alone w w′ cuts columns = (
-  (λ k i. record { cut = cuts i; score = score (added same i) (added not i) (totals empty (columns i) .mass); children = k }),
+  (λ k i. record { cut = cuts i; score = score (added onTrue i) (added onFalse i) (totalsOf empty (columns i) .mass); children = k }),
   (λ b. (added b, (λ i. tally (sideOf b (cuts i) (columns i))))),
 )
   where
     added : (b : Bool → Bool) → child b w .totals ≡ child b w′ .totals
-    added b = λ i. totals empty (sideOf b (cuts i) (columns i))
+    added b = λ i. totalsOf empty (sideOf b (cuts i) (columns i))

@@ -23,19 +23,19 @@ use Rattle.rules.specs.declared.Held.the-variants.{Nothing, Holds}
 use Rattle.rules.specs.declared.Kind.{Kind}
 use Rattle.rules.specs.declared.Kind.the-variants.{Leaf, Split}
 use Rattle.rules.specs.Words.{eachOnce}
-use Rattle.rules.specs.Lent.{Data, Frame, Entry, Waits, TreeRooms, entriesAt, keptRows, kept}
+use Rattle.rules.specs.Lent.{Data, OneTree, Entry, WaitingForm, TreeRooms, entriesAt, keptRows, kept}
 use Rattle.rules.specs.Checks.{firstFailed, roomFor}
 use Rattle.rules.specs.Draws.{Out, ok, bind, Tapes, takeWords, takeThreshold, nextThreshold, tape}
 use Rattle.rules.specs.Totals.{less, proxy, valueOf}
-use Rattle.rules.specs.Search.{Column, at, Task, same, better, judge, final, drawn, Tries, drawIn, randomIn, tryOne, tryAll, Found, uncut, cut, found, search}
+use Rattle.rules.specs.Search.{Column, at, NodeRows, onTrue, onFalse, better, judge, final, drawn, Tries, drawIn, randomIn, tryOne, tryAll, Found, noCut, cutFound, found, search}
 use Rattle.rules.specs.Growth.{TreeNode, Waiting, State, child, leafOf, splitting, splitOf, withChildren, searchable, joins, searchIf, expand, fromRoot}
-use Rattle.rules.specs.Fit.{listing, element, column, root, Tree, treeOf, rooted, fit, entryOf, entries, paramsOf, TreeCall, frameOf, grownTree, treeTests, treeEnds, fitTree}
+use Rattle.rules.specs.Fit.{listing, element, column, root, Tree, treeOf, growFrom, fit, entryOf, entries, paramsOf, TreeCall, oneTreeOf, grownTree, treeTests, treeEnds, fitTree}
 use Rattle.rules.specs.Table.{isLeaf}
-use Rattle.laws.specs.Lists.{Every, every-imp, every-append, every-set}
-use Rattle.laws.specs.Outs.{bind-all, then-then, then-of, then-any, then-after, Then}
-use Rattle.laws.specs.Stack.{root-keep}
-use Rattle.laws.specs.Lifted.{mapped, mapped-on, through, second, lift, root-lift}
-use Rattle.laws.specs.Answered.{TreeAnswered, tree-answered}
+use Rattle.lemmas.specs.Lists.{Every, every-imp, every-append, every-set}
+use Rattle.lemmas.specs.Outs.{bind-all, then-then, then-of, then-any, then-after, Then}
+use Rattle.lemmas.specs.WaitingOrder.{root-keep}
+use Rattle.lemmas.specs.Lifted.{mapped, mapped-on, through, second, lift, root-lift}
+use Rattle.lemmas.specs.Answered.{TreeAnswered, tree-answered}
 use Rattle.demands.specs.Walks.{tree-left}
 
 -- ---- the statements
@@ -46,7 +46,7 @@ drawing ts C = record { shape = C .shape; settings = C .settings; tried = C .tri
 
 abbrev pub BestAlone : Type 1
 BestAlone =
-    (W : Type 0) (K : Waits W) (C : TreeCall) (R : TreeRooms W) → C .settings .splitter ≡ Best
+    (W : Type 0) (K : WaitingForm W) (C : TreeCall) (R : TreeRooms W) → C .settings .splitter ≡ Best
     → ((ts : List Float) → fitTree K (drawing ts C) R ≡ fitTree K C R)
     × ((r : Report) → fitTree K C R .answer ≡ TreeAnswer.Grown r → r .thresholds ≡ 0)
 
@@ -56,7 +56,7 @@ CutAt ts n e = (isLeaf e ≡ true) ⊎ ((i : ℕ) × (i < n) × (getD ts i nan �
 
 abbrev pub FromTape : Type 1
 FromTape =
-    (W : Type 0) (K : Waits W) (C : TreeCall) (R : TreeRooms W) (r : Report) → C .settings .splitter ≡ Random → fitTree K C R .answer ≡ TreeAnswer.Grown r
+    (W : Type 0) (K : WaitingForm W) (C : TreeCall) (R : TreeRooms W) (r : Report) → C .settings .splitter ≡ Random → fitTree K C R .answer ≡ TreeAnswer.Grown r
     → Every (CutAt (C .thresholds) (r .thresholds)) (entriesAt (fitTree K C R .rooms .nodes) 0 (r .nodes))
 
 -- ---- the best splitter
@@ -76,12 +76,12 @@ module _ (P : Params) (best : P .splitter ≡ Best) (ts : List Float) where
   abbrev tries : Tries Tapes → Tries Tapes
   tries r = record { best = r .best; left = swap ts (r .left) }
 
-  tries-swap : (task : Task) (js : List ℕ) (r : Tries Tapes) → tryAll (tape (P .features)) P task js (tries r) ≡ mapped tries (tryAll (tape (P .features)) P task js r)
+  tries-swap : (node : NodeRows) (js : List ℕ) (r : Tries Tapes) → tryAll (tape (P .features)) P node js (tries r) ≡ mapped tries (tryAll (tape (P .features)) P node js r)
   unfolding tryAll tryOne bind
-  tries-swap task [] r = refl
-  tries-swap task (j ∷ js) r = through tries tries (tryOne (tape (P .features)) (P .splitter) P task j r) _ _ (one (P .splitter) best) (λ r′. tries-swap task js r′)
+  tries-swap node [] r = refl
+  tries-swap node (j ∷ js) r = through tries tries (tryOne (tape (P .features)) (P .splitter) P node j r) _ _ (one (P .splitter) best) (λ r′. tries-swap node js r′)
     where
-      one : (b : Splitter) → b ≡ Best → tryOne (tape (P .features)) b P task j (tries r) ≡ mapped tries (tryOne (tape (P .features)) b P task j r)
+      one : (b : Splitter) → b ≡ Best → tryOne (tape (P .features)) b P node j (tries r) ≡ mapped tries (tryOne (tape (P .features)) b P node j r)
       one Best e = refl
       one Random e = absurd (random≢best e)
 
@@ -93,22 +93,22 @@ module _ (P : Params) (best : P .splitter ≡ Best) (ts : List Float) where
       go true = refl
       go false = refl
 
-  search-swap : (d : Tapes) (task : Task) → search (tape (P .features)) P (swap ts d) task ≡ mapped (second (swap ts)) (search (tape (P .features)) P d task)
+  search-swap : (d : Tapes) (node : NodeRows) → search (tape (P .features)) P (swap ts d) node ≡ mapped (second (swap ts)) (search (tape (P .features)) P d node)
   unfolding search tape bind
-  search-swap d task =
+  search-swap d node =
       through (second (swap ts)) (second (swap ts)) (tape (P .features) .shuffle d) _ _ (words-swap d)
-      (λ o. through tries (second (swap ts)) (tryAll (tape (P .features)) P task (take (min (P .tried) (P .features)) (o .0)) (record { best = Nothing; left = o .1 })) _ _
-      (tries-swap task (take (min (P .tried) (P .features)) (o .0)) (record { best = Nothing; left = o .1 })) (λ r. refl))
+      (λ o. through tries (second (swap ts)) (tryAll (tape (P .features)) P node (take (min (P .tried) (P .features)) (o .0)) (record { best = Nothing; left = o .1 })) _ _
+      (tries-swap node (take (min (P .tried) (P .features)) (o .0)) (record { best = Nothing; left = o .1 })) (λ r. refl))
 
 -- the tree of a growth that left its thresholds alone
-plain : Frame → Task → State Tapes → Tree
-plain F task s =
+plain : OneTree → NodeRows → State Tapes → Tree
+plain F node s =
     record {
       nodes = s .nodes;
       report = record {
         nodes = length (s .nodes);
         depth = s .depth;
-        mass = task .totals .mass;
+        mass = node .totals .mass;
         searches = s .left .searches;
         words = length (F .words) - length (s .left .words);
         thresholds = 0;
@@ -116,17 +116,17 @@ plain F task s =
     }
 
 -- as from no thresholds at all
-abbrev growth : Frame → Task → Out (State Tapes)
-growth F task = fromRoot (F .params) (search (tape (F .params .features)) (F .params)) task (record { words = F .words; thresholds = []; searches = 0 })
+abbrev growth : OneTree → NodeRows → Out (State Tapes)
+growth F node = fromRoot (F .params) (search (tape (F .params .features)) (F .params)) node (record { words = F .words; thresholds = []; searches = 0 })
 
-plainly : (F : Frame) (task : Task) → F .params .splitter ≡ Best → rooted F task ≡ mapped (plain F task) (growth F task)
-unfolding rooted treeOf plain
-plainly F task best =
-    ap (λ m. bind m (λ s. ok (treeOf F task s))) (root-lift (F .params) _ (swap (F .thresholds)) (search-swap (F .params) best (F .thresholds)) task _)
-    ∙ mapped-on (lift (swap (F .thresholds))) (growth F task) (λ s. ok (treeOf F task s))
-    ∙ bind-all (growth F task) _ _ (λ s i. ok (unused s i))
+plainly : (F : OneTree) (node : NodeRows) → F .params .splitter ≡ Best → growFrom F node ≡ mapped (plain F node) (growth F node)
+unfolding growFrom treeOf plain
+plainly F node best =
+    ap (λ m. bind m (λ s. ok (treeOf F node s))) (root-lift (F .params) _ (swap (F .thresholds)) (search-swap (F .params) best (F .thresholds)) node _)
+    ∙ mapped-on (lift (swap (F .thresholds))) (growth F node) (λ s. ok (treeOf F node s))
+    ∙ bind-all (growth F node) _ _ (λ s i. ok (unused s i))
   where
-    unused : (s : State Tapes) → treeOf F task (lift (swap (F .thresholds)) s) ≡ plain F task s
+    unused : (s : State Tapes) → treeOf F node (lift (swap (F .thresholds)) s) ≡ plain F node s
     unused s =
         λ i.
         record {
@@ -134,7 +134,7 @@ plainly F task best =
           report = record {
             nodes = length (s .nodes);
             depth = s .depth;
-            mass = task .totals .mass;
+            mass = node .totals .mass;
             searches = s .left .searches;
             words = length (F .words) - length (s .left .words);
             thresholds = sub-self (length (F .thresholds)) i;
@@ -142,24 +142,24 @@ plainly F task best =
         }
 
 pub best-alone : BestAlone
-unfolding fitTree treeTests roomFor keptRows kept frameOf paramsOf grownTree fit root column listing element plain
+unfolding fitTree treeTests roomFor keptRows kept oneTreeOf paramsOf grownTree fit root column listing element plain
 best-alone W K C R best = (
   (λ ts i. treeEnds K (firstFailed (treeTests K C R)) ((same ts ∙ sym (same (C .thresholds))) i) R),
   (λ r h.
       let a : TreeAnswered K C R r = tree-answered K C R r h in
       ap (λ (x : Report). x .thresholds) (sym (a .reported))
       ∙ then-of (λ (t : Tree). t .report .thresholds ≡ 0) (grownTree C) (a .tree) (a .grew)
-      (subst (λ o. Then o (λ (t : Tree). t .report .thresholds ≡ 0)) (sym (same (C .thresholds))) (then-any (growth F task) _ _ (λ s. refl)))),
+      (subst (λ o. Then o (λ (t : Tree). t .report .thresholds ≡ 0)) (sym (same (C .thresholds))) (then-any (growth F node) _ _ (λ s. refl)))),
 )
   where
-    F : Frame
-    F = frameOf C
+    F : OneTree
+    F = oneTreeOf C
 
-    task : Task
-    task = root F (C .given .inputs)
+    node : NodeRows
+    node = root F (C .given .inputs)
 
-    same : (ts : List Float) → grownTree (drawing ts C) ≡ mapped (plain F task) (growth F task)
-    same ts = plainly (frameOf (drawing ts C)) task best
+    same : (ts : List Float) → grownTree (drawing ts C) ≡ mapped (plain F node) (growth F node)
+    same ts = plainly (oneTreeOf (drawing ts C)) node best
 
 -- ---- the random splitter
 
@@ -209,9 +209,9 @@ module _ (all : List Float) where
   held-later d d′ Nothing l o = tt
   held-later d d′ (Holds c q) l o = on-later d d′ (c .threshold) l o
 
-  judge-on : (P : Params) (task : Task) (d : Tapes) (h : Held) (t : Totals) (k : ℕ) (c : Cut) → HeldOn d h → On d (c .threshold) → HeldOn d (judge P task h t k c)
+  judge-on : (P : Params) (node : NodeRows) (d : Tapes) (h : Held) (t : Totals) (k : ℕ) (c : Cut) → HeldOn d h → On d (c .threshold) → HeldOn d (judge P node h t k c)
   unfolding judge better
-  judge-on P task d h t k c g o = if (ltb k (P .leaf)) h _ g (if (ltb (task .count - k) (P .leaf)) h _ g (new h g (proxy t (less (task .totals) t))))
+  judge-on P node d h t k c g o = if (ltb k (P .leaf)) h _ g (if (ltb (node .count - k) (P .leaf)) h _ g (new h g (proxy t (less (node .totals) t))))
     where
       if : (b : Bool) (x y : Held) → HeldOn d x → HeldOn d y → HeldOn d (cond b x y)
       if true x y p q = p
@@ -222,43 +222,43 @@ module _ (all : List Float) where
       new (Holds b p) g q = if (lt p q) (Holds c q) (Holds b p) o g
 
   module _ (P : Params) (random : P .splitter ≡ Random) where
-    abbrev choose : Tapes → Task → Out (Found × Tapes)
-    choose d task = search (tape (P .features)) P d task
+    abbrev choose : Tapes → NodeRows → Out (Found × Tapes)
+    choose d node = search (tape (P .features)) P d node
 
     Trying : ℕ → Tries Tapes → Type 0
     Trying top r = Goes top (r .left) × HeldOn (r .left) (r .best)
 
-    tries-one : (top : ℕ) (task : Task) (j : ℕ) (r : Tries Tapes) (col : Column) → Trying top r → Then (randomIn (tape (P .features)) P task j r col) (Trying top)
+    tries-one : (top : ℕ) (node : NodeRows) (j : ℕ) (r : Tries Tapes) (col : Column) → Trying top r → Then (randomIn (tape (P .features)) P node j r col) (Trying top)
     unfolding randomIn drawIn drawn Trying
-    tries-one top task j r [] h = h
-    tries-one top task j r (e ∷ es) h = go (lt (at j e) (at j (final e es)))
+    tries-one top node j r [] h = h
+    tries-one top node j r (e ∷ es) h = go (lt (at j e) (at j (final e es)))
       where
-        go : (b : Bool) → Then (drawIn (tape (P .features)) b P task j r e es) (Trying top)
+        go : (b : Bool) → Then (drawIn (tape (P .features)) b P node j r e es) (Trying top)
         go false = h
         go true =
             then-then (tape (P .features) .threshold (r .left) (at j e) (at j (final e es))) _ _ _ (takes (P .features) top (r .left) (at j e) (at j (final e es)) (h .0))
-            (λ m o. (o .0, judge-on P task (m .1) (r .best) _ _ _ (held-later (r .left) (m .1) (r .best) (o .2) (h .1)) (o .1)))
+            (λ m o. (o .0, judge-on P node (m .1) (r .best) _ _ _ (held-later (r .left) (m .1) (r .best) (o .2) (h .1)) (o .1)))
 
-    random-tries : (top : ℕ) (task : Task) (js : List ℕ) (r : Tries Tapes) → Trying top r → Then (tryAll (tape (P .features)) P task js r) (Trying top)
+    random-tries : (top : ℕ) (node : NodeRows) (js : List ℕ) (r : Tries Tapes) → Trying top r → Then (tryAll (tape (P .features)) P node js r) (Trying top)
     unfolding tryAll tryOne
-    random-tries top task [] r h = h
-    random-tries top task (j ∷ js) r h = one _ random (λ r′ h′. random-tries top task js r′ h′)
+    random-tries top node [] r h = h
+    random-tries top node (j ∷ js) r h = one _ random (λ r′ h′. random-tries top node js r′ h′)
       where
-        one : (b : Splitter) → b ≡ Random → ((r′ : Tries Tapes) → Trying top r′ → Then (tryAll (tape (P .features)) P task js r′) (Trying top))
-            → Then (bind (tryOne (tape (P .features)) b P task j r) (λ r′. tryAll (tape (P .features)) P task js r′)) (Trying top)
+        one : (b : Splitter) → b ≡ Random → ((r′ : Tries Tapes) → Trying top r′ → Then (tryAll (tape (P .features)) P node js r′) (Trying top))
+            → Then (bind (tryOne (tape (P .features)) b P node j r) (λ r′. tryAll (tape (P .features)) P node js r′)) (Trying top)
         one Best e next = absurd (random≢best (sym e))
-        one Random e next = then-then (randomIn (tape (P .features)) P task j r (getD (task .columns) j [])) _ _ _ (tries-one top task j r (getD (task .columns) j []) h) next
+        one Random e next = then-then (randomIn (tape (P .features)) P node j r (getD (node .columns) j [])) _ _ _ (tries-one top node j r (getD (node .columns) j []) h) next
 
     abbrev FoundOn : Tapes → Found → Type 0
-    FoundOn d uncut = Unit {0}
-    FoundOn d (cut c) = On d (c .threshold)
+    FoundOn d noCut = Unit {0}
+    FoundOn d (cutFound c) = On d (c .threshold)
 
-    search-on : (top : ℕ) (d : Tapes) (task : Task) → Goes top d → Then (choose d task) (λ r. FoundOn (r .1) (r .0) × Goes (length (d .thresholds)) (r .1))
+    search-on : (top : ℕ) (d : Tapes) (node : NodeRows) → Goes top d → Then (choose d node) (λ r. FoundOn (r .1) (r .0) × Goes (length (d .thresholds)) (r .1))
     unfolding search tape takeWords Trying
-    search-on top d task g =
+    search-on top d node g =
         then-then (tape (P .features) .shuffle d) _ _ _ (words (eachOnce (P .features) (take (P .features) (d .words))))
-        (λ o h. then-then (tryAll (tape (P .features)) P task (take (min (P .tried) (P .features)) (o .0)) (record { best = Nothing; left = o .1 })) _ _ _
-        (random-tries (length (d .thresholds)) task _ _ (h, tt)) (λ r q. (held (r .left) (r .best) (q .1), record { used = q .0 .used; left = q .0 .left; whole = q .0 .whole; fewer = q .0 .fewer })))
+        (λ o h. then-then (tryAll (tape (P .features)) P node (take (min (P .tried) (P .features)) (o .0)) (record { best = Nothing; left = o .1 })) _ _ _
+        (random-tries (length (d .thresholds)) node _ _ (h, tt)) (λ r q. (held (r .left) (r .best) (q .1), record { used = q .0 .used; left = q .0 .left; whole = q .0 .whole; fewer = q .0 .fewer })))
       where
         words : (b : Bool) → Then (takeWords b (P .features) d) (λ o. Goes (length (d .thresholds)) (o .1))
         words false = tt
@@ -284,15 +284,15 @@ module _ (all : List Float) where
     kind-later d d′ Leaf l o = tt
     kind-later d d′ (Split f) l o = on-later d d′ (f .cut .threshold) l o
 
-    searchIf-on : (top : ℕ) (b : Bool) (n level : ℕ) (task : Task) (d : Tapes) → Goes top d
-        → Then (searchIf P choose b n level task d) (λ r. Cuts (r .1) (r .0) × Goes (length (d .thresholds)) (r .1))
+    searchIf-on : (top : ℕ) (b : Bool) (n level : ℕ) (node : NodeRows) (d : Tapes) → Goes top d
+        → Then (searchIf P choose b n level node d) (λ r. Cuts (r .1) (r .0) × Goes (length (d .thresholds)) (r .1))
     unfolding searchIf joins
-    searchIf-on top false n level task d g = (tt, goes-on top (length (d .thresholds)) d (omega arith) g)
-    searchIf-on top true n level task d g = then-then (choose d task) _ _ _ (search-on top d task g) (λ r h. (joined (r .1) (r .0) (h .0), h .1))
+    searchIf-on top false n level node d g = (tt, goes-on top (length (d .thresholds)) d (omega arith) g)
+    searchIf-on top true n level node d g = then-then (choose d node) _ _ _ (search-on top d node g) (λ r h. (joined (r .1) (r .0) (h .0), h .1))
       where
-        joined : (d : Tapes) (f : Found) → FoundOn d f → Cuts d (joins n level task f)
-        joined d uncut o = tt
-        joined d (cut c) o = (o, tt)
+        joined : (d : Tapes) (f : Found) → FoundOn d f → Cuts d (joins n level node f)
+        joined d noCut o = tt
+        joined d (cutFound c) o = (o, tt)
 
     abbrev Stand : List Waiting → State Tapes → Type 0
     Stand ws s = Cuts (s .left) ws × Every (λ (n : TreeNode). KindOn (s .left) (n .kind)) (s .nodes) × Goes (length all) (s .left)
@@ -300,9 +300,9 @@ module _ (all : List Float) where
     expand-on : (w : Waiting) (ws : List Waiting) (s : State Tapes) → w .level < P .limit → Stand (w ∷ ws) s → Then (expand P choose w s) (λ r. Stand (r .0 ++ ws) (r .1))
     unfolding expand withChildren splitOf splitting leafOf
     expand-on w ws s b h =
-        then-then (searchIf P choose (searchable P (suc (w .level)) (child same w)) (length (s .nodes)) (suc (w .level)) (child same w) (s .left)) _ _ _
+        then-then (searchIf P choose (searchable P (suc (w .level)) (child onTrue w)) (length (s .nodes)) (suc (w .level)) (child onTrue w) (s .left)) _ _ _
         (searchIf-on (length all) _ _ _ _ (s .left) (h .2))
-        (λ t ht. then-then (searchIf P choose (searchable P (suc (w .level)) (child not w)) (suc (length (s .nodes))) (suc (w .level)) (child not w) (t .1)) _ _ _
+        (λ t ht. then-then (searchIf P choose (searchable P (suc (w .level)) (child onFalse w)) (suc (length (s .nodes))) (suc (w .level)) (child onFalse w) (t .1)) _ _ _
         (searchIf-on (length (s .left .thresholds)) _ _ _ _ (t .1) (ht .1))
         (λ f hf.
         let l : length (f .1 .thresholds) ≤ length (s .left .thresholds) = omega (arith, hf .1 .fewer, ht .1 .fewer) in (
@@ -313,19 +313,19 @@ module _ (all : List Float) where
           goes-on _ (length all) (f .1) (omega (arith, l, h .2 .fewer)) (hf .1),
         )))
 
-    growth-on : (task : Task) (d : Tapes) → d .thresholds ≡ all → Then (fromRoot P choose task d) (Stand [])
+    growth-on : (node : NodeRows) (d : Tapes) → d .thresholds ≡ all → Then (fromRoot P choose node d) (Stand [])
     unfolding leafOf
-    growth-on task d e =
-        root-keep P choose Stand expand-on task d
-        (λ b. then-after (searchIf P choose b 0 1 task d) _ _ (searchIf-on (length all) b 0 1 task d begins)
+    growth-on node d e =
+        root-keep P choose Stand expand-on node d
+        (λ b. then-after (searchIf P choose b 0 1 node d) _ _ (searchIf-on (length all) b 0 1 node d begins)
         (λ r h. (h .0, (tt, tt), goes-on _ (length all) (r .1) (omega (arith, h .1 .fewer, ap length e)) (h .1))))
       where
         begins : Goes (length all) d
         begins = record { used = 0; left = e; whole = omega (arith, ap length e); fewer = omega (arith, ap length e) }
 
 -- as it is written
-fit-cut : (F : Frame) (D : Data) → F .params .splitter ≡ Random → Then (fit F D) (λ t. Every (CutAt (F .thresholds) (t .report .thresholds)) (entries (t .nodes)))
-unfolding fit rooted treeOf entries entryOf isLeaf
+fit-cut : (F : OneTree) (D : Data) → F .params .splitter ≡ Random → Then (fit F D) (λ t. Every (CutAt (F .thresholds) (t .report .thresholds)) (entries (t .nodes)))
+unfolding fit growFrom treeOf entries entryOf isLeaf
 fit-cut F D random =
     then-then (fromRoot (F .params) (search (tape (F .params .features)) (F .params)) (root F D) _) _ _ _ (growth-on (F .thresholds) (F .params) random (root F D) _ refl)
     (λ s h. all (s .left) (s .nodes) (h .1))
@@ -340,10 +340,10 @@ fit-cut F D random =
     all d (n ∷ ns) h = (one d (valueOf (n .totals)) (n .kind) (h .0), all d ns (h .1))
 
 pub from-tape : FromTape
-unfolding frameOf paramsOf
+unfolding oneTreeOf paramsOf
 from-tape W K C R r random h =
     let a : TreeAnswered K C R r = tree-answered K C R r h in
     subst (Every (CutAt (C .thresholds) (r .thresholds))) (sym (tree-left K C R r a))
     (subst (λ (x : Report). Every (CutAt (C .thresholds) (x .thresholds)) (entries (a .tree .nodes))) (a .reported)
-    (then-of (λ t. Every (CutAt (C .thresholds) (t .report .thresholds)) (entries (t .nodes))) (fit (frameOf C) (C .given .inputs)) (a .tree) (a .grew)
-    (fit-cut (frameOf C) (C .given .inputs) random)))
+    (then-of (λ t. Every (CutAt (C .thresholds) (t .report .thresholds)) (entries (t .nodes))) (fit (oneTreeOf C) (C .given .inputs)) (a .tree) (a .grew)
+    (fit-cut (oneTreeOf C) (C .given .inputs) random)))

@@ -13,36 +13,36 @@ use Rattle.rules.specs.declared.Report.{Report}
 use Rattle.rules.specs.declared.TreeAnswer.{TreeAnswer}
 use Rattle.rules.specs.declared.ForestAnswer.{ForestAnswer}
 use Rattle.rules.specs.Words.{every, total}
-use Rattle.rules.specs.Lent.{Waits, TreeRooms, ForestRooms, shortest}
+use Rattle.rules.specs.Lent.{WaitingForm, TreeRooms, ForestRooms, shortest}
 use Rattle.rules.specs.Checks.{test, firstFailed, shapeIn, treesIn, lengths, numbersGood, countsGood, countsOne, roomFor, workEnough}
 use Rattle.rules.specs.Listing.{listingsGood}
 use Rattle.rules.specs.Draws.{Out, bad, ok}
-use Rattle.rules.specs.Fit.{Tree, TreeCall, frameOf, grownTree, treeTests, treeDone, treeEnds, fitTree}
-use Rattle.rules.specs.Forest.{ForestCall, frames, Forest, stopped, grownAll, grownForest, cutsGood, roomsGood, forestTests, forestDone, forestEnds, fitForest}
+use Rattle.rules.specs.Fit.{Tree, TreeCall, oneTreeOf, grownTree, treeTests, treeDone, treeEnds, fitTree}
+use Rattle.rules.specs.Forest.{ForestCall, eachTree, Forest, stopped, grownAll, grownForest, tapesGood, roomsGood, forestTests, forestDone, forestEnds, fitForest}
 use Rattle.rules.specs.Answers.{treeTold, forestTold}
 use Rattle.demands.specs.Refusals.{tree-refused, forest-refused, failed-within}
 
 -- ---- the statements
 
 -- the rules of a fit of one tree, and whether each holds
-abbrev pub treeRules : {W : Type 0} → Waits W → TreeCall → TreeRooms W → List Bool
+abbrev pub treeRules : {W : Type 0} → WaitingForm W → TreeCall → TreeRooms W → List Bool
 treeRules K C R =
     shapeIn (C .shape)
     ∷ lengths (C .shape) 1 (C .given)
     ∷ numbersGood (C .given)
     ∷ countsGood (C .given)
     ∷ listingsGood (C .shape) (C .given .inputs .values) (C .given .inputs .listings)
-    ∷ (leb (roomFor (frameOf C)) (shortest (R .nodes)) && workEnough K (C .shape) (R .work))
+    ∷ (leb (roomFor (oneTreeOf C)) (shortest (R .nodes)) && workEnough K (C .shape) (R .work))
     ∷ []
 
-abbrev pub forestRules : {W : Type 0} → Waits W → ForestCall → ForestRooms W → List Bool
+abbrev pub forestRules : {W : Type 0} → WaitingForm W → ForestCall → ForestRooms W → List Bool
 forestRules K C R =
     (shapeIn (C .shape) && treesIn (C .trees))
-    ∷ (lengths (C .shape) (C .trees) (C .given) && cutsGood C)
+    ∷ (lengths (C .shape) (C .trees) (C .given) && tapesGood C)
     ∷ numbersGood (C .given)
     ∷ (countsGood (C .given) && countsOne (C .given))
     ∷ listingsGood (C .shape) (C .given .inputs .values) (C .given .inputs .listings)
-    ∷ (leb (total roomFor (frames C)) (shortest (R .nodes)) && roomsGood K C R)
+    ∷ (leb (total roomFor (eachTree C)) (shortest (R .nodes)) && roomsGood K C R)
     ∷ []
 
 -- the rule of number n + 1 is broken, and all before it hold
@@ -51,7 +51,7 @@ FirstBroken n rules = (getD rules n true ≡ false) × (every (λ b. b) (take n 
 
 abbrev pub BrokenFirst : Type 1
 BrokenFirst =
-    (W : Type 0) (K : Waits W)
+    (W : Type 0) (K : WaitingForm W)
     → ((C : TreeCall) (R : TreeRooms W) (n : ℕ) → fitTree K C R .answer ≡ TreeAnswer.Refused (suc n) → FirstBroken n (treeRules K C R))
     × ((C : ForestCall) (R : ForestRooms W) (n : ℕ) → fitForest K C R .answer ≡ ForestAnswer.Refused (suc n) → FirstBroken n (forestRules K C R))
 
@@ -67,7 +67,7 @@ pub record ForestApart (a : ForestAnswer) : Type 0 where
 
 abbrev pub ToldApart : Type 1
 ToldApart =
-    (W : Type 0) (K : Waits W)
+    (W : Type 0) (K : WaitingForm W)
     → ((C : TreeCall) (R : TreeRooms W) → TreeApart (fitTree K C R .answer)) × ((C : ForestCall) (R : ForestRooms W) → ForestApart (fitForest K C R .answer))
 
 -- ---- the first rule broken
@@ -96,13 +96,13 @@ broken-first W K = (
 -- ---- told apart
 
 -- a refusal's number is not 0
-some-tree : {W : Type 0} (K : Waits W) (R : TreeRooms W) (n k : ℕ) (o : Out Tree) → treeEnds K k o R .answer ≡ TreeAnswer.Refused n → 1 ≤ k
+some-tree : {W : Type 0} (K : WaitingForm W) (R : TreeRooms W) (n k : ℕ) (o : Out Tree) → treeEnds K k o R .answer ≡ TreeAnswer.Refused n → 1 ≤ k
 unfolding treeEnds treeDone
 some-tree K R n zero (bad s) h = let z : _≡_ {A = ℕ} 0 1 = cc in absurd (omega arith)
 some-tree K R n zero (ok t) h = let z : _≡_ {A = ℕ} 0 1 = cc in absurd (omega arith)
 some-tree K R n (suc k) o h = omega arith
 
-some-forest : {W : Type 0} (K : Waits W) (R : ForestRooms W) (n k : ℕ) (f : Forest) → forestEnds K k f R .answer ≡ ForestAnswer.Refused n → 1 ≤ k
+some-forest : {W : Type 0} (K : WaitingForm W) (R : ForestRooms W) (n k : ℕ) (f : Forest) → forestEnds K k f R .answer ≡ ForestAnswer.Refused n → 1 ≤ k
 unfolding forestEnds forestDone
 some-forest K R n zero (stopped p) h = let z : _≡_ {A = ℕ} 0 1 = cc in absurd (omega arith)
 some-forest K R n zero (grownAll ts) h = let z : _≡_ {A = ℕ} 0 1 = cc in absurd (omega arith)

@@ -5,7 +5,7 @@ use mathlib.Core.Path.{_≡_, refl}
 use mathlib.Core.List.{[], _∷_, map}
 use Rattle.rules.specs.declared.Tried.the-variants.{Unsaid}
 use Rattle.rules.specs.Forest.{squares, triedOf}
-use Rattle.laws.specs.Tried.{IsRoot, is-root, root-only}
+use Rattle.lemmas.specs.Tried.{IsRoot, is-root, root-only}
 
 abbrev pub FloorOfRoot : Type 0
 FloorOfRoot = (n : ℕ) → IsRoot n (triedOf n Unsaid) × ((s : ℕ) → IsRoot n s → s ≡ triedOf n Unsaid)

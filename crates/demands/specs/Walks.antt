@@ -15,20 +15,20 @@ use Rattle.rules.specs.declared.Report.{Report}
 use Rattle.rules.specs.declared.TreeAnswer.{TreeAnswer}
 use Rattle.rules.specs.declared.ForestAnswer.{ForestAnswer}
 use Rattle.rules.specs.Words.{every, along, alongFrom, front}
-use Rattle.rules.specs.Lent.{Columns, Entry, Waits, TreeRooms, ForestRooms, shortest, entriesAt, writeEntries}
+use Rattle.rules.specs.Lent.{Columns, Entry, WaitingForm, TreeRooms, ForestRooms, shortest, entriesAt, writeEntries}
 use Rattle.rules.specs.Draws.{ok}
-use Rattle.rules.specs.Fit.{Tree, fit, entries, paramsOf, TreeCall, frameOf, fitTree}
+use Rattle.rules.specs.Fit.{Tree, fit, entries, paramsOf, TreeCall, oneTreeOf, fitTree}
 use Rattle.rules.specs.Table.{isLeaf, goodFrom, goodTree, ForestTable, tableOf, startsGood, treesOf, goodForest}
 use Rattle.rules.specs.Reading.{noEntry, walked}
-use Rattle.rules.specs.Forest.{ForestCall, frameAt, startsFrom, forestEntries, fitForest}
-use Rattle.laws.specs.Lists.{Every, all-pass, every-imp, every-map}
-use Rattle.laws.specs.Outs.{then-of}
-use Rattle.laws.specs.Root.{fit-reported}
-use Rattle.laws.specs.Passed.{Binary64}
-use Rattle.laws.specs.Tables.{length-entries, fit-good}
-use Rattle.laws.specs.Tables as Tables
-use Rattle.laws.specs.Written.{tree-written, tables, first-start, last-start, tableLeft, trees-written, starts-length, shortest-stays}
-use Rattle.laws.specs.Answered.{TreeAnswered, tree-answered, tree-listed, ForestAnswered, forest-answered, trees-length, trees-each, forest-room}
+use Rattle.rules.specs.Forest.{ForestCall, oneTreeAt, startsFrom, forestEntries, fitForest}
+use Rattle.lemmas.specs.Lists.{Every, all-pass, every-imp, every-map}
+use Rattle.lemmas.specs.Outs.{then-of}
+use Rattle.lemmas.specs.Root.{fit-reported}
+use Rattle.lemmas.specs.Passed.{Binary64}
+use Rattle.lemmas.specs.Tables.{length-entries, fit-good}
+use Rattle.lemmas.specs.Tables as Tables
+use Rattle.lemmas.specs.Written.{tree-written, tables, first-start, last-start, tableLeft, trees-written, starts-length, shortest-stays}
+use Rattle.lemmas.specs.Answered.{TreeAnswered, tree-answered, tree-listed, ForestAnswered, forest-answered, trees-length, trees-each, forest-room}
 
 -- ---- the statements
 
@@ -40,7 +40,7 @@ WalkEnds =
 -- a tree's table is its first entries, as many as it reports nodes
 abbrev pub TreeGood : Type 1
 TreeGood =
-    (W : Type 0) (K : Waits W) (C : TreeCall) (R : TreeRooms W) (r : Report) → Binary64 (C .given .inputs .values) → fitTree K C R .answer ≡ TreeAnswer.Grown r
+    (W : Type 0) (K : WaitingForm W) (C : TreeCall) (R : TreeRooms W) (r : Report) → Binary64 (C .given .inputs .values) → fitTree K C R .answer ≡ TreeAnswer.Grown r
     → T (goodTree (C .shape .features) (entriesAt (fitTree K C R .rooms .nodes) 0 (r .nodes)))
 
 -- a forest's is its nodes and starts
@@ -49,7 +49,7 @@ tableAfter C R = tableOf (C .trees) (R .starts) (R .nodes)
 
 abbrev pub ForestGood : Type 1
 ForestGood =
-    (W : Type 0) (K : Waits W) (C : ForestCall) (R : ForestRooms W) → Binary64 (C .given .inputs .values) → fitForest K C R .answer ≡ ForestAnswer.Grown
+    (W : Type 0) (K : WaitingForm W) (C : ForestCall) (R : ForestRooms W) → Binary64 (C .given .inputs .values) → fitForest K C R .answer ≡ ForestAnswer.Grown
     → T (goodForest (C .shape .features) (tableAfter C (fitForest K C R .rooms)))
 
 -- ---- walks
@@ -60,21 +60,21 @@ walk-ends features rs good xs = let e = Tables.walk-ends features rs good xs in 
 -- ---- one tree
 
 -- the node count reported is the number of nodes
-pub reported-nodes : (C : TreeCall) (t : Tree) → fit (frameOf C) (C .given .inputs) ≡ ok t → t .report .nodes ≡ length (t .nodes)
-reported-nodes C t e = then-of (λ (u : Tree). u .report .nodes ≡ length (u .nodes)) (fit (frameOf C) (C .given .inputs)) t e (fit-reported (frameOf C) (C .given .inputs))
+pub reported-nodes : (C : TreeCall) (t : Tree) → fit (oneTreeOf C) (C .given .inputs) ≡ ok t → t .report .nodes ≡ length (t .nodes)
+reported-nodes C t e = then-of (λ (u : Tree). u .report .nodes ≡ length (u .nodes)) (fit (oneTreeOf C) (C .given .inputs)) t e (fit-reported (oneTreeOf C) (C .given .inputs))
 
 -- the entries that are left are those of the nodes that grew
-pub tree-left : {W : Type 0} (K : Waits W) (C : TreeCall) (R : TreeRooms W) (r : Report) (a : TreeAnswered K C R r)
+pub tree-left : {W : Type 0} (K : WaitingForm W) (C : TreeCall) (R : TreeRooms W) (r : Report) (a : TreeAnswered K C R r)
     → entriesAt (fitTree K C R .rooms .nodes) 0 (r .nodes) ≡ entries (a .tree .nodes)
 tree-left K C R r a =
     (λ i. entriesAt (a .after i .nodes) 0 (sym (a .reported) i .nodes)) ∙ tree-written (a .tree) (R .nodes) (reported-nodes C (a .tree) (a .grew))
 
 pub tree-good : TreeGood
-unfolding frameOf paramsOf
+unfolding oneTreeOf paramsOf
 tree-good W K C R r held h =
     subst (λ rs. T (goodTree (C .shape .features) rs)) (sym (tree-left K C R r a))
-    (then-of (λ t. T (goodTree (C .shape .features) (entries (t .nodes)))) (fit (frameOf C) (C .given .inputs)) (a .tree) (a .grew)
-    (fit-good (frameOf C) (C .given .inputs) (tree-listed K C R held (a .passed) .0)))
+    (then-of (λ t. T (goodTree (C .shape .features) (entries (t .nodes)))) (fit (oneTreeOf C) (C .given .inputs)) (a .tree) (a .grew)
+    (fit-good (oneTreeOf C) (C .given .inputs) (tree-listed K C R held (a .passed) .0)))
   where
     a : TreeAnswered K C R r
     a = tree-answered K C R r h
@@ -130,11 +130,11 @@ written-good features trees c starts ts n e room =
     top = shortest (writeEntries (forestEntries ts) c)
 
 pub forest-good : ForestGood
-unfolding frameAt paramsOf
+unfolding oneTreeAt paramsOf
 forest-good W K C R held h =
     subst (λ (r : ForestRooms W). T (goodForest (C .shape .features) (tableAfter C r))) (sym (a .after))
     (written-good (C .shape .features) (C .trees) (R .nodes) (R .starts) (a .trees) (trees-length K C R a)
-    (trees-each K C R a (λ (t : Tree). T (goodTree (C .shape .features) (entries (t .nodes)))) held (λ t l. fit-good (frameAt C t) (C .given .inputs) l))
+    (trees-each K C R a (λ (t : Tree). T (goodTree (C .shape .features) (entries (t .nodes)))) held (λ t l. fit-good (oneTreeAt C t) (C .given .inputs) l))
     (forest-room K C R a held))
   where
     a : ForestAnswered K C R

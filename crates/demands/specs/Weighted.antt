@@ -12,12 +12,12 @@ use lib.Ieee.{Float, nan}
 use lib.Ieee.Fits.{and-r}
 use Rattle.rules.specs.declared.ForestAnswer.{ForestAnswer}
 use Rattle.rules.specs.declared.Reply.{Reply}
-use Rattle.rules.specs.Lent.{Waits, ForestRooms, unweighted}
+use Rattle.rules.specs.Lent.{WaitingForm, ForestRooms, unweighted}
 use Rattle.rules.specs.Checks.{Test, test, firstFailed, treesIn, shapeIn, lengths, numbersGood, countsGood, countsOne}
-use Rattle.rules.specs.Forest.{ForestCall, grownForest, cutsGood, forestTests, forestEnds, fitForest}
-use Rattle.laws.specs.Lists.{or-other, Every, each, every-imp, every-at}
-use Rattle.laws.specs.Passed.{past, Binary64}
-use Rattle.laws.specs.Answered.{forest-answered, forest-right}
+use Rattle.rules.specs.Forest.{ForestCall, grownForest, tapesGood, forestTests, forestEnds, fitForest}
+use Rattle.lemmas.specs.Lists.{or-other, Every, each, every-imp, every-at}
+use Rattle.lemmas.specs.Passed.{past, Binary64}
+use Rattle.lemmas.specs.Answered.{forest-answered, forest-right}
 use Rattle.demands.specs.Refusals.{ForestUnrefused, forest-passes}
 use Rattle.demands.specs.OutOfBag.{ownMeans, own-done}
 use Rattle.demands.specs.Means.{in-every-bag}
@@ -26,19 +26,19 @@ use Rattle.demands.specs.Means.{in-every-bag}
 
 abbrev pub EveryCountOne : Type 1
 EveryCountOne =
-    (W : Type 0) (K : Waits W) (C : ForestCall) (R : ForestRooms W) → unweighted (C .given .weights) ≡ false → ForestUnrefused (fitForest K C R .answer)
+    (W : Type 0) (K : WaitingForm W) (C : ForestCall) (R : ForestRooms W) → unweighted (C .given .weights) ≡ false → ForestUnrefused (fitForest K C R .answer)
     → Every (λ k. k ≡ 1) (C .given .counts)
 
 abbrev pub NoMeans : Type 1
 NoMeans =
-    (W : Type 0) (K : Waits W) (C : ForestCall) (R : ForestRooms W) → unweighted (C .given .weights) ≡ false → Binary64 (C .given .inputs .values)
+    (W : Type 0) (K : WaitingForm W) (C : ForestCall) (R : ForestRooms W) → unweighted (C .given .weights) ≡ false → Binary64 (C .given .inputs .values)
     → fitForest K C R .answer ≡ ForestAnswer.Grown → (out : List Float) → length out ≡ C .shape .rows → (i : ℕ) → i < C .shape .rows
     → (ownMeans K C R out .answer ≡ Reply.Done) × (getD (ownMeans K C R out .rooms) i nan ≡ nan)
 
 abbrev pub OtherCount : Type 1
 OtherCount =
-    (W : Type 0) (K : Waits W) (C : ForestCall) (R : ForestRooms W) → unweighted (C .given .weights) ≡ false
-    → T (shapeIn (C .shape) && treesIn (C .trees)) → T (lengths (C .shape) (C .trees) (C .given) && cutsGood C) → T (numbersGood (C .given))
+    (W : Type 0) (K : WaitingForm W) (C : ForestCall) (R : ForestRooms W) → unweighted (C .given .weights) ≡ false
+    → T (shapeIn (C .shape) && treesIn (C .trees)) → T (lengths (C .shape) (C .trees) (C .given) && tapesGood C) → T (numbersGood (C .given))
     → (k : ℕ) → k < length (C .given .counts) → (getD (C .given .counts) k 0 ≡ 1 → ⊥) → fitForest K C R .answer ≡ ForestAnswer.Refused 4
 
 -- ---- the counts
@@ -47,7 +47,7 @@ ones : (C : ForestCall) → unweighted (C .given .weights) ≡ false → T (coun
 unfolding countsOne
 ones C u t = every-imp _ _ (λ k h. eqb→eq k 1 h) (C .given .counts) (each _ (C .given .counts) (or-other (unweighted (C .given .weights)) _ u (and-r (countsGood (C .given)) _ t)))
 
-passed-ones : {W : Type 0} (K : Waits W) (C : ForestCall) (R : ForestRooms W) → unweighted (C .given .weights) ≡ false → firstFailed (forestTests K C R) ≡ 0
+passed-ones : {W : Type 0} (K : WaitingForm W) (C : ForestCall) (R : ForestRooms W) → unweighted (C .given .weights) ≡ false → firstFailed (forestTests K C R) ≡ 0
     → Every (λ k. k ≡ 1) (C .given .counts)
 unfolding forestTests
 passed-ones K C R u h₁ =

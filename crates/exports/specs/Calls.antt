@@ -12,7 +12,7 @@ use Rattle.rules.specs.declared.ForestAnswer.{ForestAnswer}
 use Rattle.rules.specs.declared.Reply.{Reply}
 use Rattle.rules.specs.declared.TreeTold.{TreeTold}
 use Rattle.rules.specs.declared.ForestTold.{ForestTold}
-use Rattle.rules.specs.Lent.{Given, Columns, TreeRooms, ForestRooms, Outcome, Stack, stack}
+use Rattle.rules.specs.Lent.{Given, Columns, TreeRooms, ForestRooms, Outcome, WaitingRoom, waitingRoom}
 use Rattle.rules.specs.Fit.{treeCall, fitTree}
 use Rattle.rules.specs.Forest.{forestCall, fitForest}
 use Rattle.rules.specs.Reading.{treeImportances}
@@ -23,14 +23,14 @@ pub answer-told : {A B R : Type 0} (f : A → B) {a : A} {b : B} {rooms : R} {o 
     → record { answer = b; rooms = rooms } ≡ told f o
 answer-told f {rooms = rooms} e t = (λ i. record { answer = t i; rooms = rooms }) ∙ ap (told f) e
 
-module _ (shape : Shape) (tried : ℕ) (given : Given) (words : List ℕ) (thresholds : List Float) (R R′ : TreeRooms Stack) where
-  pub tree-linked : {S S′ : Settings} {a : TreeAnswer} {t : TreeTold} → S ≡ S′ → record { answer = a; rooms = R′ } ≡ fitTree stack (treeCall shape S tried given words thresholds) R → treeNumbers t ≡ treeTold a
-      → record { answer = treeNumbers t; rooms = R′ } ≡ told treeTold (fitTree stack (treeCall shape S′ tried given words thresholds) R)
-  tree-linked es e t = answer-told treeTold (e ∙ ap (λ S. fitTree stack (treeCall shape S tried given words thresholds) R) es) t
+module _ (shape : Shape) (tried : ℕ) (given : Given) (words : List ℕ) (thresholds : List Float) (R R′ : TreeRooms WaitingRoom) where
+  pub tree-linked : {S S′ : Settings} {a : TreeAnswer} {t : TreeTold} → S ≡ S′ → record { answer = a; rooms = R′ } ≡ fitTree waitingRoom (treeCall shape S tried given words thresholds) R → treeNumbers t ≡ treeTold a
+      → record { answer = treeNumbers t; rooms = R′ } ≡ told treeTold (fitTree waitingRoom (treeCall shape S′ tried given words thresholds) R)
+  tree-linked es e t = answer-told treeTold (e ∙ ap (λ S. fitTree waitingRoom (treeCall shape S tried given words thresholds) R) es) t
 
-module _ (shape : Shape) (trees : ℕ) (given : Given) (words : List ℕ) (thresholds : List Float) (wordCuts thresholdCuts : List ℕ) (R R′ : ForestRooms Stack) where
-  abbrev forestOf : Settings → Tried → Outcome ForestAnswer (ForestRooms Stack)
-  forestOf S m = fitForest stack (forestCall shape trees S m given words thresholds wordCuts thresholdCuts) R
+module _ (shape : Shape) (trees : ℕ) (given : Given) (words : List ℕ) (thresholds : List Float) (wordStarts thresholdStarts : List ℕ) (R R′ : ForestRooms WaitingRoom) where
+  abbrev forestOf : Settings → Tried → Outcome ForestAnswer (ForestRooms WaitingRoom)
+  forestOf S m = fitForest waitingRoom (forestCall shape trees S m given words thresholds wordStarts thresholdStarts) R
 
   pub forest-linked : {S S′ : Settings} {m m′ : Tried} {a : ForestAnswer} {t : ForestTold} → S ≡ S′ → m ≡ m′ → record { answer = a; rooms = R′ } ≡ forestOf S m → forestNumbers t ≡ forestTold a
       → record { answer = forestNumbers t; rooms = R′ } ≡ told forestTold (forestOf S′ m′)

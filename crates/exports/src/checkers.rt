@@ -18,7 +18,7 @@ pub extern "C" fn tailboardy_check_listings(
     ensures { λ r. ⌜ r ≡ replyTold (checkListings (record { rows = rows; features = features }) (now (values .entry)) (now (listings .entry))) ⌝ }
 {
     let reply = checks::listing::check_listings(Shape { rows, features }, values, listings);
-    numbers::number_of(reply)
+    c_types::number_of(reply)
 }
 
 #[no_mangle]
@@ -28,13 +28,21 @@ pub extern "C" fn tailboardy_check_tree(
     feature: &[u32],
     threshold: &[f64],
     score: &[f64],
-    yes: &[u32],
-    no: &[u32],
+    truechild: &[u32],
+    falsechild: &[u32],
 ) -> u32
-    ensures { λ r. ⌜ r ≡ replyTold (checkTree features (columnsOf (now (value .entry)) (now (feature .entry)) (now (threshold .entry)) (now (score .entry)) (now (yes .entry)) (now (no .entry)))) ⌝ }
+    ensures { λ r. ⌜ r ≡ replyTold (checkTree features (columnsOf (now (value .entry)) (now (feature .entry)) (now (threshold .entry)) (now (score .entry)) (now (truechild .entry)) (now (falsechild .entry)))) ⌝ }
 {
-    let reply = tables::check_tree(features, value, feature, threshold, score, yes, no);
-    numbers::number_of(reply)
+    let reply = tables::check_tree(
+        features,
+        value,
+        feature,
+        threshold,
+        score,
+        truechild,
+        falsechild,
+    );
+    c_types::number_of(reply)
 }
 
 #[no_mangle]
@@ -46,10 +54,10 @@ pub extern "C" fn tailboardy_check_forest(
     feature: &[u32],
     threshold: &[f64],
     score: &[f64],
-    yes: &[u32],
-    no: &[u32],
+    truechild: &[u32],
+    falsechild: &[u32],
 ) -> u32
-    ensures { λ r. ⌜ r ≡ replyTold (checkForest features (tableOf trees (now (starts .entry)) (columnsOf (now (value .entry)) (now (feature .entry)) (now (threshold .entry)) (now (score .entry)) (now (yes .entry)) (now (no .entry))))) ⌝ }
+    ensures { λ r. ⌜ r ≡ replyTold (checkForest features (tableOf trees (now (starts .entry)) (columnsOf (now (value .entry)) (now (feature .entry)) (now (threshold .entry)) (now (score .entry)) (now (truechild .entry)) (now (falsechild .entry))))) ⌝ }
 {
     let reply = tables::check_forest(
         features,
@@ -59,10 +67,10 @@ pub extern "C" fn tailboardy_check_forest(
         feature,
         threshold,
         score,
-        yes,
-        no,
+        truechild,
+        falsechild,
     );
-    numbers::number_of(reply)
+    c_types::number_of(reply)
 }
 
 #[no_mangle]
@@ -72,12 +80,21 @@ pub extern "C" fn tailboardy_read_node(
     feature: &[u32],
     threshold: &[f64],
     score: &[f64],
-    yes: &[u32],
-    no: &[u32],
+    truechild: &[u32],
+    falsechild: &[u32],
     k: usize,
 ) -> NodeTold
-    ensures { λ r. ⌜ nodeNumbers r ≡ nodeTold (readNode features (columnsOf (now (value .entry)) (now (feature .entry)) (now (threshold .entry)) (now (score .entry)) (now (yes .entry)) (now (no .entry))) k) ⌝ }
+    ensures { λ r. ⌜ nodeNumbers r ≡ nodeTold (readNode features (columnsOf (now (value .entry)) (now (feature .entry)) (now (threshold .entry)) (now (score .entry)) (now (truechild .entry)) (now (falsechild .entry))) k) ⌝ }
 {
-    let reply = tables::read_node(features, value, feature, threshold, score, yes, no, k);
-    numbers::node_told_of(reply)
+    let reply = tables::read_node(
+        features,
+        value,
+        feature,
+        threshold,
+        score,
+        truechild,
+        falsechild,
+        k,
+    );
+    c_types::node_told_of(reply)
 }

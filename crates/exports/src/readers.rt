@@ -21,25 +21,25 @@ pub extern "C" fn tailboardy_predict_tree(
     feature: &[u32],
     threshold: &[f64],
     score: &[f64],
-    yes: &[u32],
-    no: &[u32],
+    truechild: &[u32],
+    falsechild: &[u32],
     out: &mut [f64],
 ) -> u32
     ensures { λ r. ⌜ _≡_ {A = Outcome ℕ (List Float)} (record { answer = r; rooms = now (out .exit) })
-        (told replyTold (predictTree (record { rows = rows; features = features }) (now (values .entry)) (columnsOf (now (value .entry)) (now (feature .entry)) (now (threshold .entry)) (now (score .entry)) (now (yes .entry)) (now (no .entry))) (now (out .entry)))) ⌝ }
+        (told replyTold (predictTree (record { rows = rows; features = features }) (now (values .entry)) (columnsOf (now (value .entry)) (now (feature .entry)) (now (threshold .entry)) (now (score .entry)) (now (truechild .entry)) (now (falsechild .entry))) (now (out .entry)))) ⌝ }
 {
-    let reply = reading::predict_tree(
+    let reply = predict::predict_tree(
         Shape { rows, features },
         values,
         value,
         feature,
         threshold,
         score,
-        yes,
-        no,
+        truechild,
+        falsechild,
         out,
     );
-    numbers::number_of(reply)
+    c_types::number_of(reply)
 }
 
 #[no_mangle]
@@ -53,12 +53,12 @@ pub extern "C" fn tailboardy_forest_means(
     feature: &[u32],
     threshold: &[f64],
     score: &[f64],
-    yes: &[u32],
-    no: &[u32],
+    truechild: &[u32],
+    falsechild: &[u32],
     out: &mut [f64],
 ) -> u32
     ensures { λ r. ⌜ _≡_ {A = Outcome ℕ (List Float)} (record { answer = r; rooms = now (out .exit) })
-        (told replyTold (forestMeans (record { rows = rows; features = features }) (now (values .entry)) (tableOf trees (now (starts .entry)) (columnsOf (now (value .entry)) (now (feature .entry)) (now (threshold .entry)) (now (score .entry)) (now (yes .entry)) (now (no .entry)))) (now (out .entry)))) ⌝ }
+        (told replyTold (forestMeans (record { rows = rows; features = features }) (now (values .entry)) (tableOf trees (now (starts .entry)) (columnsOf (now (value .entry)) (now (feature .entry)) (now (threshold .entry)) (now (score .entry)) (now (truechild .entry)) (now (falsechild .entry)))) (now (out .entry)))) ⌝ }
 {
     let reply = means::forest_means(
         Shape { rows, features },
@@ -69,11 +69,11 @@ pub extern "C" fn tailboardy_forest_means(
         feature,
         threshold,
         score,
-        yes,
-        no,
+        truechild,
+        falsechild,
         out,
     );
-    numbers::number_of(reply)
+    c_types::number_of(reply)
 }
 
 #[no_mangle]
@@ -88,12 +88,12 @@ pub extern "C" fn tailboardy_out_of_bag_means(
     feature: &[u32],
     threshold: &[f64],
     score: &[f64],
-    yes: &[u32],
-    no: &[u32],
+    truechild: &[u32],
+    falsechild: &[u32],
     out: &mut [f64],
 ) -> u32
     ensures { λ r. ⌜ _≡_ {A = Outcome ℕ (List Float)} (record { answer = r; rooms = now (out .exit) })
-        (told replyTold (outOfBagMeans (record { rows = rows; features = features }) (now (values .entry)) (now (counts .entry)) (tableOf trees (now (starts .entry)) (columnsOf (now (value .entry)) (now (feature .entry)) (now (threshold .entry)) (now (score .entry)) (now (yes .entry)) (now (no .entry)))) (now (out .entry)))) ⌝ }
+        (told replyTold (outOfBagMeans (record { rows = rows; features = features }) (now (values .entry)) (now (counts .entry)) (tableOf trees (now (starts .entry)) (columnsOf (now (value .entry)) (now (feature .entry)) (now (threshold .entry)) (now (score .entry)) (now (truechild .entry)) (now (falsechild .entry)))) (now (out .entry)))) ⌝ }
 {
     let reply = means::out_of_bag_means(
         Shape { rows, features },
@@ -105,11 +105,11 @@ pub extern "C" fn tailboardy_out_of_bag_means(
         feature,
         threshold,
         score,
-        yes,
-        no,
+        truechild,
+        falsechild,
         out,
     );
-    numbers::number_of(reply)
+    c_types::number_of(reply)
 }
 
 #[no_mangle]
@@ -121,7 +121,7 @@ pub extern "C" fn tailboardy_out_of_bag_error(
     ensures { λ r. ⌜ errorNumbers r ≡ errorTold (outOfBagError rows (now (targets .entry)) (now (means .entry))) ⌝ }
 {
     let reply = means::errors::out_of_bag_error(rows, targets, means);
-    numbers::error_told_of(reply)
+    c_types::error_told_of(reply)
 }
 
 #[no_mangle]
@@ -133,14 +133,14 @@ pub extern "C" fn tailboardy_tree_importances(
     feature: &[u32],
     threshold: &[f64],
     score: &[f64],
-    yes: &[u32],
-    no: &[u32],
+    truechild: &[u32],
+    falsechild: &[u32],
     out: &mut [f64],
 ) -> u32
     ensures { λ r. ⌜ _≡_ {A = Outcome ℕ (List Float)} (record { answer = r; rooms = now (out .exit) })
-        (told replyTold (treeImportances features (scaleOf bymass mass) (columnsOf (now (value .entry)) (now (feature .entry)) (now (threshold .entry)) (now (score .entry)) (now (yes .entry)) (now (no .entry))) (now (out .entry)))) ⌝ }
+        (told replyTold (treeImportances features (scaleOf bymass mass) (columnsOf (now (value .entry)) (now (feature .entry)) (now (threshold .entry)) (now (score .entry)) (now (truechild .entry)) (now (falsechild .entry))) (now (out .entry)))) ⌝ }
 {
-    let by = numbers::scale_of(bymass, mass);
+    let by = c_types::scale_of(bymass, mass);
     let reply = importances::tree_importances(
         features,
         by,
@@ -148,11 +148,11 @@ pub extern "C" fn tailboardy_tree_importances(
         feature,
         threshold,
         score,
-        yes,
-        no,
+        truechild,
+        falsechild,
         out,
     );
-    numbers::number_of(reply)
+    c_types::number_of(reply)
 }
 
 #[no_mangle]
@@ -164,12 +164,12 @@ pub extern "C" fn tailboardy_forest_importances(
     feature: &[u32],
     threshold: &[f64],
     score: &[f64],
-    yes: &[u32],
-    no: &[u32],
+    truechild: &[u32],
+    falsechild: &[u32],
     out: &mut [f64],
 ) -> u32
     ensures { λ r. ⌜ _≡_ {A = Outcome ℕ (List Float)} (record { answer = r; rooms = now (out .exit) })
-        (told replyTold (forestImportances features (tableOf trees (now (starts .entry)) (columnsOf (now (value .entry)) (now (feature .entry)) (now (threshold .entry)) (now (score .entry)) (now (yes .entry)) (now (no .entry)))) (now (out .entry)))) ⌝ }
+        (told replyTold (forestImportances features (tableOf trees (now (starts .entry)) (columnsOf (now (value .entry)) (now (feature .entry)) (now (threshold .entry)) (now (score .entry)) (now (truechild .entry)) (now (falsechild .entry)))) (now (out .entry)))) ⌝ }
 {
     let reply = importances::forest_importances(
         features,
@@ -179,9 +179,9 @@ pub extern "C" fn tailboardy_forest_importances(
         feature,
         threshold,
         score,
-        yes,
-        no,
+        truechild,
+        falsechild,
         out,
     );
-    numbers::number_of(reply)
+    c_types::number_of(reply)
 }

@@ -16,8 +16,8 @@ use Rattle.rules.specs.Lent.{Columns, Outcome, shortest, entriesAt}
 use Rattle.rules.specs.Checks.{firstFailed, featuresIn, treesIn}
 use Rattle.rules.specs.Table.{goodTree, treeIn, ForestTable, startsGood, treesOf, goodForest, startsEnough}
 use Rattle.rules.specs.Reading.{reads, scoresOf, normalised, scaled, addImportances, treeImportanceTests, forestImportanceTests, treeImportances, forestImportances}
-use Rattle.laws.specs.Lists.{is-true}
-use Rattle.laws.specs.Passed.{past, and2}
+use Rattle.lemmas.specs.Lists.{is-true}
+use Rattle.lemmas.specs.Passed.{past, and2}
 use Rattle.checks.specs.Tests.{within-top}
 use Rattle.importances.specs.Lists.{dividedBy, filled-is}
 use Rattle.importances.specs.Scores.{TreesLie}

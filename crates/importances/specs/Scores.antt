@@ -4,7 +4,7 @@ use native.Mathlib.Nat.{add-zero, zero-add}
 use native.Mathlib.Numerals.{add-one}
 use native.Mathlib.Omega.{arith}
 use mathlib.Core.Path.{_≡_, refl, sym, ap, _∙_, subst}
-use mathlib.Core.Bool.{Bool, true, false, _&&_}
+use mathlib.Core.Bool.{Bool, true, false, not, _&&_}
 use mathlib.Core.List.{List, map}
 use lib.ListN.{length, getD}
 use lib.Dec.{T, eqb}
@@ -13,8 +13,8 @@ use Rattle.rules.specs.Words.{nought, from, every}
 use Rattle.rules.specs.Lent.{Columns, Entry, shortest, entryAt, entriesAt}
 use Rattle.rules.specs.Table.{isLeaf, goodTree, ForestTable, treeAt, treesOf}
 use Rattle.rules.specs.Reading.{noEntry, scored, addScores, scoresOf, normalised, addEach, addImportances}
-use Rattle.laws.specs.Lists.{is-true, each, every-from, getD-from}
-use Rattle.laws.specs.Tables.{node-good}
+use Rattle.lemmas.specs.Lists.{is-true, each, every-from, getD-from}
+use Rattle.lemmas.specs.Tables.{node-good}
 use Rattle.tables.specs.Table.{entryIs, Lying}
 use Rattle.tables.specs.Laws.{entries-long, every-mapped, start-below, start-inside}
 use Rattle.importances.specs.Lists.{rest-next, rest-none, rest-all}
@@ -49,9 +49,9 @@ read-scored true e v = refl
 read-scored false e v = refl
 
 pub scored-by : (j : ℕ) (s : Float) (y o : ℕ) (v : List Float) {b : Bool} → noChild y o ≡ b
-    → scored b (marked j s y o) v ≡ scored (isLeaf (marked j s y o)) (marked j s y o) v
+    → scored (not b) (marked j s y o) v ≡ scored (not (isLeaf (marked j s y o))) (marked j s y o) v
 unfolding isLeaf
-scored-by j s y o v h = ap (λ z. scored z (marked j s y o) v) (sym h)
+scored-by j s y o v h = ap (λ z. scored (not z) (marked j s y o) v) (sym h)
 
 module _ (c : Columns) (a n : ℕ) where
   -- the entries from node k on are left to add
@@ -64,13 +64,13 @@ module _ (c : Columns) (a n : ℕ) where
   adding-start v = record { within = omega arith; long = refl; so = λ i. addScores v (entriesAt c (add-zero a i) (rest-all n i)) }
 
   pub adding-turn : (v₀ v : List Float) {w : List Float} (k : ℕ) → Adding v₀ v k → k < n → length w ≡ length v
-      → w ≡ scored (isLeaf (read (entryAt c (a + k)))) (read (entryAt c (a + k))) v → Adding v₀ w (k + 1)
+      → w ≡ scored (not (isLeaf (read (entryAt c (a + k))))) (read (entryAt c (a + k))) v → Adding v₀ w (k + 1)
   unfolding entriesAt addScores isLeaf
   adding-turn v₀ v {w} k f h l e =
       record {
         within = omega arith;
         long = l ∙ f .long;
-        so = (λ i. addScores ((e ∙ read-scored (isLeaf (entryAt c (a + k))) (entryAt c (a + k)) v) i) (map (entryAt c) (from (up a k i) (n - (k + 1)))))
+        so = (λ i. addScores ((e ∙ read-scored (not (isLeaf (entryAt c (a + k)))) (entryAt c (a + k)) v) i) (map (entryAt c) (from (up a k i) (n - (k + 1)))))
             ∙ ap (addScores v) (rest-next (entryAt c) (a + k) n k h) ∙ f .so;
       }
     where

@@ -1,6 +1,6 @@
 // Importances: how much of the scores of a tree's splits, or of a forest's, falls to each feature.
 ghost use mathlib.Core.Path.{_≡_};
-ghost use mathlib.Core.Bool.{false};
+ghost use mathlib.Core.Bool.{false, not};
 ghost use mathlib.Core.List.{List};
 ghost use Prim.Native.Nat.{_<_};
 ghost use lib.ListN.{length};
@@ -18,18 +18,22 @@ pub mod lists;
 
 // ---- one tree
 
-fn is_leaf(yes: u32, no: u32) -> bool
-    ensures { λ r. ⌜ r ≡ noChild yes no ⌝ }
+fn is_leaf(truechild: u32, falsechild: u32) -> bool
+    ensures { λ r. ⌜ r ≡ noChild truechild falsechild ⌝ }
 {
-    if yes == 0 { no == 0 } else { false }
+    if truechild == 0 {
+        falsechild == 0
+    } else {
+        false
+    }
 }
 
 // A node's score is added to its feature's, unless it is a leaf.
-fn add_score(feature: u32, score: f64, yes: u32, no: u32, v: &mut [f64])
-    requires { ⌜ (noChild yes no ≡ false → feature < length (now v)) ⌝ }
-    ensures { λ _. ⌜ now (v .exit) ≡ scored (isLeaf (marked feature score yes no)) (marked feature score yes no) (now (v .entry)) ⌝ }
+fn add_score(feature: u32, score: f64, truechild: u32, falsechild: u32, v: &mut [f64])
+    requires { ⌜ (noChild truechild falsechild ≡ false → feature < length (now v)) ⌝ }
+    ensures { λ _. ⌜ now (v .exit) ≡ scored (not (isLeaf (marked feature score truechild falsechild))) (marked feature score truechild falsechild) (now (v .entry)) ⌝ }
 {
-    if is_leaf(yes, no) {
+    if is_leaf(truechild, falsechild) {
         return;
     }
     let j = criterion::wide(feature);
@@ -44,17 +48,17 @@ fn add_scores(
     feature: &[u32],
     threshold: &[f64],
     score: &[f64],
-    yes: &[u32],
-    no: &[u32],
+    truechild: &[u32],
+    falsechild: &[u32],
     v: &mut [f64],
 )
-    requires { ⌜ TreeLies (length (now v)) (columnsOf (now value) (now feature) (now threshold) (now score) (now yes) (now no)) a n ⌝ }
-    ensures { λ _. ⌜ now (v .exit) ≡ addScores (now (v .entry)) (entriesAt (columnsOf (now (value .entry)) (now (feature .entry)) (now (threshold .entry)) (now (score .entry)) (now (yes .entry)) (now (no .entry))) a n) ⌝ }
+    requires { ⌜ TreeLies (length (now v)) (columnsOf (now value) (now feature) (now threshold) (now score) (now truechild) (now falsechild)) a n ⌝ }
+    ensures { λ _. ⌜ now (v .exit) ≡ addScores (now (v .entry)) (entriesAt (columnsOf (now (value .entry)) (now (feature .entry)) (now (threshold .entry)) (now (score .entry)) (now (truechild .entry)) (now (falsechild .entry))) a n) ⌝ }
 {
     let mut k: usize = 0;
     while k < n {
         let at = a + k;
-        add_score(feature[at], score[at], yes[at], no[at], v);
+        add_score(feature[at], score[at], truechild[at], falsechild[at], v);
         k += 1;
     }
 }
@@ -66,15 +70,25 @@ fn score_tree(
     feature: &[u32],
     threshold: &[f64],
     score: &[f64],
-    yes: &[u32],
-    no: &[u32],
+    truechild: &[u32],
+    falsechild: &[u32],
     v: &mut [f64],
 )
-    requires { ⌜ TreeLies (length (now v)) (columnsOf (now value) (now feature) (now threshold) (now score) (now yes) (now no)) a n ⌝ }
-    ensures { λ _. ⌜ now (v .exit) ≡ scoresOf (length (now (v .entry))) (entriesAt (columnsOf (now (value .entry)) (now (feature .entry)) (now (threshold .entry)) (now (score .entry)) (now (yes .entry)) (now (no .entry))) a n) ⌝ }
+    requires { ⌜ TreeLies (length (now v)) (columnsOf (now value) (now feature) (now threshold) (now score) (now truechild) (now falsechild)) a n ⌝ }
+    ensures { λ _. ⌜ now (v .exit) ≡ scoresOf (length (now (v .entry))) (entriesAt (columnsOf (now (value .entry)) (now (feature .entry)) (now (threshold .entry)) (now (score .entry)) (now (truechild .entry)) (now (falsechild .entry))) a n) ⌝ }
 {
-    columns::zero_f64(v);
-    add_scores(a, n, value, feature, threshold, score, yes, no, v);
+    work_columns::zero_f64(v);
+    add_scores(
+        a,
+        n,
+        value,
+        feature,
+        threshold,
+        score,
+        truechild,
+        falsechild,
+        v,
+    );
 }
 
 fn tree_verdict(
@@ -83,11 +97,11 @@ fn tree_verdict(
     feature: &[u32],
     threshold: &[f64],
     score: &[f64],
-    yes: &[u32],
-    no: &[u32],
+    truechild: &[u32],
+    falsechild: &[u32],
     room: usize,
 ) -> u32
-    ensures { λ r. ⌜ ((out : List Float) → length out ≡ room → r ≡ firstFailed (treeImportanceTests features (columnsOf (now (value .entry)) (now (feature .entry)) (now (threshold .entry)) (now (score .entry)) (now (yes .entry)) (now (no .entry))) out)) ⌝ }
+    ensures { λ r. ⌜ ((out : List Float) → length out ≡ room → r ≡ firstFailed (treeImportanceTests features (columnsOf (now (value .entry)) (now (feature .entry)) (now (threshold .entry)) (now (score .entry)) (now (truechild .entry)) (now (falsechild .entry))) out)) ⌝ }
 {
     if !checks::features_in(features) {
         return 1;
@@ -100,10 +114,20 @@ fn tree_verdict(
         feature.len(),
         threshold.len(),
         score.len(),
-        yes.len(),
-        no.len(),
+        truechild.len(),
+        falsechild.len(),
     );
-    if !tables::tree_good(features, 0, n, value, feature, threshold, score, yes, no) {
+    if !tables::tree_good(
+        features,
+        0,
+        n,
+        value,
+        feature,
+        threshold,
+        score,
+        truechild,
+        falsechild,
+    ) {
         return 8;
     }
     0
@@ -117,14 +141,23 @@ pub fn tree_importances(
     feature: &[u32],
     threshold: &[f64],
     score: &[f64],
-    yes: &[u32],
-    no: &[u32],
+    truechild: &[u32],
+    falsechild: &[u32],
     out: &mut [f64],
 ) -> Reply
-    ensures { λ r. ⌜ _≡_ {A = Outcome Reply (List Float)} (record { answer = r; rooms = now (out .exit) }) (treeImportances features by (columnsOf (now (value .entry)) (now (feature .entry)) (now (threshold .entry)) (now (score .entry)) (now (yes .entry)) (now (no .entry))) (now (out .entry))) ⌝ }
+    ensures { λ r. ⌜ _≡_ {A = Outcome Reply (List Float)} (record { answer = r; rooms = now (out .exit) }) (treeImportances features by (columnsOf (now (value .entry)) (now (feature .entry)) (now (threshold .entry)) (now (score .entry)) (now (truechild .entry)) (now (falsechild .entry))) (now (out .entry))) ⌝ }
 {
     let room = out.len();
-    let number = tree_verdict(features, value, feature, threshold, score, yes, no, room);
+    let number = tree_verdict(
+        features,
+        value,
+        feature,
+        threshold,
+        score,
+        truechild,
+        falsechild,
+        room,
+    );
     if number != 0 {
         return Reply::Refused(number);
     }
@@ -133,10 +166,20 @@ pub fn tree_importances(
         feature.len(),
         threshold.len(),
         score.len(),
-        yes.len(),
-        no.len(),
+        truechild.len(),
+        falsechild.len(),
     );
-    score_tree(0, n, value, feature, threshold, score, yes, no, out);
+    score_tree(
+        0,
+        n,
+        value,
+        feature,
+        threshold,
+        score,
+        truechild,
+        falsechild,
+        out,
+    );
     lists::scale(by, out);
     Reply::Done
 }
@@ -151,15 +194,25 @@ fn add_tree(
     feature: &[u32],
     threshold: &[f64],
     score: &[f64],
-    yes: &[u32],
-    no: &[u32],
+    truechild: &[u32],
+    falsechild: &[u32],
     v: &mut [f64],
     own: &mut [f64],
 )
-    requires { ⌜ TreeLies (length (now v)) (columnsOf (now value) (now feature) (now threshold) (now score) (now yes) (now no)) a n × (length (now own) ≡ length (now v)) ⌝ }
-    ensures { λ _. ⌜ now (v .exit) ≡ addEach (now (v .entry)) (normalised (scoresOf (length (now (v .entry))) (entriesAt (columnsOf (now (value .entry)) (now (feature .entry)) (now (threshold .entry)) (now (score .entry)) (now (yes .entry)) (now (no .entry))) a n))) ⌝ }
+    requires { ⌜ TreeLies (length (now v)) (columnsOf (now value) (now feature) (now threshold) (now score) (now truechild) (now falsechild)) a n × (length (now own) ≡ length (now v)) ⌝ }
+    ensures { λ _. ⌜ now (v .exit) ≡ addEach (now (v .entry)) (normalised (scoresOf (length (now (v .entry))) (entriesAt (columnsOf (now (value .entry)) (now (feature .entry)) (now (threshold .entry)) (now (score .entry)) (now (truechild .entry)) (now (falsechild .entry))) a n))) ⌝ }
 {
-    score_tree(a, n, value, feature, threshold, score, yes, no, own);
+    score_tree(
+        a,
+        n,
+        value,
+        feature,
+        threshold,
+        score,
+        truechild,
+        falsechild,
+        own,
+    );
     lists::normalise(own);
     lists::add_each(v, own);
 }
@@ -171,13 +224,13 @@ fn add_trees(
     feature: &[u32],
     threshold: &[f64],
     score: &[f64],
-    yes: &[u32],
-    no: &[u32],
+    truechild: &[u32],
+    falsechild: &[u32],
     v: &mut [f64],
     own: &mut [f64],
 )
-    requires { ⌜ TreesLie (length (now v)) (tableOf trees (now starts) (columnsOf (now value) (now feature) (now threshold) (now score) (now yes) (now no))) × (length (now own) ≡ length (now v)) ⌝ }
-    ensures { λ _. ⌜ now (v .exit) ≡ addImportances (length (now (v .entry))) (now (v .entry)) (treesOf (tableOf trees (now (starts .entry)) (columnsOf (now (value .entry)) (now (feature .entry)) (now (threshold .entry)) (now (score .entry)) (now (yes .entry)) (now (no .entry))))) ⌝ }
+    requires { ⌜ TreesLie (length (now v)) (tableOf trees (now starts) (columnsOf (now value) (now feature) (now threshold) (now score) (now truechild) (now falsechild))) × (length (now own) ≡ length (now v)) ⌝ }
+    ensures { λ _. ⌜ now (v .exit) ≡ addImportances (length (now (v .entry))) (now (v .entry)) (treesOf (tableOf trees (now (starts .entry)) (columnsOf (now (value .entry)) (now (feature .entry)) (now (threshold .entry)) (now (score .entry)) (now (truechild .entry)) (now (falsechild .entry))))) ⌝ }
 {
     let mut t: usize = 0;
     while t < trees {
@@ -185,7 +238,18 @@ fn add_trees(
         let a = criterion::wide(starts[t]);
         let e = criterion::wide(starts[next]);
         let n = e - a;
-        add_tree(a, n, value, feature, threshold, score, yes, no, v, own);
+        add_tree(
+            a,
+            n,
+            value,
+            feature,
+            threshold,
+            score,
+            truechild,
+            falsechild,
+            v,
+            own,
+        );
         t += 1;
     }
 }
@@ -198,11 +262,11 @@ fn forest_verdict(
     feature: &[u32],
     threshold: &[f64],
     score: &[f64],
-    yes: &[u32],
-    no: &[u32],
+    truechild: &[u32],
+    falsechild: &[u32],
     room: usize,
 ) -> u32
-    ensures { λ r. ⌜ ((out : List Float) → length out ≡ room → r ≡ firstFailed (forestImportanceTests features (tableOf trees (now (starts .entry)) (columnsOf (now (value .entry)) (now (feature .entry)) (now (threshold .entry)) (now (score .entry)) (now (yes .entry)) (now (no .entry)))) out)) ⌝ }
+    ensures { λ r. ⌜ ((out : List Float) → length out ≡ room → r ≡ firstFailed (forestImportanceTests features (tableOf trees (now (starts .entry)) (columnsOf (now (value .entry)) (now (feature .entry)) (now (threshold .entry)) (now (score .entry)) (now (truechild .entry)) (now (falsechild .entry)))) out)) ⌝ }
 {
     if !checks::features_in(features) {
         return 1;
@@ -224,8 +288,8 @@ fn forest_verdict(
         feature,
         threshold,
         score,
-        yes,
-        no,
+        truechild,
+        falsechild,
     ) {
         return 8;
     }
@@ -241,11 +305,11 @@ pub fn forest_importances(
     feature: &[u32],
     threshold: &[f64],
     score: &[f64],
-    yes: &[u32],
-    no: &[u32],
+    truechild: &[u32],
+    falsechild: &[u32],
     out: &mut [f64],
 ) -> Reply
-    ensures { λ r. ⌜ _≡_ {A = Outcome Reply (List Float)} (record { answer = r; rooms = now (out .exit) }) (forestImportances features (tableOf trees (now (starts .entry)) (columnsOf (now (value .entry)) (now (feature .entry)) (now (threshold .entry)) (now (score .entry)) (now (yes .entry)) (now (no .entry)))) (now (out .entry))) ⌝ }
+    ensures { λ r. ⌜ _≡_ {A = Outcome Reply (List Float)} (record { answer = r; rooms = now (out .exit) }) (forestImportances features (tableOf trees (now (starts .entry)) (columnsOf (now (value .entry)) (now (feature .entry)) (now (threshold .entry)) (now (score .entry)) (now (truechild .entry)) (now (falsechild .entry)))) (now (out .entry))) ⌝ }
 {
     let room = out.len();
     let number = forest_verdict(
@@ -256,15 +320,15 @@ pub fn forest_importances(
         feature,
         threshold,
         score,
-        yes,
-        no,
+        truechild,
+        falsechild,
         room,
     );
     if number != 0 {
         return Reply::Refused(number);
     }
     let mut own: [f64; 1024] = [0.0; 1024];
-    columns::zero_f64(out);
+    work_columns::zero_f64(out);
     add_trees(
         trees,
         starts,
@@ -272,8 +336,8 @@ pub fn forest_importances(
         feature,
         threshold,
         score,
-        yes,
-        no,
+        truechild,
+        falsechild,
         out,
         &mut own[..features],
     );

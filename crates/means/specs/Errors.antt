@@ -14,8 +14,8 @@ use Rattle.floats.specs.Order.{trichotomy, lt-not-le, le-refl64}
 use Rattle.rules.specs.declared.ErrorReply.{ErrorReply}
 use Rattle.rules.specs.Checks.{firstFailed, rowsIn}
 use Rattle.rules.specs.OutOfBag.{squareOff, addSquares, errs, errorTests}
-use Rattle.laws.specs.Lists.{is-true}
-use Rattle.laws.specs.Passed.{past, and2}
+use Rattle.lemmas.specs.Lists.{is-true}
+use Rattle.lemmas.specs.Passed.{past, and2}
 use Rattle.checks.specs.Tests.{within-top}
 
 -- only a NaN differs from itself

@@ -14,8 +14,8 @@ use Rattle.rules.specs.Checks.{Test, test, firstFailed, shapeIn, treesIn, value
 use Rattle.rules.specs.Table.{goodTree, ForestTable, startsGood, treesOf, goodForest, startsEnough}
 use Rattle.rules.specs.Reading.{meanOf, meanTests}
 use Rattle.rules.specs.OutOfBag.{outTests, outOfBagMean}
-use Rattle.laws.specs.Lists.{is-true}
-use Rattle.laws.specs.Passed.{past, and2}
+use Rattle.lemmas.specs.Lists.{is-true}
+use Rattle.lemmas.specs.Passed.{past, and2}
 use Rattle.checks.specs.Asks.{Ranges}
 use Rattle.checks.specs.Tests.{and-both, within-top, rows-low}
 use Rattle.means.specs.Sums.{ForestReadable, out-all}

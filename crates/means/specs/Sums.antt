@@ -15,11 +15,11 @@ use Rattle.rules.specs.Lent.{Entry, valuesAt}
 use Rattle.rules.specs.Table.{goodTree, ForestTable, treeAt, treesOf}
 use Rattle.rules.specs.Reading.{leafValue, addTrees, meanOf}
 use Rattle.rules.specs.OutOfBag.{outTrees, outOfBagMean}
-use Rattle.laws.specs.Lists.{is-true, each, every-from, length-total, length-from}
+use Rattle.lemmas.specs.Lists.{is-true, each, every-from, length-total, length-from}
 use Rattle.tables.specs.Table.{Lying}
 use Rattle.tables.specs.Laws.{every-mapped, start-below, start-inside}
-use Rattle.reading.specs.Walks.{TreeLies, leafAt}
-use Rattle.reading.specs.Rows.{rewritten, length-rewritten, rewritten-twice, rewritten-same, rewritten-kept, rewritten-all}
+use Rattle.predict.specs.Walks.{TreeLies, leafAt}
+use Rattle.predict.specs.Rows.{rewritten, length-rewritten, rewritten-twice, rewritten-same, rewritten-kept, rewritten-all}
 
 abbrev pub isOut : List ℕ → ℕ → Bool
 isOut counts at = eqb (getD counts at 0) 0

@@ -44,11 +44,11 @@ fn table_verdict(
     feature: &[u32],
     threshold: &[f64],
     score: &[f64],
-    yes: &[u32],
-    no: &[u32],
+    truechild: &[u32],
+    falsechild: &[u32],
 ) -> u32
     requires { ⌜ Ranges shape trees ⌝ }
-    ensures { λ r. ⌜ ((out : List Float) → length out ≡ places → r ≡ firstFailed (tableTests shape (now (values .entry)) (tableOf trees (now (starts .entry)) (columnsOf (now (value .entry)) (now (feature .entry)) (now (threshold .entry)) (now (score .entry)) (now (yes .entry)) (now (no .entry)))) out)) ⌝ }
+    ensures { λ r. ⌜ ((out : List Float) → length out ≡ places → r ≡ firstFailed (tableTests shape (now (values .entry)) (tableOf trees (now (starts .entry)) (columnsOf (now (value .entry)) (now (feature .entry)) (now (threshold .entry)) (now (score .entry)) (now (truechild .entry)) (now (falsechild .entry)))) out)) ⌝ }
 {
     if !checks::values_long(shape, values) {
         return 2;
@@ -65,8 +65,8 @@ fn table_verdict(
         feature,
         threshold,
         score,
-        yes,
-        no,
+        truechild,
+        falsechild,
     ) {
         return 8;
     }
@@ -85,10 +85,10 @@ fn mean_verdict(
     feature: &[u32],
     threshold: &[f64],
     score: &[f64],
-    yes: &[u32],
-    no: &[u32],
+    truechild: &[u32],
+    falsechild: &[u32],
 ) -> u32
-    ensures { λ r. ⌜ ((out : List Float) → length out ≡ places → r ≡ firstFailed (meanTests shape (now (values .entry)) (tableOf trees (now (starts .entry)) (columnsOf (now (value .entry)) (now (feature .entry)) (now (threshold .entry)) (now (score .entry)) (now (yes .entry)) (now (no .entry)))) out)) ⌝ }
+    ensures { λ r. ⌜ ((out : List Float) → length out ≡ places → r ≡ firstFailed (meanTests shape (now (values .entry)) (tableOf trees (now (starts .entry)) (columnsOf (now (value .entry)) (now (feature .entry)) (now (threshold .entry)) (now (score .entry)) (now (truechild .entry)) (now (falsechild .entry)))) out)) ⌝ }
 {
     if !checks::forest::forest_in(shape, trees) {
         return 1;
@@ -103,8 +103,8 @@ fn mean_verdict(
         feature,
         threshold,
         score,
-        yes,
-        no,
+        truechild,
+        falsechild,
     )
 }
 
@@ -118,12 +118,12 @@ pub fn forest_means(
     feature: &[u32],
     threshold: &[f64],
     score: &[f64],
-    yes: &[u32],
-    no: &[u32],
+    truechild: &[u32],
+    falsechild: &[u32],
     out: &mut [f64],
 ) -> Reply
     ensures { λ r. ⌜ _≡_ {A = Outcome Reply (List Float)} (record { answer = r; rooms = now (out .exit) })
-        (forestMeans shape (now (values .entry)) (tableOf trees (now (starts .entry)) (columnsOf (now (value .entry)) (now (feature .entry)) (now (threshold .entry)) (now (score .entry)) (now (yes .entry)) (now (no .entry)))) (now (out .entry))) ⌝ }
+        (forestMeans shape (now (values .entry)) (tableOf trees (now (starts .entry)) (columnsOf (now (value .entry)) (now (feature .entry)) (now (threshold .entry)) (now (score .entry)) (now (truechild .entry)) (now (falsechild .entry)))) (now (out .entry))) ⌝ }
 {
     let places = out.len();
     let number = mean_verdict(
@@ -136,8 +136,8 @@ pub fn forest_means(
         feature,
         threshold,
         score,
-        yes,
-        no,
+        truechild,
+        falsechild,
     );
     if number != 0 {
         return Reply::Refused(number);
@@ -152,8 +152,8 @@ pub fn forest_means(
         feature,
         threshold,
         score,
-        yes,
-        no,
+        truechild,
+        falsechild,
         out,
     );
     Reply::Done
@@ -172,10 +172,10 @@ fn out_verdict(
     feature: &[u32],
     threshold: &[f64],
     score: &[f64],
-    yes: &[u32],
-    no: &[u32],
+    truechild: &[u32],
+    falsechild: &[u32],
 ) -> u32
-    ensures { λ r. ⌜ ((out : List Float) → length out ≡ places → r ≡ firstFailed (outTests shape (now (values .entry)) (now (counts .entry)) (tableOf trees (now (starts .entry)) (columnsOf (now (value .entry)) (now (feature .entry)) (now (threshold .entry)) (now (score .entry)) (now (yes .entry)) (now (no .entry)))) out)) ⌝ }
+    ensures { λ r. ⌜ ((out : List Float) → length out ≡ places → r ≡ firstFailed (outTests shape (now (values .entry)) (now (counts .entry)) (tableOf trees (now (starts .entry)) (columnsOf (now (value .entry)) (now (feature .entry)) (now (threshold .entry)) (now (score .entry)) (now (truechild .entry)) (now (falsechild .entry)))) out)) ⌝ }
 {
     if !checks::forest::forest_in(shape, trees) {
         return 1;
@@ -197,8 +197,8 @@ fn out_verdict(
         feature,
         threshold,
         score,
-        yes,
-        no,
+        truechild,
+        falsechild,
     )
 }
 
@@ -213,12 +213,12 @@ pub fn out_of_bag_means(
     feature: &[u32],
     threshold: &[f64],
     score: &[f64],
-    yes: &[u32],
-    no: &[u32],
+    truechild: &[u32],
+    falsechild: &[u32],
     out: &mut [f64],
 ) -> Reply
     ensures { λ r. ⌜ _≡_ {A = Outcome Reply (List Float)} (record { answer = r; rooms = now (out .exit) })
-        (outOfBagMeans shape (now (values .entry)) (now (counts .entry)) (tableOf trees (now (starts .entry)) (columnsOf (now (value .entry)) (now (feature .entry)) (now (threshold .entry)) (now (score .entry)) (now (yes .entry)) (now (no .entry)))) (now (out .entry))) ⌝ }
+        (outOfBagMeans shape (now (values .entry)) (now (counts .entry)) (tableOf trees (now (starts .entry)) (columnsOf (now (value .entry)) (now (feature .entry)) (now (threshold .entry)) (now (score .entry)) (now (truechild .entry)) (now (falsechild .entry)))) (now (out .entry))) ⌝ }
 {
     let places = out.len();
     let number = out_verdict(
@@ -232,8 +232,8 @@ pub fn out_of_bag_means(
         feature,
         threshold,
         score,
-        yes,
-        no,
+        truechild,
+        falsechild,
     );
     if number != 0 {
         return Reply::Refused(number);
@@ -248,8 +248,8 @@ pub fn out_of_bag_means(
         feature,
         threshold,
         score,
-        yes,
-        no,
+        truechild,
+        falsechild,
         out,
     );
     Reply::Done

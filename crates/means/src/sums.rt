@@ -10,8 +10,8 @@ ghost use Rattle.rules.specs.Words.{nought, float, from};
 ghost use Rattle.rules.specs.Lent.{entriesAt, columnsOf};
 ghost use Rattle.rules.specs.Table.{treesOf, tableOf};
 ghost use Rattle.rules.specs.OutOfBag.{outOfBagMean};
-ghost use Rattle.reading.specs.Walks.{Walkable, Readable, leafAt};
-ghost use Rattle.reading.specs.Rows.{rewritten};
+ghost use Rattle.predict.specs.Walks.{Walkable, Readable, leafAt};
+ghost use Rattle.predict.specs.Rows.{rewritten};
 ghost use Rattle.means.specs.Sums.{isOut, withTree, summed, outNumber, Countable, Numberable, OutNumbered, ForestReadable};
 use rules::Shape;
 
@@ -42,14 +42,14 @@ fn sum_with(
     feature: &[u32],
     threshold: &[f64],
     score: &[f64],
-    yes: &[u32],
-    no: &[u32],
+    truechild: &[u32],
+    falsechild: &[u32],
 ) -> f64
-    requires { ⌜ Walkable features a n i (now values) (columnsOf (now value) (now feature) (now threshold) (now score) (now yes) (now no)) ⌝ }
-    ensures { λ r. ⌜ r ≡ cond (isOut (now (counts .entry)) at) (add binary64 x (leafAt features (now (values .entry)) (entriesAt (columnsOf (now (value .entry)) (now (feature .entry)) (now (threshold .entry)) (now (score .entry)) (now (yes .entry)) (now (no .entry))) a n) i)) x ⌝ }
+    requires { ⌜ Walkable features a n i (now values) (columnsOf (now value) (now feature) (now threshold) (now score) (now truechild) (now falsechild)) ⌝ }
+    ensures { λ r. ⌜ r ≡ cond (isOut (now (counts .entry)) at) (add binary64 x (leafAt features (now (values .entry)) (entriesAt (columnsOf (now (value .entry)) (now (feature .entry)) (now (threshold .entry)) (now (score .entry)) (now (truechild .entry)) (now (falsechild .entry))) a n) i)) x ⌝ }
 {
     if is_out(counts, at) {
-        let v = reading::row_value(
+        let v = predict::row_value(
             i,
             features,
             a,
@@ -59,8 +59,8 @@ fn sum_with(
             feature,
             threshold,
             score,
-            yes,
-            no,
+            truechild,
+            falsechild,
         );
         x + v
     } else {
@@ -81,12 +81,12 @@ fn add_tree(
     feature: &[u32],
     threshold: &[f64],
     score: &[f64],
-    yes: &[u32],
-    no: &[u32],
+    truechild: &[u32],
+    falsechild: &[u32],
     out: &mut [f64],
 )
-    requires { ⌜ Countable base × Readable rows features a n (now values) (columnsOf (now value) (now feature) (now threshold) (now score) (now yes) (now no)) (now out) ⌝ }
-    ensures { λ _. ⌜ now (out .exit) ≡ rewritten (withTree (now (counts .entry)) base (leafAt features (now (values .entry)) (entriesAt (columnsOf (now (value .entry)) (now (feature .entry)) (now (threshold .entry)) (now (score .entry)) (now (yes .entry)) (now (no .entry))) a n))) 0 rows (now (out .entry)) ⌝ }
+    requires { ⌜ Countable base × Readable rows features a n (now values) (columnsOf (now value) (now feature) (now threshold) (now score) (now truechild) (now falsechild)) (now out) ⌝ }
+    ensures { λ _. ⌜ now (out .exit) ≡ rewritten (withTree (now (counts .entry)) base (leafAt features (now (values .entry)) (entriesAt (columnsOf (now (value .entry)) (now (feature .entry)) (now (threshold .entry)) (now (score .entry)) (now (truechild .entry)) (now (falsechild .entry))) a n))) 0 rows (now (out .entry)) ⌝ }
 {
     let mut i: usize = 0;
     while i < rows {
@@ -105,8 +105,8 @@ fn add_tree(
             feature,
             threshold,
             score,
-            yes,
-            no,
+            truechild,
+            falsechild,
         );
         i += 1;
     }
@@ -123,12 +123,12 @@ fn add_trees(
     feature: &[u32],
     threshold: &[f64],
     score: &[f64],
-    yes: &[u32],
-    no: &[u32],
+    truechild: &[u32],
+    falsechild: &[u32],
     out: &mut [f64],
 )
-    requires { ⌜ ForestReadable rows features (now values) (tableOf trees (now starts) (columnsOf (now value) (now feature) (now threshold) (now score) (now yes) (now no))) (now out) ⌝ }
-    ensures { λ _. ⌜ now (out .exit) ≡ rewritten (summed rows features (now (values .entry)) (now (counts .entry)) 0 (treesOf (tableOf trees (now (starts .entry)) (columnsOf (now (value .entry)) (now (feature .entry)) (now (threshold .entry)) (now (score .entry)) (now (yes .entry)) (now (no .entry)))))) 0 rows (now (out .entry)) ⌝ }
+    requires { ⌜ ForestReadable rows features (now values) (tableOf trees (now starts) (columnsOf (now value) (now feature) (now threshold) (now score) (now truechild) (now falsechild))) (now out) ⌝ }
+    ensures { λ _. ⌜ now (out .exit) ≡ rewritten (summed rows features (now (values .entry)) (now (counts .entry)) 0 (treesOf (tableOf trees (now (starts .entry)) (columnsOf (now (value .entry)) (now (feature .entry)) (now (threshold .entry)) (now (score .entry)) (now (truechild .entry)) (now (falsechild .entry)))))) 0 rows (now (out .entry)) ⌝ }
 {
     let mut t: usize = 0;
     while t < trees {
@@ -149,8 +149,8 @@ fn add_trees(
             feature,
             threshold,
             score,
-            yes,
-            no,
+            truechild,
+            falsechild,
             out,
         );
         t += 1;
@@ -227,12 +227,12 @@ pub fn means(
     feature: &[u32],
     threshold: &[f64],
     score: &[f64],
-    yes: &[u32],
-    no: &[u32],
+    truechild: &[u32],
+    falsechild: &[u32],
     out: &mut [f64],
 )
-    requires { ⌜ ForestReadable (shape .rows) (shape .features) (now values) (tableOf trees (now starts) (columnsOf (now value) (now feature) (now threshold) (now score) (now yes) (now no))) (now out) ⌝ }
-    ensures { λ _. ⌜ now (out .exit) ≡ map (outOfBagMean shape (now (values .entry)) (now (counts .entry)) (tableOf trees (now (starts .entry)) (columnsOf (now (value .entry)) (now (feature .entry)) (now (threshold .entry)) (now (score .entry)) (now (yes .entry)) (now (no .entry))))) (from 0 (shape .rows)) ⌝ }
+    requires { ⌜ ForestReadable (shape .rows) (shape .features) (now values) (tableOf trees (now starts) (columnsOf (now value) (now feature) (now threshold) (now score) (now truechild) (now falsechild))) (now out) ⌝ }
+    ensures { λ _. ⌜ now (out .exit) ≡ map (outOfBagMean shape (now (values .entry)) (now (counts .entry)) (tableOf trees (now (starts .entry)) (columnsOf (now (value .entry)) (now (feature .entry)) (now (threshold .entry)) (now (score .entry)) (now (truechild .entry)) (now (falsechild .entry))))) (from 0 (shape .rows)) ⌝ }
 {
     let rows = shape.rows;
     let features = shape.features;
@@ -248,8 +248,8 @@ pub fn means(
         feature,
         threshold,
         score,
-        yes,
-        no,
+        truechild,
+        falsechild,
         out,
     );
     divide(rows, trees, counts, out);

@@ -18,39 +18,39 @@ use Rattle.rules.specs.declared.ForestAnswer.{ForestAnswer}
 use Rattle.rules.specs.declared.Reply.{Reply}
 use Rattle.rules.specs.Words.{float, from, putIf, keep, every, alongFrom, along, total, member, fresh, eachOnce}
 use Rattle.rules.specs.Totals.{takeIn, less, valueOf, massless, gap, proxy, score}
-use Rattle.rules.specs.Threshold.{midpoint, threshold}
-use Rattle.rules.specs.Lent.{Given, Columns, Stack, stack, Work, TreeRooms, ForestRooms, Outcome, valuesAt, listingAt, unweighted, entriesAt, kept, keptRows, cell, countIn, massIn, keptIn}
-use Rattle.rules.specs.Checks.{firstFailed, within, lengths, goodCuts, goodWeight, numbersGood, countsGood, countsOne, roomFor, workEnough, reportsExact}
+use Rattle.rules.specs.Threshold.{midpoint, thresholdBetween}
+use Rattle.rules.specs.Lent.{Given, Columns, WaitingRoom, waitingRoom, Work, TreeRooms, ForestRooms, Outcome, valuesAt, listingAt, unweighted, entriesAt, kept, keptRows, cell, countIn, massIn, keptIn}
+use Rattle.rules.specs.Checks.{firstFailed, within, lengths, goodStarts, goodWeight, numbersGood, countsGood, countsOne, roomFor, workEnough, reportsExact}
 use Rattle.rules.specs.Listing.{neverFalls, goodListing, listingsGood}
 use Rattle.rules.specs.Draws.{bind, takeWords, takeThreshold, nextThreshold, tape}
-use Rattle.rules.specs.Search.{at, totals, goesTrue, better, judge, candidateAt, step, walk, bestIn, final, drawn, drawIn, randomIn, tryOne, tryAll, search}
+use Rattle.rules.specs.Search.{at, totalsOf, goesTrue, better, judge, candidateAt, step, sweep, bestIn, final, drawn, drawIn, randomIn, tryOne, tryAll, search}
 use Rattle.rules.specs.Growth.{child, leafOf, splitting, splitOf, withChildren, searchable, joins, runs, searchIf, expand, grow, growAll, fromRoot}
-use Rattle.rules.specs.Fit.{listing, elementIn, element, column, root, treeOf, rooted, fit, entryOf, entries, limitOf, paramsOf, TreeCall, frameOf, grownTree, treeTests, treeDone, treeEnds, fitTree}
+use Rattle.rules.specs.Fit.{listing, elementIn, element, column, root, treeOf, growFrom, fit, entryOf, entries, limitOf, paramsOf, TreeCall, oneTreeOf, grownTree, treeTests, treeDone, treeEnds, fitTree}
 use Rattle.rules.specs.Table.{isLeaf, goodEntry, goodFrom, goodTree, treeIn, startsGood, treeAt, treesOf, goodForest}
 use Rattle.rules.specs.Reading.{onto, walked, leafValue, reads, addTrees, meanOf, scored, addScores, sumFrom, dividedIf, normalised, scoresOf, scaled, treeImportanceTests, treeImportances}
-use Rattle.rules.specs.Forest.{ForestCall, squares, triedOf, part, frameAt, frames, withTree, nextTree, growTrees, grownForest, startsFrom, forestEntries, cutsGood, roomsGood, forestTests, forestDone, forestEnds, fitForest}
+use Rattle.rules.specs.Forest.{ForestCall, squares, triedOf, part, oneTreeAt, eachTree, withTree, nextTree, growTrees, grownForest, startsFrom, forestEntries, tapesGood, roomsGood, forestTests, forestDone, forestEnds, fitForest}
 use Rattle.rules.specs.OutOfBag.{outTrees, outOfBagMean, outTests, outOfBagMeans}
 
 -- ---- a call of the table, and what it leaves
 
 pub data Call : Type 0 where
-  fits : TreeCall → TreeRooms Stack → Call
+  fits : TreeCall → TreeRooms WaitingRoom → Call
   -- the fit of a tree, then its importances
-  weighs : Scale → TreeCall → TreeRooms Stack → List Float → Call
+  weighs : Scale → TreeCall → TreeRooms WaitingRoom → List Float → Call
   -- the fit of a forest, then its out-of-bag means with the fit's own counts and features
-  bags : ForestCall → ForestRooms Stack → List Float → Call
+  bags : ForestCall → ForestRooms WaitingRoom → List Float → Call
 
 pub data Seen : Type 0 where
-  fitted : Outcome TreeAnswer (TreeRooms Stack) → Seen
+  fitted : Outcome TreeAnswer (TreeRooms WaitingRoom) → Seen
   read : Outcome Reply (List Float) → Seen
-  bagged : Outcome ForestAnswer (ForestRooms Stack) → Outcome Reply (List Float) → Seen
+  bagged : Outcome ForestAnswer (ForestRooms WaitingRoom) → Outcome Reply (List Float) → Seen
 
 unfoldable pub run : Call → Seen
-unfolding from putIf keep every alongFrom along total member fresh eachOnce takeIn less valueOf massless gap proxy score midpoint threshold valuesAt cell listingAt unweighted entriesAt firstFailed within lengths goodCuts goodWeight numbersGood countsGood countsOne countIn massIn keptIn kept keptRows roomFor workEnough reportsExact neverFalls goodListing listingsGood bind takeWords takeThreshold nextThreshold tape at totals goesTrue better judge candidateAt step walk bestIn final drawn drawIn randomIn tryOne tryAll search child leafOf splitting splitOf withChildren searchable joins runs searchIf expand grow growAll fromRoot listing elementIn element column root treeOf rooted fit entryOf entries limitOf paramsOf frameOf grownTree treeTests treeDone treeEnds fitTree isLeaf goodEntry goodFrom goodTree treeIn startsGood treeAt treesOf goodForest onto walked leafValue reads addTrees meanOf scored addScores sumFrom dividedIf normalised scoresOf scaled treeImportanceTests treeImportances squares triedOf part frameAt frames withTree nextTree growTrees grownForest startsFrom forestEntries cutsGood roomsGood forestTests forestDone forestEnds fitForest outTrees outOfBagMean outTests outOfBagMeans add sub mul div lt le eq isNan ofInt ofBits
-run (fits C R) = fitted (fitTree stack C R)
-run (weighs by C R out) = read (treeImportances (C .shape .features) by (fitTree stack C R .rooms .nodes) out)
+unfolding from putIf keep every alongFrom along total member fresh eachOnce takeIn less valueOf massless gap proxy score midpoint thresholdBetween valuesAt cell listingAt unweighted entriesAt firstFailed within lengths goodStarts goodWeight numbersGood countsGood countsOne countIn massIn keptIn kept keptRows roomFor workEnough reportsExact neverFalls goodListing listingsGood bind takeWords takeThreshold nextThreshold tape at totalsOf goesTrue better judge candidateAt step sweep bestIn final drawn drawIn randomIn tryOne tryAll search child leafOf splitting splitOf withChildren searchable joins runs searchIf expand grow growAll fromRoot listing elementIn element column root treeOf growFrom fit entryOf entries limitOf paramsOf oneTreeOf grownTree treeTests treeDone treeEnds fitTree isLeaf goodEntry goodFrom goodTree treeIn startsGood treeAt treesOf goodForest onto walked leafValue reads addTrees meanOf scored addScores sumFrom dividedIf normalised scoresOf scaled treeImportanceTests treeImportances squares triedOf part oneTreeAt eachTree withTree nextTree growTrees grownForest startsFrom forestEntries tapesGood roomsGood forestTests forestDone forestEnds fitForest outTrees outOfBagMean outTests outOfBagMeans add sub mul div lt le eq isNan ofInt ofBits
+run (fits C R) = fitted (fitTree waitingRoom C R)
+run (weighs by C R out) = read (treeImportances (C .shape .features) by (fitTree waitingRoom C R .rooms .nodes) out)
 run (bags C R out) =
-    let F = fitForest stack C R in
+    let F = fitForest waitingRoom C R in
     bagged F (outOfBagMeans (C .shape) (C .given .inputs .values) (C .given .counts) (record { trees = C .trees; nodes = F .rooms .nodes; starts = F .rooms .starts }) out)
 
 -- ---- the table's calls
@@ -109,8 +109,8 @@ forest G =
       given = G;
       words = words;
       thresholds = [];
-      wordCuts = 0 ∷ 7 ∷ [];
-      thresholdCuts = 0 ∷ 0 ∷ [];
+      wordStarts = 0 ∷ 7 ∷ [];
+      thresholdStarts = 0 ∷ 0 ∷ [];
     }
 
 -- floats written out: an odd whole number, or 0, times a power of two
@@ -146,7 +146,7 @@ abbrev room : ℕ → Columns
 room n = record { value = nineFloats n; feature = nines n; threshold = nineFloats n; score = nineFloats n; trueChild = nines n; falseChild = nines n }
 
 -- with k, b and x at every place
-abbrev work : ℕ → Bool → Float → Work Stack
+abbrev work : ℕ → Bool → Float → Work WaitingRoom
 work k b x =
     record {
       order = replicate 4 k;
@@ -155,10 +155,10 @@ work k b x =
       waiting = record { wholes = replicate 4 (replicate 6 k); reals = replicate 4 (replicate 3 x) };
     }
 
-abbrev lent : ℕ → TreeRooms Stack
+abbrev lent : ℕ → TreeRooms WaitingRoom
 lent n = record { nodes = room n; work = work 9 true (times 9 0) }
 
-abbrev lentAll : ℕ → ForestRooms Stack
+abbrev lentAll : ℕ → ForestRooms WaitingRoom
 lentAll n =
     record {
       nodes = room n;
@@ -207,7 +207,7 @@ says n depth mass searches c =
     })
 
 -- refused, and all as it was
-abbrev no : ℕ → TreeRooms Stack → Seen
+abbrev no : ℕ → TreeRooms WaitingRoom → Seen
 no n R = fitted (record { answer = TreeAnswer.Refused n; rooms = R })
 
 abbrev results : List Float → Outcome Reply (List Float)
@@ -281,11 +281,11 @@ rehearsal = (refl, (refl, (refl, (refl, (refl, (refl, (refl, (refl, (refl, (refl
 -- ---- the corners of the threshold
 
 -- p = 1 + 2^-52, x = 1 + 2^-51: the middle rounds to x
-pub rounds-up : threshold (ofBits binary64 0x3ff0_0000_0000_0001) (ofBits binary64 0x3ff0_0000_0000_0002) ≡ ofBits binary64 0x3ff0_0000_0000_0001
-unfolding threshold midpoint add sub div lt ofBits
+pub rounds-up : thresholdBetween (ofBits binary64 0x3ff0_0000_0000_0001) (ofBits binary64 0x3ff0_0000_0000_0002) ≡ ofBits binary64 0x3ff0_0000_0000_0001
+unfolding thresholdBetween midpoint add sub div lt ofBits
 rounds-up = refl
 
 -- p = -1.7e308, x = 1.7e308: the difference is infinite
-pub wide-gap : threshold (ofBits binary64 0xffee_42d1_3077_3b76) (ofBits binary64 0x7fee_42d1_3077_3b76) ≡ ofBits binary64 0xffee_42d1_3077_3b76
-unfolding threshold midpoint add sub div lt ofBits
+pub wide-gap : thresholdBetween (ofBits binary64 0xffee_42d1_3077_3b76) (ofBits binary64 0x7fee_42d1_3077_3b76) ≡ ofBits binary64 0xffee_42d1_3077_3b76
+unfolding thresholdBetween midpoint add sub div lt ofBits
 wide-gap = refl

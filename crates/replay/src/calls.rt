@@ -143,8 +143,8 @@ pub struct Columns {
     pub feature: usize,
     pub threshold: usize,
     pub score: usize,
-    pub yes: usize,
-    pub no: usize,
+    pub truechild: usize,
+    pub falsechild: usize,
     pub end: usize,
 }
 
@@ -152,16 +152,16 @@ pub fn columns_at(call: &[usize], at: usize) -> Columns {
     let feature = after(call, at);
     let threshold = after_words(call, feature);
     let score = after(call, threshold);
-    let yes = after(call, score);
-    let no = after_words(call, yes);
-    let end = after_words(call, no);
+    let truechild = after(call, score);
+    let falsechild = after_words(call, truechild);
+    let end = after_words(call, falsechild);
     Columns {
         value: at,
         feature,
         threshold,
         score,
-        yes,
-        no,
+        truechild,
+        falsechild,
         end,
     }
 }
@@ -222,7 +222,7 @@ fn limit_of(n: usize) -> u16 {
 
 pub fn settings_of(told: &[usize]) -> Settings {
     let depth = number(told, 0);
-    numbers::tree_settings_of(TreeSettings {
+    c_types::tree_settings_of(TreeSettings {
         limited: depth < 65536,
         limit: limit_of(depth),
         leaf: word(number(told, 1)),

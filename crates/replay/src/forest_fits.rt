@@ -46,8 +46,8 @@ fn compare<'a>(
     feature: &'a [u32],
     threshold: &'a [f64],
     score: &'a [f64],
-    yes: &'a [u32],
-    no: &'a [u32],
+    truechild: &'a [u32],
+    falsechild: &'a [u32],
     starts: &'a [u32],
     nodes: &'a [u32],
     depth: &'a [u32],
@@ -71,8 +71,8 @@ fn compare<'a>(
         feature,
         threshold,
         score,
-        yes,
-        no,
+        truechild,
+        falsechild,
     );
     let e = reports(
         answer,
@@ -105,15 +105,15 @@ fn fit(
     listings: &[u32],
     words: &[u32],
     thresholds: &[f64],
-    wordcuts: &[usize],
-    thresholdcuts: &[usize],
+    wordstarts: &[usize],
+    thresholdstarts: &[usize],
 ) -> Verdict {
     let mut value = [9.0; 64];
     let mut feature = [9u32; 64];
     let mut threshold = [9.0; 64];
     let mut score = [9.0; 64];
-    let mut yes = [9u32; 64];
-    let mut no = [9u32; 64];
+    let mut truechild = [9u32; 64];
+    let mut falsechild = [9u32; 64];
     let mut starts = [9u32; 64];
     let mut nodes = [9u32; 64];
     let mut depth = [9u32; 64];
@@ -126,7 +126,7 @@ fn fit(
     let mut flags = [true; 64];
     let mut wholes = [[9u32; 6]; 64];
     let mut triples = [[9.0; 3]; 64];
-    let a = forest::fit_forest(
+    let a = forest_fit::fit_forest(
         shape,
         trees,
         settings,
@@ -138,14 +138,14 @@ fn fit(
         listings,
         words,
         thresholds,
-        wordcuts,
-        thresholdcuts,
+        wordstarts,
+        thresholdstarts,
         rooms::lent_reals(lengths, 0, &mut value),
         rooms::lent_words(lengths, 1, &mut feature),
         rooms::lent_reals(lengths, 2, &mut threshold),
         rooms::lent_reals(lengths, 3, &mut score),
-        rooms::lent_words(lengths, 4, &mut yes),
-        rooms::lent_words(lengths, 5, &mut no),
+        rooms::lent_words(lengths, 4, &mut truechild),
+        rooms::lent_words(lengths, 5, &mut falsechild),
         rooms::lent_words(lengths, 6, &mut starts),
         rooms::lent_words(lengths, 7, &mut nodes),
         rooms::lent_words(lengths, 8, &mut depth),
@@ -162,13 +162,13 @@ fn fit(
     compare(
         answer,
         lengths,
-        numbers::forest_told_of(a),
+        c_types::forest_told_of(a),
         &value,
         &feature,
         &threshold,
         &score,
-        &yes,
-        &no,
+        &truechild,
+        &falsechild,
         &starts,
         &nodes,
         &depth,
@@ -194,8 +194,8 @@ fn with_lists(
     tried: Tried,
 ) -> Verdict {
     let l = calls::lists_at(call, 8);
-    let thresholdcuts = calls::after(call, l.end);
-    let end = calls::after(call, thresholdcuts);
+    let thresholdstarts = calls::after(call, l.end);
+    let end = calls::after(call, thresholdstarts);
     let lengths = calls::rest(call, end);
     if lengths.len() != 17 {
         return Verdict::Malformed;
@@ -214,8 +214,8 @@ fn with_lists(
         calls::words(words, l.listings, l.words),
         calls::words(words, l.words, l.thresholds),
         calls::reals(reals, l.thresholds, l.end),
-        calls::entries(call, l.end, thresholdcuts),
-        calls::entries(call, thresholdcuts, end),
+        calls::entries(call, l.end, thresholdstarts),
+        calls::entries(call, thresholdstarts, end),
     )
 }
 
@@ -228,7 +228,7 @@ pub fn replay(call: &[usize], reals: &[f64], words: &[u32], answer: &[usize]) ->
     if 4294967296 < number {
         return Verdict::Malformed;
     }
-    let tried = numbers::tried_from(number < 4294967296, calls::word(number));
+    let tried = c_types::tried_from(number < 4294967296, calls::word(number));
     let shape = calls::shape_of(call);
     let settings = calls::settings_of(told);
     with_lists(call, reals, words, answer, shape, settings, tried)

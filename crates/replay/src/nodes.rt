@@ -16,8 +16,8 @@ fn told_of(t: NodeTold) -> [usize; 8]
         t.feature as usize,
         rooms::pattern(t.threshold),
         rooms::pattern(t.score),
-        t.yes as usize,
-        t.no as usize,
+        t.truechild as usize,
+        t.falsechild as usize,
     ]
 }
 
@@ -27,12 +27,21 @@ fn read(
     feature: &[u32],
     threshold: &[f64],
     score: &[f64],
-    yes: &[u32],
-    no: &[u32],
+    truechild: &[u32],
+    falsechild: &[u32],
     k: usize,
 ) -> NodeTold {
-    let r = tables::read_node(features, value, feature, threshold, score, yes, no, k);
-    numbers::node_told_of(r)
+    let r = tables::read_node(
+        features,
+        value,
+        feature,
+        threshold,
+        score,
+        truechild,
+        falsechild,
+        k,
+    );
+    c_types::node_told_of(r)
 }
 
 pub fn replay(call: &[usize], reals: &[f64], words: &[u32], answer: &[usize]) -> Verdict {
@@ -46,9 +55,9 @@ pub fn replay(call: &[usize], reals: &[f64], words: &[u32], answer: &[usize]) ->
         calls::reals(reals, c.value, c.feature),
         calls::words(words, c.feature, c.threshold),
         calls::reals(reals, c.threshold, c.score),
-        calls::reals(reals, c.score, c.yes),
-        calls::words(words, c.yes, c.no),
-        calls::words(words, c.no, c.end),
+        calls::reals(reals, c.score, c.truechild),
+        calls::words(words, c.truechild, c.falsechild),
+        calls::words(words, c.falsechild, c.end),
         asked[0],
     );
     let told = told_of(t);

@@ -57,22 +57,22 @@ fn ask(
     feature: &[u32],
     threshold: &[f64],
     score: &[f64],
-    yes: &[u32],
-    no: &[u32],
+    truechild: &[u32],
+    falsechild: &[u32],
     starts: &[u32],
     out: &mut [f64],
 ) -> Reply {
     let features = shape.features;
     match kind {
-        3 => reading::predict_tree(
+        3 => predict::predict_tree(
             shape,
             values,
             value,
             feature,
             threshold,
             score,
-            yes,
-            no,
+            truechild,
+            falsechild,
             out,
         ),
         4 => means::forest_means(
@@ -84,8 +84,8 @@ fn ask(
             feature,
             threshold,
             score,
-            yes,
-            no,
+            truechild,
+            falsechild,
             out,
         ),
         5 => means::out_of_bag_means(
@@ -98,8 +98,8 @@ fn ask(
             feature,
             threshold,
             score,
-            yes,
-            no,
+            truechild,
+            falsechild,
             out,
         ),
         6 | 7 => importances::tree_importances(
@@ -109,8 +109,8 @@ fn ask(
             feature,
             threshold,
             score,
-            yes,
-            no,
+            truechild,
+            falsechild,
             out,
         ),
         8 => importances::forest_importances(
@@ -121,12 +121,20 @@ fn ask(
             feature,
             threshold,
             score,
-            yes,
-            no,
+            truechild,
+            falsechild,
             out,
         ),
         10 => checks::listing::check_listings(shape, values, listings),
-        11 => tables::check_tree(features, value, feature, threshold, score, yes, no),
+        11 => tables::check_tree(
+            features,
+            value,
+            feature,
+            threshold,
+            score,
+            truechild,
+            falsechild,
+        ),
         _ => tables::check_forest(
             features,
             trees,
@@ -135,8 +143,8 @@ fn ask(
             feature,
             threshold,
             score,
-            yes,
-            no,
+            truechild,
+            falsechild,
         ),
     }
 }
@@ -150,7 +158,7 @@ fn lend(
     out: &mut [f64],
 ) -> Reply {
     let c = p.columns;
-    let scale = numbers::scale_of(kind == 7, calls::float(reals, p.mass));
+    let scale = c_types::scale_of(kind == 7, calls::float(reals, p.mass));
     ask(
         kind,
         calls::shape_of(call),
@@ -162,9 +170,9 @@ fn lend(
         calls::reals(reals, c.value, c.feature),
         calls::words(words, c.feature, c.threshold),
         calls::reals(reals, c.threshold, c.score),
-        calls::reals(reals, c.score, c.yes),
-        calls::words(words, c.yes, c.no),
-        calls::words(words, c.no, c.end),
+        calls::reals(reals, c.score, c.truechild),
+        calls::words(words, c.truechild, c.falsechild),
+        calls::words(words, c.falsechild, c.end),
         calls::words(words, p.starts, p.mass),
         out,
     )
@@ -172,7 +180,7 @@ fn lend(
 
 // Kinds 3 to 8 leave a room.
 fn compare(kind: usize, answer: &[usize], lengths: &[usize], r: Reply, out: &[f64]) -> Verdict {
-    let told = [numbers::number_of(r) as usize];
+    let told = [c_types::number_of(r) as usize];
     let c = rooms::first(1);
     if 8 < kind {
         return rooms::judged(answer, &told, c);
@@ -218,7 +226,7 @@ pub fn replay_error(call: &[usize], reals: &[f64], answer: &[usize]) -> Verdict 
         calls::reals(reals, p.targets, p.means),
         calls::reals(reals, p.means, p.room),
     );
-    let t = numbers::error_told_of(r);
+    let t = c_types::error_told_of(r);
     let told = [t.number as usize, rooms::pattern(t.error)];
     rooms::judged(answer, &told, rooms::first(2))
 }

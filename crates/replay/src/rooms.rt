@@ -310,15 +310,15 @@ pub fn nodes<'a>(
     feature: &'a [u32],
     threshold: &'a [f64],
     score: &'a [f64],
-    yes: &'a [u32],
-    no: &'a [u32],
+    truechild: &'a [u32],
+    falsechild: &'a [u32],
 ) -> Check {
     let d = reals(answer, lengths, c, value);
     let e = words(answer, lengths, d, feature);
     let f = reals(answer, lengths, e, threshold);
     let g = reals(answer, lengths, f, score);
-    let h = words(answer, lengths, g, yes);
-    words(answer, lengths, h, no)
+    let h = words(answer, lengths, g, truechild);
+    words(answer, lengths, h, falsechild)
 }
 
 pub fn work<'a>(

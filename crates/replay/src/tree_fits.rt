@@ -32,8 +32,8 @@ fn compare<'a>(
     feature: &'a [u32],
     threshold: &'a [f64],
     score: &'a [f64],
-    yes: &'a [u32],
-    no: &'a [u32],
+    truechild: &'a [u32],
+    falsechild: &'a [u32],
     order: &'a [u32],
     scratch: &'a [u32],
     flags: &'a [bool],
@@ -50,8 +50,8 @@ fn compare<'a>(
         feature,
         threshold,
         score,
-        yes,
-        no,
+        truechild,
+        falsechild,
     );
     let e = rooms::work(answer, lengths, d, order, scratch, flags, wholes, triples);
     rooms::judged(answer, &told, e)
@@ -76,14 +76,14 @@ fn fit(
     let mut feature = [9u32; 64];
     let mut threshold = [9.0; 64];
     let mut score = [9.0; 64];
-    let mut yes = [9u32; 64];
-    let mut no = [9u32; 64];
+    let mut truechild = [9u32; 64];
+    let mut falsechild = [9u32; 64];
     let mut order = [9u32; 64];
     let mut scratch = [9u32; 64];
     let mut flags = [true; 64];
     let mut wholes = [[9u32; 6]; 64];
     let mut triples = [[9.0; 3]; 64];
-    let a = tree::fit_tree(
+    let a = tree_fit::fit_tree(
         shape,
         settings,
         tried,
@@ -98,8 +98,8 @@ fn fit(
         rooms::lent_words(lengths, 1, &mut feature),
         rooms::lent_reals(lengths, 2, &mut threshold),
         rooms::lent_reals(lengths, 3, &mut score),
-        rooms::lent_words(lengths, 4, &mut yes),
-        rooms::lent_words(lengths, 5, &mut no),
+        rooms::lent_words(lengths, 4, &mut truechild),
+        rooms::lent_words(lengths, 5, &mut falsechild),
         rooms::lent_words(lengths, 6, &mut order),
         rooms::lent_words(lengths, 7, &mut scratch),
         rooms::lent_flags(lengths, 8, &mut flags),
@@ -109,13 +109,13 @@ fn fit(
     compare(
         answer,
         lengths,
-        numbers::tree_told_of(a),
+        c_types::tree_told_of(a),
         &value,
         &feature,
         &threshold,
         &score,
-        &yes,
-        &no,
+        &truechild,
+        &falsechild,
         &order,
         &scratch,
         &flags,

@@ -9,7 +9,7 @@ use lib.Ieee.Scale.{finite}
 use Rattle.rules.specs.declared.Shape.{Shape}
 use Rattle.rules.specs.declared.Reply.{Reply}
 use Rattle.rules.specs.Words.{nought, every, along}
-use Rattle.rules.specs.Lent.{Given, Frame, Reports, Waits, Work, unweighted, keptRows}
+use Rattle.rules.specs.Lent.{Given, OneTree, Reports, WaitingForm, Work, unweighted, keptRows}
 
 -- a test, with the number that its failing gives
 pub record Test : Type 0 where
@@ -61,8 +61,8 @@ lengths S trees G =
     && listingsLong S (G .inputs .listings))))
 
 -- the rule of a cut table over a tape of so many draws
-unfoldable pub goodCuts : ℕ → ℕ → List ℕ → Bool
-goodCuts trees tape cuts =
+unfoldable pub goodStarts : ℕ → ℕ → List ℕ → Bool
+goodStarts trees tape cuts =
     eqb (length cuts) (suc trees) && (eqb (getD cuts 0 1) 0 && (along leb cuts && eqb (getD cuts trees (suc tape)) tape))
 
 -- ---- 3
@@ -85,10 +85,10 @@ countsOne G = unweighted (G .weights) || every (λ c. eqb c 1) (G .counts)
 -- ---- 6
 
 -- the node room that a tree needs
-unfoldable pub roomFor : Frame → ℕ
+unfoldable pub roomFor : OneTree → ℕ
 roomFor F = max 1 (2 * length (keptRows F) - 1)
 
-unfoldable pub workEnough : {W : Type 0} → Waits W → Shape → Work W → Bool
+unfoldable pub workEnough : {W : Type 0} → WaitingForm W → Shape → Work W → Bool
 workEnough K S w =
     leb (S .features * S .rows) (length (w .order)) && (leb (S .rows) (length (w .scratch))
     && (leb (max (S .rows) (S .features)) (length (w .flags)) && leb (S .rows) (K .places (w .waiting))))

@@ -16,11 +16,11 @@ use Rattle.rules.specs.declared.Report.{Report}
 use Rattle.rules.specs.declared.TreeAnswer.{TreeAnswer}
 use Rattle.rules.specs.Words.{from, keep, total}
 use Rattle.rules.specs.Totals.{empty, valueOf}
-use Rattle.rules.specs.Lent.{Data, Given, Frame, Entry, Waits, TreeRooms, Outcome, valuesAt, listingAt, countIn, massIn, kept, keptRows, shortest, leafEntry, writeEntries, zeroColumns, zeroWork}
+use Rattle.rules.specs.Lent.{Data, Given, OneTree, Entry, WaitingForm, TreeRooms, Outcome, valuesAt, listingAt, countIn, massIn, kept, keptRows, shortest, leafEntry, writeEntries, zeroColumns, zeroWork}
 use Rattle.rules.specs.Checks.{Test, test, firstFailed, shapeIn, lengths, numbersGood, countsGood, roomFor, workEnough}
 use Rattle.rules.specs.Listing.{listingsGood}
 use Rattle.rules.specs.Draws.{Out, bad, ok, bind, Tapes, tape}
-use Rattle.rules.specs.Search.{Element, Column, totals, Task, search}
+use Rattle.rules.specs.Search.{Element, Column, totalsOf, NodeRows, search}
 use Rattle.rules.specs.Growth.{TreeNode, State, fromRoot}
 
 -- ---- the root
@@ -30,22 +30,22 @@ unfoldable pub elementIn : ℕ → List Float → List Float → List Float → 
 elementIn features values targets weights counts i =
     record { row = i; count = countIn counts i; mass = massIn weights counts i; target = getD targets i nan; values = valuesAt features values i }
 
-unfoldable pub element : Frame → Data → ℕ → Element
+unfoldable pub element : OneTree → Data → ℕ → Element
 element F D i = elementIn (F .params .features) (D .values) (D .targets) (F .weights) (F .counts) i
 
-unfoldable pub listing : Frame → Data → ℕ → List ℕ
+unfoldable pub listing : OneTree → Data → ℕ → List ℕ
 listing F D j = listingAt (F .rows) (D .listings) j
 
 -- feature j's column: what its listing has of kept rows
-unfoldable pub column : Frame → Data → ℕ → Column
+unfoldable pub column : OneTree → Data → ℕ → Column
 column F D j = map (element F D) (keep (kept F) (listing F D j))
 
 -- the totals take in every row, kept or not, from row 0 on
-unfoldable pub root : Frame → Data → Task
+unfoldable pub root : OneTree → Data → NodeRows
 root F D =
     record {
       columns = map (column F D) (from 0 (F .params .features));
-      totals = totals empty (map (element F D) (from 0 (F .rows)));
+      totals = totalsOf empty (map (element F D) (from 0 (F .rows)));
       count = total (countIn (F .counts)) (keptRows F);
     }
 
@@ -55,14 +55,14 @@ pub record Tree : Type 0 where
   pub nodes : List TreeNode
   pub report : Report
 
-unfoldable pub treeOf : Frame → Task → State Tapes → Tree
-treeOf F task s =
+unfoldable pub treeOf : OneTree → NodeRows → State Tapes → Tree
+treeOf F node s =
     record {
       nodes = s .nodes;
       report = record {
         nodes = length (s .nodes);
         depth = s .depth;
-        mass = task .totals .mass;
+        mass = node .totals .mass;
         searches = s .left .searches;
         words = length (F .words) - length (s .left .words);
         thresholds = length (F .thresholds) - length (s .left .thresholds);
@@ -70,13 +70,13 @@ treeOf F task s =
     }
 
 -- from its root on, a tree reads nothing of the data
-unfoldable pub rooted : Frame → Task → Out Tree
-rooted F task =
-    bind (fromRoot (F .params) (search (tape (F .params .features)) (F .params)) task (record { words = F .words; thresholds = F .thresholds; searches = 0 }))
-    (λ s. ok (treeOf F task s))
+unfoldable pub growFrom : OneTree → NodeRows → Out Tree
+growFrom F node =
+    bind (fromRoot (F .params) (search (tape (F .params .features)) (F .params)) node (record { words = F .words; thresholds = F .thresholds; searches = 0 }))
+    (λ s. ok (treeOf F node s))
 
-unfoldable pub fit : Frame → Data → Out Tree
-fit F D = rooted F (root F D)
+unfoldable pub fit : OneTree → Data → Out Tree
+fit F D = growFrom F (root F D)
 
 -- a node as it is written: a leaf's feature, threshold, score and children are 0
 unfoldable pub entryOf : Float → Kind → Entry
@@ -118,8 +118,8 @@ abbrev pub treeCall : Shape → Settings → ℕ → Given → List ℕ → List
 treeCall shape settings tried given words thresholds =
     record { shape = shape; settings = settings; tried = tried; given = given; words = words; thresholds = thresholds }
 
-unfoldable pub frameOf : TreeCall → Frame
-frameOf C =
+unfoldable pub oneTreeOf : TreeCall → OneTree
+oneTreeOf C =
     record {
       rows = C .shape .rows;
       params = paramsOf (C .settings) (C .tried) (C .shape .features);
@@ -130,9 +130,9 @@ frameOf C =
     }
 
 unfoldable pub grownTree : TreeCall → Out Tree
-grownTree C = fit (frameOf C) (C .given .inputs)
+grownTree C = fit (oneTreeOf C) (C .given .inputs)
 
-module _ {W : Type 0} (K : Waits W) where
+module _ {W : Type 0} (K : WaitingForm W) where
   -- 1 to 6, in this order
   unfoldable pub treeTests : TreeCall → TreeRooms W → List Test
   treeTests C R =
@@ -141,7 +141,7 @@ module _ {W : Type 0} (K : Waits W) where
       ∷ test 3 (numbersGood (C .given))
       ∷ test 4 (countsGood (C .given))
       ∷ test 5 (listingsGood (C .shape) (C .given .inputs .values) (C .given .inputs .listings))
-      ∷ test 6 (leb (roomFor (frameOf C)) (shortest (R .nodes)) && workEnough K (C .shape) (R .work))
+      ∷ test 6 (leb (roomFor (oneTreeOf C)) (shortest (R .nodes)) && workEnough K (C .shape) (R .work))
       ∷ []
 
   -- a bad draw leaves all rooms zero; an answer leaves the nodes, and the work room zero

@@ -12,8 +12,8 @@ use Rattle.rules.specs.declared.Tried.the-variants.{Unsaid, Number}
 use Rattle.rules.specs.declared.Place.{Place}
 use Rattle.rules.specs.declared.ForestAnswer.{ForestAnswer}
 use Rattle.rules.specs.Words.{from, stretch, front, filled, total}
-use Rattle.rules.specs.Lent.{Data, Given, Frame, Entry, Waits, ForestRooms, Outcome, shortest, writeEntries, writeReports, zeroColumns, zeroReports, zeroWork}
-use Rattle.rules.specs.Checks.{Test, test, firstFailed, treesIn, shapeIn, lengths, goodCuts, numbersGood, countsGood, countsOne, roomFor, workEnough, reportsExact}
+use Rattle.rules.specs.Lent.{Data, Given, OneTree, Entry, WaitingForm, ForestRooms, Outcome, shortest, writeEntries, writeReports, zeroColumns, zeroReports, zeroWork}
+use Rattle.rules.specs.Checks.{Test, test, firstFailed, treesIn, shapeIn, lengths, goodStarts, numbersGood, countsGood, countsOne, roomFor, workEnough, reportsExact}
 use Rattle.rules.specs.Listing.{listingsGood}
 use Rattle.rules.specs.Draws.{Out, bad, ok}
 use Rattle.rules.specs.Fit.{Tree, fit, entries, paramsOf}
@@ -26,11 +26,11 @@ pub record ForestCall : Type 0 where
   pub given : Given
   pub words : List ℕ
   pub thresholds : List Float
-  pub wordCuts : List ℕ
-  pub thresholdCuts : List ℕ
+  pub wordStarts : List ℕ
+  pub thresholdStarts : List ℕ
 
 abbrev pub forestCall : Shape → ℕ → Settings → Tried → Given → List ℕ → List Float → List ℕ → List ℕ → ForestCall
-forestCall shape trees settings tried given words thresholds wordCuts thresholdCuts =
+forestCall shape trees settings tried given words thresholds wordStarts thresholdStarts =
     record {
       shape = shape;
       trees = trees;
@@ -39,8 +39,8 @@ forestCall shape trees settings tried given words thresholds wordCuts thresholdC
       given = given;
       words = words;
       thresholds = thresholds;
-      wordCuts = wordCuts;
-      thresholdCuts = thresholdCuts;
+      wordStarts = wordStarts;
+      thresholdStarts = thresholdStarts;
     }
 
 -- how many of 1 to k have a square of at most n: for k = n, the floor of n's root
@@ -56,19 +56,19 @@ triedOf features (Number m) = m
 unfoldable pub part {ℓ} : {A : Type ℓ} → List ℕ → List A → ℕ → List A
 part cuts tape t = stretch (getD cuts t 0) (getD cuts (suc t) 0 - getD cuts t 0) tape
 
-unfoldable pub frameAt : ForestCall → ℕ → Frame
-frameAt C t =
+unfoldable pub oneTreeAt : ForestCall → ℕ → OneTree
+oneTreeAt C t =
     record {
       rows = C .shape .rows;
       params = paramsOf (C .settings) (triedOf (C .shape .features) (C .tried)) (C .shape .features);
       weights = C .given .weights;
       counts = stretch (t * C .shape .rows) (C .shape .rows) (C .given .counts);
-      words = part (C .wordCuts) (C .words) t;
-      thresholds = part (C .thresholdCuts) (C .thresholds) t;
+      words = part (C .wordStarts) (C .words) t;
+      thresholds = part (C .thresholdStarts) (C .thresholds) t;
     }
 
-unfoldable pub frames : ForestCall → List Frame
-frames C = map (frameAt C) (from 0 (C .trees))
+unfoldable pub eachTree : ForestCall → List OneTree
+eachTree C = map (oneTreeAt C) (from 0 (C .trees))
 
 -- ---- trees are grown one after another; the first bad draw ends it
 
@@ -84,12 +84,12 @@ unfoldable pub nextTree : ℕ → Out Tree → Forest → Forest
 nextTree k (bad s) rest = stopped (record { tree = k; search = s })
 nextTree k (ok t) rest = withTree t rest
 
-unfoldable pub growTrees : ℕ → List Frame → Data → Forest
+unfoldable pub growTrees : ℕ → List OneTree → Data → Forest
 growTrees k [] D = grownAll []
 growTrees k (F ∷ Fs) D = nextTree k (fit F D) (growTrees (suc k) Fs D)
 
 unfoldable pub grownForest : ForestCall → Forest
-grownForest C = growTrees 0 (frames C) (C .given .inputs)
+grownForest C = growTrees 0 (eachTree C) (C .given .inputs)
 
 -- ---- the call
 
@@ -102,10 +102,10 @@ unfoldable pub forestEntries : List Tree → List Entry
 forestEntries [] = []
 forestEntries (t ∷ ts) = entries (t .nodes) ++ forestEntries ts
 
-unfoldable pub cutsGood : ForestCall → Bool
-cutsGood C = goodCuts (C .trees) (length (C .words)) (C .wordCuts) && goodCuts (C .trees) (length (C .thresholds)) (C .thresholdCuts)
+unfoldable pub tapesGood : ForestCall → Bool
+tapesGood C = goodStarts (C .trees) (length (C .words)) (C .wordStarts) && goodStarts (C .trees) (length (C .thresholds)) (C .thresholdStarts)
 
-module _ {W : Type 0} (K : Waits W) where
+module _ {W : Type 0} (K : WaitingForm W) where
   -- all but the node room
   unfoldable pub roomsGood : ForestCall → ForestRooms W → Bool
   roomsGood C R =
@@ -115,11 +115,11 @@ module _ {W : Type 0} (K : Waits W) where
   unfoldable pub forestTests : ForestCall → ForestRooms W → List Test
   forestTests C R =
       test 1 (shapeIn (C .shape) && treesIn (C .trees))
-      ∷ test 2 (lengths (C .shape) (C .trees) (C .given) && cutsGood C)
+      ∷ test 2 (lengths (C .shape) (C .trees) (C .given) && tapesGood C)
       ∷ test 3 (numbersGood (C .given))
       ∷ test 4 (countsGood (C .given) && countsOne (C .given))
       ∷ test 5 (listingsGood (C .shape) (C .given .inputs .values) (C .given .inputs .listings))
-      ∷ test 6 (leb (total roomFor (frames C)) (shortest (R .nodes)) && roomsGood C R)
+      ∷ test 6 (leb (total roomFor (eachTree C)) (shortest (R .nodes)) && roomsGood C R)
       ∷ []
 
   -- a bad draw leaves all rooms zero; an answer leaves nodes, starts and reports, and the work room zero

@@ -12,7 +12,7 @@ use Rattle.rules.specs.declared.Kind.{Kind}
 use Rattle.rules.specs.declared.Kind.the-variants.{Leaf, Split}
 use Rattle.rules.specs.Totals.{empty, score}
 use Rattle.rules.specs.Draws.{Out, ok, bind}
-use Rattle.rules.specs.Search.{totals, tally, Task, same, sideOf, Found, uncut, cut}
+use Rattle.rules.specs.Search.{totalsOf, tally, NodeRows, onTrue, onFalse, sideOf, Found, noCut, cutFound}
 
 -- a node of a tree that grows; of its totals the value is written, and its count is for theorems
 pub record TreeNode : Type 0 where
@@ -24,18 +24,18 @@ pub record TreeNode : Type 0 where
 pub record Waiting : Type 0 where
   pub number : ℕ
   pub level : ℕ
-  pub task : Task
+  pub node : NodeRows
   pub cut : Cut
 
 -- ---- a split
 
 -- one side of a waiting node. Its totals are not taken over from the search: they are added up again along the split column
-unfoldable pub child : (Bool → Bool) → Waiting → Task
+unfoldable pub child : (Bool → Bool) → Waiting → NodeRows
 child b w =
-    let side = sideOf b (w .cut) (getD (w .task .columns) (w .cut .feature) []) in
-    record { columns = map (sideOf b (w .cut)) (w .task .columns); totals = totals empty side; count = tally side }
+    let side = sideOf b (w .cut) (getD (w .node .columns) (w .cut .feature) []) in
+    record { columns = map (sideOf b (w .cut)) (w .node .columns); totals = totalsOf empty side; count = tally side }
 
-unfoldable pub leafOf : Task → TreeNode
+unfoldable pub leafOf : NodeRows → TreeNode
 leafOf t = record { totals = t .totals; count = t .count; kind = Leaf }
 
 -- the score takes the whole node's mass afresh too; k is the true child's number
@@ -43,16 +43,16 @@ unfoldable pub splitting : Waiting → ℕ → Fork
 splitting w k =
     record {
       cut = w .cut;
-      score = score (child same w .totals) (child not w .totals) (totals empty (getD (w .task .columns) (w .cut .feature) []) .mass);
+      score = score (child onTrue w .totals) (child onFalse w .totals) (totalsOf empty (getD (w .node .columns) (w .cut .feature) []) .mass);
       children = k;
     }
 
 unfoldable pub splitOf : Waiting → ℕ → TreeNode
-splitOf w k = record { totals = w .task .totals; count = w .task .count; kind = Split (splitting w k) }
+splitOf w k = record { totals = w .node .totals; count = w .node .count; kind = Split (splitting w k) }
 
 -- two nodes more at the end, the true child before the false one
 unfoldable pub withChildren : Waiting → List TreeNode → List TreeNode
-withChildren w ns = set ns (w .number) (splitOf w (length ns)) ++ (leafOf (child same w) ∷ leafOf (child not w) ∷ [])
+withChildren w ns = set ns (w .number) (splitOf w (length ns)) ++ (leafOf (child onTrue w) ∷ leafOf (child onFalse w) ∷ [])
 
 -- ---- growth
 
@@ -63,29 +63,29 @@ pub record State (S : Type 0) : Type 0 where
   pub left : S
 
 -- whether a node is searched, by its level and count
-unfoldable pub searchable : Params → ℕ → Task → Bool
-searchable P level task = ltb level (P .limit) && leb (P .split) (task .count)
+unfoldable pub searchable : Params → ℕ → NodeRows → Bool
+searchable P level node = ltb level (P .limit) && leb (P .split) (node .count)
 
 -- who waits after a search: the node, if it has a cut now
-unfoldable pub joins : ℕ → ℕ → Task → Found → List Waiting
-joins n level task uncut = []
-joins n level task (cut c) = record { number = n; level = level; task = task; cut = c } ∷ []
+unfoldable pub joins : ℕ → ℕ → NodeRows → Found → List Waiting
+joins n level node noCut = []
+joins n level node (cutFound c) = record { number = n; level = level; node = node; cut = c } ∷ []
 
 -- one after the other, the head first
 unfoldable pub runs : {S : Type 0} → (Waiting → S → Out S) → List Waiting → S → Out S
 runs f [] s = ok s
 runs f (w ∷ ws) s = bind (f w s) (λ s′. runs f ws s′)
 
-module _ (P : Params) {S : Type 0} (choose : S → Task → Out (Found × S)) where
-  unfoldable pub searchIf : Bool → ℕ → ℕ → Task → S → Out (List Waiting × S)
-  searchIf false n level task s = ok ([], s)
-  searchIf true n level task s = bind (choose s task) (λ r. ok (joins n level task (r .0), r .1))
+module _ (P : Params) {S : Type 0} (choose : S → NodeRows → Out (Found × S)) where
+  unfoldable pub searchIf : Bool → ℕ → ℕ → NodeRows → S → Out (List Waiting × S)
+  searchIf false n level node s = ok ([], s)
+  searchIf true n level node s = bind (choose s node) (λ r. ok (joins n level node (r .0), r .1))
 
   -- one split: two nodes more, the true child searched first, and those that wait now, the last to join at the head
   unfoldable pub expand : Waiting → State S → Out (List Waiting × State S)
   expand w s =
-      bind (searchIf (searchable P (suc (w .level)) (child same w)) (length (s .nodes)) (suc (w .level)) (child same w) (s .left)) (λ t.
-      bind (searchIf (searchable P (suc (w .level)) (child not w)) (suc (length (s .nodes))) (suc (w .level)) (child not w) (t .1)) (λ f.
+      bind (searchIf (searchable P (suc (w .level)) (child onTrue w)) (length (s .nodes)) (suc (w .level)) (child onTrue w) (s .left)) (λ t.
+      bind (searchIf (searchable P (suc (w .level)) (child onFalse w)) (suc (length (s .nodes))) (suc (w .level)) (child onFalse w) (t .1)) (λ f.
       ok (f .0 ++ t .0, record { nodes = withChildren w (s .nodes); depth = max (s .depth) (suc (w .level)); left = f .1 })))
 
   -- w is split, and then all that comes of it, k levels down to the limit. No bound on the splits is asked: a child waits only below the limit.
@@ -93,12 +93,12 @@ module _ (P : Params) {S : Type 0} (choose : S → Task → Out (Found × S)) wh
   grow zero w s = ok s
   grow (suc k) w s = bind (expand w s) (λ r. runs (λ w′ s′. grow k w′ s′) (r .0) (r .1))
 
-  -- the waiting list, its head split first: a stack, as `pop` in crate laws, Stack, shows
+  -- the waiting list, its head split first: a stack, as `pop` in crate lemmas, WaitingOrder, shows
   unfoldable pub growAll : List Waiting → State S → Out (State S)
   growAll ws s = runs (λ w s′. grow (P .limit - w .level) w s′) ws s
 
   -- the root has level 1, and is searched only if something is kept
-  unfoldable pub fromRoot : Task → S → Out (State S)
+  unfoldable pub fromRoot : NodeRows → S → Out (State S)
   fromRoot root s =
       bind (searchIf (ltb 0 (root .count) && searchable P 1 root) 0 1 root s) (λ r.
       growAll (r .0) (record { nodes = leafOf root ∷ []; depth = 0; left = r .1 }))

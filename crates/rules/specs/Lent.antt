@@ -29,7 +29,7 @@ givenOf values targets weights counts listings =
     record { inputs = record { values = values; targets = targets; listings = listings }; weights = weights; counts = counts }
 
 -- what one tree grows by beside the data: its own counts and its own part of the tapes
-pub record Frame : Type 0 where
+pub record OneTree : Type 0 where
   pub rows : ℕ
   pub params : Params
   pub weights : List Float
@@ -64,10 +64,10 @@ massIn weights counts i =
 unfoldable pub keptIn : List Float → List ℕ → ℕ → Bool
 keptIn weights counts i = ltb 0 (countIn counts i) && (unweighted weights || lt nought (getD weights i nan))
 
-unfoldable pub kept : Frame → ℕ → Bool
+unfoldable pub kept : OneTree → ℕ → Bool
 kept F i = keptIn (F .weights) (F .counts) i
 
-unfoldable pub keptRows : Frame → List ℕ
+unfoldable pub keptRows : OneTree → List ℕ
 keptRows F = keep (kept F) (from 0 (F .rows))
 
 -- ---- to write
@@ -104,17 +104,17 @@ pub record Reports : Type 0 where
   pub thresholds : List ℕ
 
 -- a waiting list of any form: how many places it has, and what it is when all are zero
-pub record Waits (W : Type 0) : Type 0 where
+pub record WaitingForm (W : Type 0) : Type 0 where
   pub places : W → ℕ
   pub zeroed : W → W
 
 -- the form that is lent: six whole numbers and three floats a place, in two slices of which the shorter counts
-pub record Stack : Type 0 where
+pub record WaitingRoom : Type 0 where
   pub wholes : List (List ℕ)
   pub reals : List (List Float)
 
-abbrev pub stack : Waits Stack
-stack =
+abbrev pub waitingRoom : WaitingForm WaitingRoom
+waitingRoom =
     record {
       places = λ w. min (length (w .wholes)) (length (w .reals));
       zeroed = λ w. record { wholes = filled (replicate 6 0) (w .wholes); reals = filled (replicate 3 nought) (w .reals) };
@@ -214,7 +214,7 @@ zeroReports c =
       thresholds = filled 0 (c .thresholds);
     }
 
-abbrev pub zeroWork : {W : Type 0} → Waits W → Work W → Work W
+abbrev pub zeroWork : {W : Type 0} → WaitingForm W → Work W → Work W
 zeroWork K w =
     record {
       order = filled 0 (w .order);

@@ -60,5 +60,5 @@ nodeNumbers t =
     record {
       number = t .number;
       there = t .there;
-      entry = record { value = t .value; feature = t .feature; threshold = t .threshold; score = t .score; trueChild = t .yes; falseChild = t .no };
+      entry = record { value = t .value; feature = t .feature; threshold = t .threshold; score = t .score; trueChild = t .truechild; falseChild = t .falsechild };
     }

@@ -1,6 +1,6 @@
 -- Reading a tree table: walks, predictions, means, importances.
 use Prim.Native.Nat.{ℕ, zero, suc}
-use mathlib.Core.Bool.{Bool, true, false, _&&_, cond}
+use mathlib.Core.Bool.{Bool, true, false, not, _&&_, cond}
 use mathlib.Core.List.{List, [], _∷_, map}
 use lib.ListN.{length, getD, set, replicate}
 use lib.Dec.{eqb}
@@ -76,12 +76,12 @@ forestMeans S xs T out =
 
 -- a split's score is added to its feature's, a leaf's is not
 unfoldable pub scored : Bool → Entry → List Float → List Float
-scored true e v = v
-scored false e v = set v (e .feature) (add binary64 (getD v (e .feature) nan) (e .score))
+scored false e v = v
+scored true e v = set v (e .feature) (add binary64 (getD v (e .feature) nan) (e .score))
 
 unfoldable pub addScores : List Float → List Entry → List Float
 addScores v [] = v
-addScores v (e ∷ es) = addScores (scored (isLeaf e) e v) es
+addScores v (e ∷ es) = addScores (scored (not (isLeaf e)) e v) es
 
 unfoldable pub scoresOf : ℕ → List Entry → List Float
 scoresOf features es = addScores (replicate features nought) es

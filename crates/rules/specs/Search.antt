@@ -13,10 +13,10 @@ use Rattle.rules.specs.declared.Splitter.the-variants.{Best, Random}
 use Rattle.rules.specs.declared.Cut.{Cut}
 use Rattle.rules.specs.declared.Held.{Held}
 use Rattle.rules.specs.declared.Held.the-variants.{Nothing, Holds}
-use Rattle.rules.specs.declared.Walk.{Walk}
+use Rattle.rules.specs.declared.Sweep.{Sweep}
 use Rattle.rules.specs.Words.{keep, total}
 use Rattle.rules.specs.Totals.{empty, takeIn, less, proxy}
-use Rattle.rules.specs.Threshold.{threshold}
+use Rattle.rules.specs.Threshold.{thresholdBetween}
 use Rattle.rules.specs.Draws.{Out, ok, bind, Source}
 
 -- ---- nodes and their columns
@@ -36,16 +36,16 @@ Column = List Element
 unfoldable pub at : ℕ → Element → Float
 at j e = getD (e .values) j nan
 
-unfoldable pub totals : Totals → Column → Totals
-totals t [] = t
-totals t (e ∷ es) = totals (takeIn t (e .target) (e .mass)) es
+unfoldable pub totalsOf : Totals → Column → Totals
+totalsOf t [] = t
+totalsOf t (e ∷ es) = totalsOf (takeIn t (e .target) (e .mass)) es
 
 -- a node's count is the sum of its rows' counts
 abbrev pub tally : Column → ℕ
 tally es = total (λ (e : Element). e .count) es
 
 -- what a search is asked: the node's columns, one a feature, its totals and its count
-pub record Task : Type 0 where
+pub record NodeRows : Type 0 where
   pub columns : List Column
   pub totals : Totals
   pub count : ℕ
@@ -55,18 +55,21 @@ pub record Task : Type 0 where
 unfoldable pub goesTrue : Cut → Element → Bool
 goesTrue c e = le (at (c .feature) e) (c .threshold)
 
--- b is `same` for the true side and `not` for the false one
-abbrev pub same : Bool → Bool
-same b = b
+-- a side is told by what it makes of that answer
+abbrev pub onTrue : Bool → Bool
+onTrue b = b
+
+abbrev pub onFalse : Bool → Bool
+onFalse b = not b
 
 abbrev pub sideOf : (Bool → Bool) → Cut → Column → Column
 sideOf b c es = keep (λ e. b (goesTrue c e)) es
 
 abbrev pub trueSide : Cut → Column → Column
-trueSide c es = sideOf same c es
+trueSide c es = sideOf onTrue c es
 
 abbrev pub falseSide : Cut → Column → Column
-falseSide c es = sideOf not c es
+falseSide c es = sideOf onFalse c es
 
 -- ---- candidates
 
@@ -76,35 +79,35 @@ better Nothing c q = Holds c q
 better (Holds b p) c q = cond (lt p q) (Holds c q) (Holds b p)
 
 -- a cut whose true side has totals t and count k: both sides must have the least leaf
-unfoldable pub judge : Params → Task → Held → Totals → ℕ → Cut → Held
-judge P task h t k c =
-    cond (ltb k (P .leaf)) h (cond (ltb (task .count - k) (P .leaf)) h (better h c (proxy t (less (task .totals) t))))
+unfoldable pub judge : Params → NodeRows → Held → Totals → ℕ → Cut → Held
+judge P node h t k c =
+    cond (ltb k (P .leaf)) h (cond (ltb (node .count - k) (P .leaf)) h (better h c (proxy t (less (node .totals) t))))
 
 -- ---- the best splitter: a walk along feature j's column
 
 -- x comes next: a candidate stands where it differs from the one before
-unfoldable pub candidateAt : Bool → Params → Task → ℕ → Float → Walk → Held
-candidateAt true P task j x w = w .best
-candidateAt false P task j x w =
-    judge P task (w .best) (w .before) (w .count) (record { feature = j; threshold = threshold (w .last) x })
+unfoldable pub candidateAt : Bool → Params → NodeRows → ℕ → Float → Sweep → Held
+candidateAt false P node j x w = w .best
+candidateAt true P node j x w =
+    judge P node (w .best) (w .before) (w .count) (record { feature = j; threshold = thresholdBetween (w .last) x })
 
 -- a run of equals keeps its first value
-unfoldable pub step : Params → Task → ℕ → Walk → Element → Walk
-step P task j w e =
+unfoldable pub step : Params → NodeRows → ℕ → Sweep → Element → Sweep
+step P node j w e =
     record {
       before = takeIn (w .before) (e .target) (e .mass);
       count = w .count + e .count;
       last = cond (eq (at j e) (w .last)) (w .last) (at j e);
-      best = candidateAt (eq (at j e) (w .last)) P task j (at j e) w;
+      best = candidateAt (not (eq (at j e) (w .last))) P node j (at j e) w;
     }
 
-unfoldable pub walk : Params → Task → ℕ → Walk → Column → Walk
-walk P task j w [] = w
-walk P task j w (e ∷ es) = walk P task j (step P task j w e) es
+unfoldable pub sweep : Params → NodeRows → ℕ → Sweep → Column → Sweep
+sweep P node j w [] = w
+sweep P node j w (e ∷ es) = sweep P node j (step P node j w e) es
 
-unfoldable pub bestIn : Params → Task → ℕ → Held → Column → Held
-bestIn P task j h [] = h
-bestIn P task j h (e ∷ es) = walk P task j (record { before = empty; count = 0; last = at j e; best = h }) (e ∷ es) .best
+unfoldable pub bestIn : Params → NodeRows → ℕ → Held → Column → Held
+bestIn P node j h [] = h
+bestIn P node j h (e ∷ es) = sweep P node j (record { before = empty; count = 0; last = at j e; best = h }) (e ∷ es) .best
 
 -- ---- the random splitter: one threshold, judged by the side that it makes
 
@@ -113,10 +116,10 @@ unfoldable pub final : Element → Column → Element
 final e [] = e
 final e (f ∷ fs) = final f fs
 
-unfoldable pub drawn : Params → Task → ℕ → Held → Column → Float → Held
-drawn P task j h es t =
+unfoldable pub drawn : Params → NodeRows → ℕ → Held → Column → Float → Held
+drawn P node j h es t =
     let c : Cut = record { feature = j; threshold = t } in
-    judge P task h (totals empty (trueSide c es)) (tally (trueSide c es)) c
+    judge P node h (totalsOf empty (trueSide c es)) (tally (trueSide c es)) c
 
 -- the candidate held, and what is left to draw from
 pub record Tries (S : Type 0) : Type 0 where
@@ -125,36 +128,36 @@ pub record Tries (S : Type 0) : Type 0 where
 
 module _ {S : Type 0} (src : Source S) where
   -- a threshold is drawn only between two values that differ
-  unfoldable pub drawIn : Bool → Params → Task → ℕ → Tries S → Element → Column → Out (Tries S)
-  drawIn false P task j r e es = ok r
-  drawIn true P task j r e es =
+  unfoldable pub drawIn : Bool → Params → NodeRows → ℕ → Tries S → Element → Column → Out (Tries S)
+  drawIn false P node j r e es = ok r
+  drawIn true P node j r e es =
       bind (src .threshold (r .left) (at j e) (at j (final e es)))
-      (λ t. ok (record { best = drawn P task j (r .best) (e ∷ es) (t .0); left = t .1 }))
+      (λ t. ok (record { best = drawn P node j (r .best) (e ∷ es) (t .0); left = t .1 }))
 
-  unfoldable pub randomIn : Params → Task → ℕ → Tries S → Column → Out (Tries S)
-  randomIn P task j r [] = ok r
-  randomIn P task j r (e ∷ es) = drawIn (lt (at j e) (at j (final e es))) P task j r e es
+  unfoldable pub randomIn : Params → NodeRows → ℕ → Tries S → Column → Out (Tries S)
+  randomIn P node j r [] = ok r
+  randomIn P node j r (e ∷ es) = drawIn (lt (at j e) (at j (final e es))) P node j r e es
 
   -- ---- a search tries the first features of its order
 
-  unfoldable pub tryOne : Splitter → Params → Task → ℕ → Tries S → Out (Tries S)
-  tryOne Best P task j r = ok (record { best = bestIn P task j (r .best) (getD (task .columns) j []); left = r .left })
-  tryOne Random P task j r = randomIn P task j r (getD (task .columns) j [])
+  unfoldable pub tryOne : Splitter → Params → NodeRows → ℕ → Tries S → Out (Tries S)
+  tryOne Best P node j r = ok (record { best = bestIn P node j (r .best) (getD (node .columns) j []); left = r .left })
+  tryOne Random P node j r = randomIn P node j r (getD (node .columns) j [])
 
-  unfoldable pub tryAll : Params → Task → List ℕ → Tries S → Out (Tries S)
-  tryAll P task [] r = ok r
-  tryAll P task (j ∷ js) r = bind (tryOne (P .splitter) P task j r) (λ r′. tryAll P task js r′)
+  unfoldable pub tryAll : Params → NodeRows → List ℕ → Tries S → Out (Tries S)
+  tryAll P node [] r = ok r
+  tryAll P node (j ∷ js) r = bind (tryOne (P .splitter) P node j r) (λ r′. tryAll P node js r′)
 
 pub data Found : Type 0 where
-  uncut : Found
-  cut : Cut → Found
+  noCut : Found
+  cutFound : Cut → Found
 
 abbrev pub found : Held → Found
-found Nothing = uncut
-found (Holds c q) = cut c
+found Nothing = noCut
+found (Holds c q) = cutFound c
 
-unfoldable pub search : {S : Type 0} → Source S → Params → S → Task → Out (Found × S)
-search src P s task =
+unfoldable pub search : {S : Type 0} → Source S → Params → S → NodeRows → Out (Found × S)
+search src P s node =
     bind (src .shuffle s) (λ o.
-    bind (tryAll src P task (take (min (P .tried) (P .features)) (o .0)) (record { best = Nothing; left = o .1 })) (λ r.
+    bind (tryAll src P node (take (min (P .tried) (P .features)) (o .0)) (record { best = Nothing; left = o .1 })) (λ r.
     ok (found (r .best), src .done (r .left))))

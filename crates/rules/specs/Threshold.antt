@@ -7,5 +7,5 @@ unfoldable pub midpoint : Float → Float → Float
 midpoint p x = add binary64 p (div binary64 (sub binary64 x p) two)
 
 -- the middle, or p where rounding takes the middle up to x or beyond
-unfoldable pub threshold : Float → Float → Float
-threshold p x = cond (lt (midpoint p x) x) (midpoint p x) p
+unfoldable pub thresholdBetween : Float → Float → Float
+thresholdBetween p x = cond (lt (midpoint p x) x) (midpoint p x) p

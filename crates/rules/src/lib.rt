@@ -59,7 +59,7 @@ pub enum Held {
 }
 
 // What is carried along a column: the rows before by totals and count, the value of the run of equals, the candidate.
-pub struct Walk {
+pub struct Sweep {
     pub before: Totals,
     pub count: u32,
     pub last: f64,
@@ -199,6 +199,6 @@ pub struct NodeTold {
     pub feature: u32,
     pub threshold: f64,
     pub score: f64,
-    pub yes: u32,
-    pub no: u32,
+    pub truechild: u32,
+    pub falsechild: u32,
 }

@@ -1,7 +1,7 @@
 -- The flat tables that the code is lent, and the elements that their rows stand for. Assumes nothing.
 use Prim.Native.Nat.{ℕ, zero, suc, _+_, _-_, _*_, _<_, _≤_}
 use mathlib.Core.Path.{_≡_, refl}
-use mathlib.Core.Bool.{Bool, _||_, cond}
+use mathlib.Core.Bool.{Bool, not, _||_, cond}
 use mathlib.Core.List.{List, [], map}
 use lib.ListN.{length, getD, drop}
 use lib.Dec.{ltb}
@@ -10,14 +10,14 @@ use Rattle.rules.specs.declared.Params.{Params}
 use Rattle.rules.specs.declared.Cut.{Cut}
 use Rattle.rules.specs.declared.Held.{Held}
 use Rattle.rules.specs.declared.Held.the-variants.{Nothing, Holds}
-use Rattle.rules.specs.declared.Walk.{Walk}
-use Rattle.rules.specs.Search.{Element, Column, Task, at, candidateAt, step, tally, totals, Tries, drawn, search, Found, found}
+use Rattle.rules.specs.declared.Sweep.{Sweep}
+use Rattle.rules.specs.Search.{Element, Column, NodeRows, at, candidateAt, step, tally, totalsOf, Tries, drawn, search, Found, found}
 use Rattle.rules.specs.Totals.{takeIn}
-use Rattle.rules.specs.Threshold.{threshold}
+use Rattle.rules.specs.Threshold.{thresholdBetween}
 use Rattle.rules.specs.Words.{nought}
 use Rattle.rules.specs.Draws.{Out, bad, ok, bind, Tapes, nextThreshold, tape}
 use Rattle.rules.specs.Fit.{elementIn}
-use Rattle.laws.specs.Work.{part, columnsAt}
+use Rattle.lemmas.specs.Work.{part, columnsAt}
 use Rattle.criterion.specs.declared.Side.{Side}
 use Rattle.criterion.specs.Sides.{joined}
 use Rattle.search.specs.declared.Cell.{Cell}
@@ -26,24 +26,24 @@ use Rattle.search.specs.declared.best.Spot.{Spot}
 use Rattle.search.specs.declared.Drawn.{Drawn}
 use Rattle.search.specs.declared.Search.{Search}
 use Rattle.search.specs.declared.Search.the-variants as S
-use Rattle.search.specs.declared.Tried.{Tried}
-use Rattle.search.specs.declared.Tried.the-variants.{Refused, Goes}
+use Rattle.search.specs.declared.Attempt.{Attempt}
+use Rattle.search.specs.declared.Attempt.the-variants.{Refused, Goes}
 
 -- x lies row after row; no weights at all is an empty list
 pub record Tables : Type 0 where
-  pub x : List Float
-  pub y : List Float
+  pub values : List Float
+  pub targets : List Float
   pub weights : List Float
   pub counts : List ℕ
 
 pub record Shaped (rows features : ℕ) (t : Tables) : Type 0 where
-  pub wide : length (t .x) ≡ rows * features
-  pub targets : length (t .y) ≡ rows
+  pub wide : length (t .values) ≡ rows * features
+  pub targets : length (t .targets) ≡ rows
   pub counted : length (t .counts) ≡ rows
   pub weighed : 0 < length (t .weights) → length (t .weights) ≡ rows
 
 abbrev pub elementOf : ℕ → Tables → ℕ → Element
-elementOf f t i = elementIn f (t .x) (t .y) (t .weights) (t .counts) i
+elementOf f t i = elementIn f (t .values) (t .targets) (t .weights) (t .counts) i
 
 unfoldable pub cellOf : ℕ → Element → Cell
 cellOf j e = record { count = e .count; mass = e .mass; target = e .target; value = at j e }
@@ -53,19 +53,19 @@ abbrev pub Below : ℕ → List ℕ → Type 0
 Below n l = (k : ℕ) → k < length l → getD l k 0 < n
 
 -- a task of which only totals and count are searchable
-abbrev pub bare : Side → Task
+abbrev pub bare : Side → NodeRows
 bare a = record { columns = []; totals = a .totals; count = a .count }
 
-unfoldable pub stepIn : Params → Side → ℕ → Walk → Cell → Walk
+unfoldable pub stepIn : Params → Side → ℕ → Sweep → Cell → Sweep
 stepIn P a j w e =
     record {
       before = takeIn (w .before) (e .target) (e .mass);
       count = w .count + e .count;
       last = cond (eq (e .value) (w .last)) (w .last) (e .value);
-      best = candidateAt (eq (e .value) (w .last)) P (bare a) j (e .value) w;
+      best = candidateAt (not (eq (e .value) (w .last))) P (bare a) j (e .value) w;
     }
 
-pub step-cell : (P : Params) (a : Side) (j : ℕ) (w : Walk) (e : Element) → stepIn P a j w (cellOf j e) ≡ step P (bare a) j w e
+pub step-cell : (P : Params) (a : Side) (j : ℕ) (w : Sweep) (e : Element) → stepIn P a j w (cellOf j e) ≡ step P (bare a) j w e
 unfolding stepIn step cellOf
 step-cell P a j w e = refl
 
@@ -74,14 +74,14 @@ unfoldable pub tooFew : Params → Side → ℕ → Bool
 tooFew P a k = ltb k (P .leaf) || ltb (a .count - k) (P .leaf)
 
 abbrev pub cutBetween : ℕ → Float → Float → Cut
-cutBetween j low high = record { feature = j; threshold = threshold low high }
+cutBetween j low high = record { feature = j; threshold = thresholdBetween low high }
 
--- what s holds, by the cuts that stand at each place, and the walk that a run stands for
+-- what s holds, by the cuts that stand at each place, and the sweep that a run stands for
 unfoldable pub heldOf : (ℕ → Cut) → Spot → Held
 heldOf c s = cond (s .held) (Holds (c (s .place)) (s .proxy)) Nothing
 
-abbrev pub walkOf : (ℕ → Cut) → Run → Walk
-walkOf c r = record { before = r .before; count = r .count; last = r .last; best = heldOf c (r .spot) }
+abbrev pub sweepOf : (ℕ → Cut) → Run → Sweep
+sweepOf c r = record { before = r .before; count = r .count; last = r .last; best = heldOf c (r .spot) }
 
 abbrev pub earlierOf : Held → Cut
 earlierOf Nothing = record { feature = 0; threshold = nought }
@@ -114,26 +114,26 @@ sideStep t s e = cond (le (e .value) t) (joined s (e .target) (e .mass) (e .coun
 abbrev pub left : List ℕ → List Float → ℕ → ℕ → Tapes
 left W M s m = record { words = W; thresholds = drop m M; searches = s }
 
-abbrev pub meantTries : List ℕ → List Float → ℕ → Tried → Out (Tries Tapes)
+abbrev pub meantTries : List ℕ → List Float → ℕ → Attempt → Out (Tries Tapes)
 meantTries W M s Refused = bad s
 meantTries W M s (Goes h m) = ok (record { best = h; left = left W M s m })
 
 -- a threshold is taken and judged
-unfoldable pub drawAt : Params → Task → ℕ → Held → Column → Tapes → Float → Float → Out (Tries Tapes)
-drawAt P task j h es d lo hi = bind (nextThreshold (d .thresholds) lo hi d) (λ m. ok (record { best = drawn P task j h es (m .0); left = m .1 }))
+unfoldable pub drawAt : Params → NodeRows → ℕ → Held → Column → Tapes → Float → Float → Out (Tries Tapes)
+drawAt P node j h es d lo hi = bind (nextThreshold (d .thresholds) lo hi d) (λ m. ok (record { best = drawn P node j h es (m .0); left = m .1 }))
 
 -- ---- a node in the work columns
-abbrev pub taskAt : ℕ → ℕ → ℕ → ℕ → Tables → List ℕ → Side → Task
-taskAt rows features a e t cols q = record { columns = columnsAt (elementOf features t) rows features a e cols; totals = q .totals; count = q .count }
+abbrev pub taskAt : ℕ → ℕ → ℕ → ℕ → Tables → List ℕ → Side → NodeRows
+taskAt rows features a e t order q = record { columns = columnsAt (elementOf features t) rows features a e order; totals = q .totals; count = q .count }
 
 -- what the search of a node asks
-pub record NodeAsks (rows features a e : ℕ) (t : Tables) (cols : List ℕ) (count : ℕ) : Type 0 where
+pub record NodeAsks (rows features a e : ℕ) (t : Tables) (order : List ℕ) (count : ℕ) : Type 0 where
   pub shape : Shaped rows features t
-  pub long : length cols ≡ features * rows
-  pub order : a ≤ e
+  pub long : length order ≡ features * rows
+  pub ordered : a ≤ e
   pub high : e ≤ rows
-  pub below : (k : ℕ) → k < features → Below rows (part rows k a e cols)
-  pub room : (k : ℕ) → k < features → tally (map (elementOf features t) (part rows k a e cols)) ≤ count
+  pub below : (k : ℕ) → k < features → Below rows (part rows k a e order)
+  pub room : (k : ℕ) → k < features → tally (map (elementOf features t) (part rows k a e order)) ≤ count
 
 -- ---- the tapes from where they are used to
 abbrev pub drawsAt : List ℕ → List Float → Drawn → Tapes
@@ -151,6 +151,6 @@ abbrev pub FairAfter : List ℕ → Search → Type 0
 FairAfter W S.Refused = Unit {0}
 FairAfter W (S.Goes h d) = Fair W d
 
-pub record Searched (P : Params) (W : List ℕ) (M : List Float) (task : Task) (d : Drawn) (r : Search) : Type 0 where
-  pub same : meant W M d r ≡ search (tape (P .features)) P (drawsAt W M d) task
+pub record Searched (P : Params) (W : List ℕ) (M : List Float) (node : NodeRows) (d : Drawn) (r : Search) : Type 0 where
+  pub same : meant W M d r ≡ search (tape (P .features)) P (drawsAt W M d) node
   pub fair : FairAfter W r

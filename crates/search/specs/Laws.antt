@@ -4,7 +4,7 @@ use native.Mathlib.Nat.{mul-le-mul-right, suc-mul, add-assoc, zero-add}
 use native.Mathlib.Omega.{arith}
 use native.Mathlib.Numerals.{add-one}
 use mathlib.Core.Path.{_≡_, refl, sym, ap, _∙_}
-use mathlib.Core.Bool.{Bool, true, false, _||_, cond}
+use mathlib.Core.Bool.{Bool, true, false, not, _||_, cond}
 use mathlib.Core.List.{List, [], _∷_, map}
 use lib.ListN.{length, getD, drop, drop-of-length-le}
 use lib.Seq.{drop-cons, getD-take, getD-drop}
@@ -14,8 +14,8 @@ use Rattle.rules.specs.declared.Totals.{Totals}
 use Rattle.rules.specs.declared.Params.{Params}
 use Rattle.rules.specs.declared.Cut.{Cut}
 use Rattle.rules.specs.declared.Held.{Held}
-use Rattle.rules.specs.declared.Walk.{Walk}
-use Rattle.rules.specs.Search.{Element, Column, at, better, judge, candidateAt, walk, bestIn, tally, totals, trueSide, goesTrue}
+use Rattle.rules.specs.declared.Sweep.{Sweep}
+use Rattle.rules.specs.Search.{Element, Column, at, better, judge, candidateAt, sweep, bestIn, tally, totalsOf, trueSide, goesTrue}
 use Rattle.rules.specs.Words.{total, keep, putIf}
 use Rattle.rules.specs.Totals.{takeIn, less, proxy, empty}
 use Rattle.rules.specs.Lent.{valuesAt, countIn, massIn}
@@ -40,27 +40,27 @@ module _ (P : Params) (a : Side) (h : Held) (t : Totals) (k : ℕ) (c : Cut) whe
   pub judge-goes : {b : Bool} {q : Float} {r : Held} → b ≡ tooFew P a k → b ≡ false → q ≡ proxy t (less (a .totals) t) → r ≡ better h c q → r ≡ judge P (bare a) h t k c
   judge-goes e d eq′ er = er ∙ ap (better h c) eq′ ∙ sym (judge-by false (sym e ∙ d))
 
-pub step-same : (P : Params) (a : Side) (j : ℕ) (w : Walk) (e : Cell) {g : Held} {b : Totals} → g ≡ w .best → b ≡ takeIn (w .before) (e .target) (e .mass) → eq (e .value) (w .last) ≡ true
-    → _≡_ {A = Walk} (record { before = b; count = w .count + e .count; last = w .last; best = g }) (stepIn P a j w e)
+pub step-same : (P : Params) (a : Side) (j : ℕ) (w : Sweep) (e : Cell) {g : Held} {b : Totals} → g ≡ w .best → b ≡ takeIn (w .before) (e .target) (e .mass) → eq (e .value) (w .last) ≡ true
+    → _≡_ {A = Sweep} (record { before = b; count = w .count + e .count; last = w .last; best = g }) (stepIn P a j w e)
 unfolding stepIn candidateAt
 step-same P a j w e eg eb t = λ i.
     record {
       before = eb i;
       count = w .count + e .count;
       last = sym (ap (λ z. cond z (w .last) (e .value)) t) i;
-      best = (eg ∙ sym (ap (λ z. candidateAt z P (bare a) j (e .value) w) t)) i;
+      best = (eg ∙ sym (ap (λ z. candidateAt (not z) P (bare a) j (e .value) w) t)) i;
     }
 
-pub step-new : (P : Params) (a : Side) (j : ℕ) (w : Walk) (e : Cell) {g : Held} {b : Totals} {h : Held} → g ≡ w .best → b ≡ takeIn (w .before) (e .target) (e .mass) → eq (e .value) (w .last) ≡ false
+pub step-new : (P : Params) (a : Side) (j : ℕ) (w : Sweep) (e : Cell) {g : Held} {b : Totals} {h : Held} → g ≡ w .best → b ≡ takeIn (w .before) (e .target) (e .mass) → eq (e .value) (w .last) ≡ false
     → h ≡ judge P (bare a) g (w .before) (w .count) (cutBetween j (w .last) (e .value))
-    → _≡_ {A = Walk} (record { before = b; count = w .count + e .count; last = e .value; best = h }) (stepIn P a j w e)
+    → _≡_ {A = Sweep} (record { before = b; count = w .count + e .count; last = e .value; best = h }) (stepIn P a j w e)
 unfolding stepIn candidateAt
 step-new P a j w e eg eb n eh = λ i.
     record {
       before = eb i;
       count = w .count + e .count;
       last = sym (ap (λ z. cond z (w .last) (e .value)) n) i;
-      best = (eh ∙ ap (λ z. judge P (bare a) z (w .before) (w .count) (cutBetween j (w .last) (e .value))) eg ∙ sym (ap (λ z. candidateAt z P (bare a) j (e .value) w) n)) i;
+      best = (eh ∙ ap (λ z. judge P (bare a) z (w .before) (w .count) (cutBetween j (w .last) (e .value))) eg ∙ sym (ap (λ z. candidateAt (not z) P (bare a) j (e .value) w) n)) i;
     }
 
 pub place : (r n f j : ℕ) {l : ℕ} → r < n → l ≡ n * f → j < f → r * f + j < l
@@ -68,15 +68,15 @@ place r n f j hr hl hj =
     let h : suc r * f ≤ n * f = mul-le-mul-right f hr in
     omega (arith, h, hl, suc-mul r f)
 
-pub cell-is : (f : ℕ) (t : Tables) (j i : ℕ) {m v : Float} → j < f → m ≡ massIn (t .weights) (t .counts) i → v ≡ getD (t .x) (i * f + j) nan
-    → _≡_ {A = Cell} (record { count = getD (t .counts) i 0; mass = m; target = getD (t .y) i nan; value = v }) (cellOf j (elementOf f t i))
+pub cell-is : (f : ℕ) (t : Tables) (j i : ℕ) {m v : Float} → j < f → m ≡ massIn (t .weights) (t .counts) i → v ≡ getD (t .values) (i * f + j) nan
+    → _≡_ {A = Cell} (record { count = getD (t .counts) i 0; mass = m; target = getD (t .targets) i nan; value = v }) (cellOf j (elementOf f t i))
 unfolding cellOf elementIn valuesAt countIn at
 cell-is f t j i {m} {v} h em ev = λ k.
     record {
       count = getD (t .counts) i 0;
       mass = em k;
-      target = getD (t .y) i nan;
-      value = (ev ∙ sym (getD-take f (drop (i * f) (t .x)) j nan h ∙ getD-drop (i * f) (t .x) j nan)) k;
+      target = getD (t .targets) i nan;
+      value = (ev ∙ sym (getD-take f (drop (i * f) (t .values)) j nan h ∙ getD-drop (i * f) (t .values) j nan)) k;
     }
 
 -- a cell that was read at numbers that are equal to these
@@ -89,37 +89,37 @@ module _ (el : ℕ → Element) (l : List ℕ) (i : ℕ) (h : i < length l) wher
   pub ahead : map el (drop i l) ≡ el (getD l i 0) ∷ map el (drop (i + 1) l)
   ahead = ap (map el) (drop-cons l i 0 h) ∙ ap (λ k. el (getD l i 0) ∷ map el (drop k l)) (sym (add-one i))
 
-  pub turn-walk : (P : Params) (a : Side) (j : ℕ) (v : Walk) {e : Cell} {v′ : Walk} → e ≡ cellOf j (el (getD l i 0)) → v′ ≡ stepIn P a j v e
-      → walk P (bare a) j v′ (map el (drop (i + 1) l)) ≡ walk P (bare a) j v (map el (drop i l))
-  unfolding walk
-  turn-walk P a j v ee ev =
-      ap (λ u. walk P (bare a) j u (map el (drop (i + 1) l))) (ev ∙ ap (stepIn P a j v) ee ∙ step-cell P a j v (el (getD l i 0))) ∙ sym (ap (walk P (bare a) j v) ahead)
+  pub turn-sweep : (P : Params) (a : Side) (j : ℕ) (v : Sweep) {e : Cell} {v′ : Sweep} → e ≡ cellOf j (el (getD l i 0)) → v′ ≡ stepIn P a j v e
+      → sweep P (bare a) j v′ (map el (drop (i + 1) l)) ≡ sweep P (bare a) j v (map el (drop i l))
+  unfolding sweep
+  turn-sweep P a j v ee ev =
+      ap (λ u. sweep P (bare a) j u (map el (drop (i + 1) l))) (ev ∙ ap (stepIn P a j v) ee ∙ step-cell P a j v (el (getD l i 0))) ∙ sym (ap (sweep P (bare a) j v) ahead)
 
   pub turn-fits : (j c n : ℕ) {e : Cell} → e ≡ cellOf j (el (getD l i 0)) → c + tally (map el (drop i l)) ≤ n → c + e .count ≤ n
   unfolding total cellOf
   turn-fits j c n {e} ee b = omega (arith, b, ap tally ahead, ap (λ (x : Cell). x .count) ee)
 
-  pub turn-room : (P : Params) (a : Side) (j : ℕ) (v : Walk) (n : ℕ) {e : Cell} {v′ : Walk} → e ≡ cellOf j (el (getD l i 0)) → v′ ≡ stepIn P a j v e
+  pub turn-room : (P : Params) (a : Side) (j : ℕ) (v : Sweep) (n : ℕ) {e : Cell} {v′ : Sweep} → e ≡ cellOf j (el (getD l i 0)) → v′ ≡ stepIn P a j v e
       → v .count + tally (map el (drop i l)) ≤ n → v′ .count + tally (map el (drop (i + 1) l)) ≤ n
   unfolding total cellOf stepIn
-  turn-room P a j v n {e} {v′} ee ev b = omega (arith, b, ap tally ahead, ap (λ (x : Cell). x .count) ee, ap (λ (x : Walk). x .count) ev)
+  turn-room P a j v n {e} {v′} ee ev b = omega (arith, b, ap tally ahead, ap (λ (x : Cell). x .count) ee, ap (λ (x : Sweep). x .count) ev)
 
-pub turn-end : (el : ℕ → Element) (l : List ℕ) (i : ℕ) → length l ≤ i → (P : Params) (a : Side) (j : ℕ) (v : Walk) → walk P (bare a) j v (map el (drop i l)) ≡ v
-unfolding walk
-turn-end el l i h P a j v = ap (λ r. walk P (bare a) j v (map el r)) (drop-of-length-le l h)
+pub turn-end : (el : ℕ → Element) (l : List ℕ) (i : ℕ) → length l ≤ i → (P : Params) (a : Side) (j : ℕ) (v : Sweep) → sweep P (bare a) j v (map el (drop i l)) ≡ v
+unfolding sweep
+turn-end el l i h P a j v = ap (λ r. sweep P (bare a) j v (map el r)) (drop-of-length-le l h)
 
 -- ---- the true side, gathered row by row onto what stands
 
 abbrev pub onto : Cut → Side → Column → Side
-onto c s es = record { totals = totals (s .totals) (trueSide c es); count = s .count + tally (trueSide c es) }
+onto c s es = record { totals = totalsOf (s .totals) (trueSide c es); count = s .count + tally (trueSide c es) }
 
 onto-step : (c : Cut) (s : Side) (e : Element) (es : Column) → onto c (sideStep (c .threshold) s (cellOf (c .feature) e)) es ≡ onto c s (e ∷ es)
-unfolding sideStep cellOf keep goesTrue joined total totals putIf
+unfolding sideStep cellOf keep goesTrue joined total totalsOf putIf
 onto-step c s e es = go (le (at (c .feature) e) (c .threshold))
   where
     go : (b : Bool) → onto c (cond b (joined s (e .target) (e .mass) (e .count)) s) es
-        ≡ record { totals = totals (s .totals) (putIf b e (trueSide c es)); count = s .count + tally (putIf b e (trueSide c es)) }
-    go true = λ i. record { totals = totals (takeIn (s .totals) (e .target) (e .mass)) (trueSide c es); count = add-assoc (s .count) (e .count) (tally (trueSide c es)) i }
+        ≡ record { totals = totalsOf (s .totals) (putIf b e (trueSide c es)); count = s .count + tally (putIf b e (trueSide c es)) }
+    go true = λ i. record { totals = totalsOf (takeIn (s .totals) (e .target) (e .mass)) (trueSide c es); count = add-assoc (s .count) (e .count) (tally (trueSide c es)) i }
     go false = refl
 
 side-most : (t : Float) (s : Side) (e : Cell) → sideStep t s e .count ≤ s .count + e .count
@@ -145,33 +145,33 @@ module _ (el : ℕ → Element) (l : List ℕ) (i : ℕ) (h : i < length l) wher
 
 pub side-end : (el : ℕ → Element) (l : List ℕ) (i : ℕ) → length l ≤ i → (c : Cut) (s : Side) → onto c s (map el (drop i l)) ≡ onto c (record { totals = empty; count = 0 }) (map el l)
     → s ≡ sideOn (trueSide c (map el l))
-unfolding keep totals total
+unfolding keep totalsOf total
 side-end el l i h c s e =
     (λ k. record { totals = s .totals; count = sym (add-zero′ (s .count)) k })
     ∙ sym (ap (λ r. onto c s (map el r)) (drop-of-length-le l h)) ∙ e
-    ∙ (λ k. record { totals = totals empty (trueSide c (map el l)); count = zero-add (tally (trueSide c (map el l))) k })
+    ∙ (λ k. record { totals = totalsOf empty (trueSide c (map el l)); count = zero-add (tally (trueSide c (map el l))) k })
   where
     add-zero′ : (n : ℕ) → n + 0 ≡ n
     add-zero′ n = omega arith
 
 -- ---- the first of a column
 
-pub value-is : (f : ℕ) (t : Tables) (j i : ℕ) {v : Float} {j′ i′ : ℕ} → j < f → v ≡ getD (t .x) (i′ * f + j′) nan → j′ ≡ j → i′ ≡ i → v ≡ at j (elementOf f t i)
+pub value-is : (f : ℕ) (t : Tables) (j i : ℕ) {v : Float} {j′ i′ : ℕ} → j < f → v ≡ getD (t .values) (i′ * f + j′) nan → j′ ≡ j → i′ ≡ i → v ≡ at j (elementOf f t i)
 unfolding at elementIn valuesAt
 value-is f t j i {v} {j′} {i′} h ev ej ei =
-    ev ∙ ap (λ n. getD (t .x) (n * f + j′) nan) ei ∙ ap (λ n. getD (t .x) (i * f + n) nan) ej
-    ∙ sym (getD-take f (drop (i * f) (t .x)) j nan h ∙ getD-drop (i * f) (t .x) j nan)
+    ev ∙ ap (λ n. getD (t .values) (n * f + j′) nan) ei ∙ ap (λ n. getD (t .values) (i * f + n) nan) ej
+    ∙ sym (getD-take f (drop (i * f) (t .values)) j nan h ∙ getD-drop (i * f) (t .values) j nan)
 
 pub best-none : (el : ℕ → Element) (l : List ℕ) → length l ≡ 0 → (P : Params) (a : Side) (j : ℕ) (h : Held) → h ≡ bestIn P (bare a) j h (map el l)
 unfolding bestIn
 best-none el [] e P a j h = refl
 best-none el (x ∷ l) e P a j h = absurd (omega arith)
 
-pub best-walk : (el : ℕ → Element) (l : List ℕ) → (length l ≡ 0 → ⊥) → (P : Params) (a : Side) (j : ℕ) (h : Held) {first : Float} {g : Held} {v : Walk} → first ≡ at j (el (getD l 0 0)) → g ≡ h
-    → v ≡ walk P (bare a) j (record { before = empty; count = 0; last = first; best = g }) (map el l) → v .best ≡ bestIn P (bare a) j h (map el l)
+pub best-sweep : (el : ℕ → Element) (l : List ℕ) → (length l ≡ 0 → ⊥) → (P : Params) (a : Side) (j : ℕ) (h : Held) {first : Float} {g : Held} {v : Sweep} → first ≡ at j (el (getD l 0 0)) → g ≡ h
+    → v ≡ sweep P (bare a) j (record { before = empty; count = 0; last = first; best = g }) (map el l) → v .best ≡ bestIn P (bare a) j h (map el l)
 unfolding bestIn
-best-walk el [] n P a j h ef eg ev = absurd (n refl)
-best-walk el (x ∷ l) n P a j h {first} ef eg ev =
+best-sweep el [] n P a j h ef eg ev = absurd (n refl)
+best-sweep el (x ∷ l) n P a j h {first} ef eg ev =
     ap (λ w. w .best)
-    (ev ∙ ap (λ z. walk P (bare a) j (record { before = empty; count = 0; last = first; best = z }) (map el (x ∷ l))) eg
-    ∙ ap (λ z. walk P (bare a) j (record { before = empty; count = 0; last = z; best = h }) (map el (x ∷ l))) ef)
+    (ev ∙ ap (λ z. sweep P (bare a) j (record { before = empty; count = 0; last = first; best = z }) (map el (x ∷ l))) eg
+    ∙ ap (λ z. sweep P (bare a) j (record { before = empty; count = 0; last = z; best = h }) (map el (x ∷ l))) ef)

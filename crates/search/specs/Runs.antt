@@ -13,7 +13,7 @@ use Rattle.rules.specs.declared.Cut.{Cut}
 use Rattle.rules.specs.declared.Held.{Held}
 use Rattle.rules.specs.declared.Held.the-variants.{Nothing, Holds}
 use Rattle.rules.specs.Search.{better}
-use Rattle.rules.specs.Threshold.{threshold}
+use Rattle.rules.specs.Threshold.{thresholdBetween}
 use Rattle.rules.specs.Words.{nought}
 use Rattle.search.specs.declared.best.Spot.{Spot}
 use Rattle.search.specs.declared.Cell.{Cell}
@@ -52,16 +52,16 @@ unfolding cutsIn
 cut-next f x j l b i = ap (cutsIn f x j l b) (add-one i)
 
 -- one turn at place i
-module _ (f : ℕ) (t : Tables) (j : ℕ) (l : List ℕ) (i : ℕ) (h : j < f) {e : Cell} (ee : e ≡ cellOf j (elementOf f t (getD l i 0))) {z : Float} (ez : z ≡ runAt (valueIn f (t .x) j) l i) where
-  turn-value : e .value ≡ valueIn f (t .x) j (getD l i 0)
+module _ (f : ℕ) (t : Tables) (j : ℕ) (l : List ℕ) (i : ℕ) (h : j < f) {e : Cell} (ee : e ≡ cellOf j (elementOf f t (getD l i 0))) {z : Float} (ez : z ≡ runAt (valueIn f (t .values) j) l i) where
+  turn-value : e .value ≡ valueIn f (t .values) j (getD l i 0)
   unfolding cellOf
   turn-value = ap (λ (d : Cell). d .value) ee ∙ sym (value-is f t j (getD l i 0) h refl refl refl)
 
-  pub turn-cut : (b : Cut) → cutsIn f (t .x) j l b (i + 1) ≡ cutBetween j z (e .value)
-  turn-cut b = cut-next f (t .x) j l b i ∙ sym (λ k. cutBetween j (ez k) (turn-value k))
+  pub turn-cut : (b : Cut) → cutsIn f (t .values) j l b (i + 1) ≡ cutBetween j z (e .value)
+  turn-cut b = cut-next f (t .values) j l b i ∙ sym (λ k. cutBetween j (ez k) (turn-value k))
 
-  pub turn-run : {u : Float} → u ≡ cond (eq (e .value) z) z (e .value) → u ≡ runAt (valueIn f (t .x) j) l (i + 1)
-  turn-run eu = eu ∙ (λ k. cond (eq (turn-value k) (ez k)) (ez k) (turn-value k)) ∙ sym (run-next (valueIn f (t .x) j) l i)
+  pub turn-run : {u : Float} → u ≡ cond (eq (e .value) z) z (e .value) → u ≡ runAt (valueIn f (t .values) j) l (i + 1)
+  turn-run eu = eu ∙ (λ k. cond (eq (turn-value k) (ez k)) (ez k) (turn-value k)) ∙ sym (run-next (valueIn f (t .values) j) l i)
 
 -- ---- a candidate against what is held
 
@@ -86,7 +86,7 @@ pub place-most : (b : Bool) (n m : ℕ) {k : ℕ} → k ≡ cond b n m → m ≤
 place-most true n m e h = omega (arith, e)
 place-most false n m e h = omega (arith, e, h)
 
--- ---- what is held once the column is walked
+-- ---- what is held once the column is swept
 
 module _ (f : ℕ) (x : List Float) (j : ℕ) (l : List ℕ) (b : Cut) (s : Spot) where
   held-at : s .held ≡ true → {n : ℕ} → s .place ≡ n → Holds (cutsIn f x j l b n) (s .proxy) ≡ heldOf (cutsIn f x j l b) s
@@ -98,7 +98,7 @@ module _ (f : ℕ) (x : List Float) (j : ℕ) (l : List ℕ) (b : Cut) (s : Spot
   held-earlier h e = held-at h e
 
   pub held-here : s .held ≡ true → (s .place ≡ 0 → ⊥) → {low high t : Float} → low ≡ runAt (valueIn f x j) l (s .place - 1) → high ≡ valueIn f x j (getD l (s .place - 1) 0)
-      → t ≡ threshold low high → Holds (record { feature = j; threshold = t }) (s .proxy) ≡ heldOf (cutsIn f x j l b) s
+      → t ≡ thresholdBetween low high → Holds (record { feature = j; threshold = t }) (s .proxy) ≡ heldOf (cutsIn f x j l b) s
   unfolding cutsIn
   held-here h n el eh et =
-      ap (λ z. Holds (record { feature = j; threshold = z }) (s .proxy)) (et ∙ (λ k. threshold (el k) (eh k))) ∙ held-at h (let q : s .place ≡ suc (s .place - 1) = omega (arith, n) in q)
+      ap (λ z. Holds (record { feature = j; threshold = z }) (s .proxy)) (et ∙ (λ k. thresholdBetween (el k) (eh k))) ∙ held-at h (let q : s .place ≡ suc (s .place - 1) = omega (arith, n) in q)

@@ -14,8 +14,8 @@ use lib.Ieee.{Float, nan, lt, le, eq}
 use Rattle.rules.specs.declared.Params.{Params}
 use Rattle.rules.specs.declared.Held.{Held}
 use Rattle.rules.specs.declared.Held.the-variants.{Nothing}
-use Rattle.rules.specs.declared.Walk.{Walk}
-use Rattle.rules.specs.Search.{Element, Column, Task, at, judge, candidateAt, step, walk, bestIn, totals, trueSide, Tries, drawn, drawIn, randomIn, tryOne, tryAll, final, search, found, Found}
+use Rattle.rules.specs.declared.Sweep.{Sweep}
+use Rattle.rules.specs.Search.{Element, Column, NodeRows, at, judge, candidateAt, step, sweep, bestIn, totalsOf, trueSide, Tries, drawn, drawIn, randomIn, tryOne, tryAll, final, search, found, Found}
 use Rattle.rules.specs.Words.{member, fresh, eachOnce}
 use Rattle.rules.specs.Totals.{takeIn, empty}
 use Rattle.rules.specs.Draws.{Out, bad, ok, bind, Tapes, tape, nextThreshold, takeThreshold, takeWords}
@@ -25,12 +25,12 @@ use Rattle.search.specs.Flat.{Tables, elementOf, bare, left, meantTries,
 use Rattle.search.specs.declared.Drawn.{Drawn}
 use Rattle.search.specs.declared.Search.the-variants as S
 use lib.Seq.{take-take, drop-drop}
-use Rattle.search.specs.declared.Tried.{Tried}
-use Rattle.search.specs.declared.Tried.the-variants.{Refused, Goes}
-use Rattle.laws.specs.Lists.{getD-from}
+use Rattle.search.specs.declared.Attempt.{Attempt}
+use Rattle.search.specs.declared.Attempt.the-variants.{Refused, Goes}
+use Rattle.lemmas.specs.Lists.{getD-from}
 use Rattle.rules.specs.declared.Splitter.{Splitter}
 use Rattle.rules.specs.declared.Splitter.the-variants.{Best, Random}
-use Rattle.laws.specs.Work.{part, columnsAt}
+use Rattle.lemmas.specs.Work.{part, columnsAt}
 
 -- ---- a threshold off the tape
 
@@ -73,10 +73,10 @@ unfolding final
 final-at el x [] = refl
 final-at el x (y ∷ l) = final-at el y l
 
-pub random-none : (el : ℕ → Element) (l : List ℕ) → length l ≡ 0 → (P : Params) (task : Task) (j : ℕ) (r : Tries Tapes) → ok r ≡ randomIn (tape (P .features)) P task j r (map el l)
+pub random-none : (el : ℕ → Element) (l : List ℕ) → length l ≡ 0 → (P : Params) (node : NodeRows) (j : ℕ) (r : Tries Tapes) → ok r ≡ randomIn (tape (P .features)) P node j r (map el l)
 unfolding randomIn
-random-none el [] e P task j r = refl
-random-none el (x ∷ l) e P task j r = absurd (omega arith)
+random-none el [] e P node j r = refl
+random-none el (x ∷ l) e P node j r = absurd (omega arith)
 
 module _ (el : ℕ → Element) (P : Params) (a : Side) (j : ℕ) (h : Held) (W : List ℕ) (M : List Float) (s m : ℕ) where
   random-by : (l : List ℕ) → (length l ≡ 0 → ⊥) → (lo hi : Float) → lo ≡ at j (el (getD l 0 0)) → hi ≡ at j (el (getD l (length l - 1) 0)) → (b : Bool) → lt lo hi ≡ b → (q : Out (Tries Tapes))
@@ -110,26 +110,26 @@ module _ (el : ℕ → Element) (P : Params) (a : Side) (j : ℕ) (h : Held) (W 
 -- ---- of a task only the totals and the count are searchable
 
 module _ (P : Params) (a : Side) (C : List Column) (j : ℕ) where
-  abbrev full : Task
+  abbrev full : NodeRows
   full = record { columns = C; totals = a .totals; count = a .count }
 
-  run-bare : (b : Bool) (x : Float) (w : Walk) → candidateAt b P (bare a) j x w ≡ candidateAt b P full j x w
+  run-bare : (b : Bool) (x : Float) (w : Sweep) → candidateAt b P (bare a) j x w ≡ candidateAt b P full j x w
   unfolding candidateAt judge
   run-bare true x w = refl
   run-bare false x w = refl
 
-  walk-bare : (w : Walk) (es : Column) → walk P (bare a) j w es ≡ walk P full j w es
-  unfolding walk step
-  walk-bare w [] = refl
-  walk-bare w (e ∷ es) =
-      ap (λ z. walk P (bare a) j (record { before = takeIn (w .before) (e .target) (e .mass); count = w .count + e .count; last = cond (eq (at j e) (w .last)) (w .last) (at j e); best = z }) es)
-      (run-bare (eq (at j e) (w .last)) (at j e) w)
-      ∙ walk-bare (step P full j w e) es
+  sweep-bare : (w : Sweep) (es : Column) → sweep P (bare a) j w es ≡ sweep P full j w es
+  unfolding sweep step
+  sweep-bare w [] = refl
+  sweep-bare w (e ∷ es) =
+      ap (λ z. sweep P (bare a) j (record { before = takeIn (w .before) (e .target) (e .mass); count = w .count + e .count; last = cond (eq (at j e) (w .last)) (w .last) (at j e); best = z }) es)
+      (run-bare (not (eq (at j e) (w .last))) (at j e) w)
+      ∙ sweep-bare (step P full j w e) es
 
   best-bare : (h : Held) (es : Column) → bestIn P (bare a) j h es ≡ bestIn P full j h es
   unfolding bestIn
   best-bare h [] = refl
-  best-bare h (e ∷ es) = ap (λ (w : Walk). w .best) (walk-bare (record { before = empty; count = 0; last = at j e; best = h }) (e ∷ es))
+  best-bare h (e ∷ es) = ap (λ (w : Sweep). w .best) (sweep-bare (record { before = empty; count = 0; last = at j e; best = h }) (e ∷ es))
 
   draw-bare : (r : Tries Tapes) (e : Element) (es : Column) (b : Bool) → drawIn (tape (P .features)) b P (bare a) j r e es ≡ drawIn (tape (P .features)) b P full j r e es
   unfolding drawIn drawn judge
@@ -146,33 +146,33 @@ module _ (P : Params) (a : Side) (C : List Column) (j : ℕ) where
 
 -- ---- one feature
 
-pub part-is : (rows : ℕ) (cols : List ℕ) (a e k : ℕ) {k′ : ℕ} → k′ ≡ k → a ≤ e → take (k′ * rows + e - (k′ * rows + a)) (drop (k′ * rows + a) cols) ≡ part rows k a e cols
-part-is rows cols a e k {k′} q h = ap (λ n. take n (drop (k′ * rows + a) cols)) (width (k′ * rows)) ∙ ap (λ n. take (e - a) (drop (n * rows + a) cols)) q
+pub part-is : (rows : ℕ) (order : List ℕ) (a e k : ℕ) {k′ : ℕ} → k′ ≡ k → a ≤ e → take (k′ * rows + e - (k′ * rows + a)) (drop (k′ * rows + a) order) ≡ part rows k a e order
+part-is rows order a e k {k′} q h = ap (λ n. take n (drop (k′ * rows + a) order)) (width (k′ * rows)) ∙ ap (λ n. take (e - a) (drop (n * rows + a) order)) q
   where
     width : (b : ℕ) → b + e - (b + a) ≡ e - a
     width b = omega arith
 
-module _ (rows features from′ to : ℕ) (t : Tables) (cols : List ℕ) (a : Side) (P : Params) (j : ℕ) (hj : j < features) where
-  pub column-of : part rows j from′ to cols ≡ part rows j from′ to cols → map (elementOf features t) (part rows j from′ to cols) ≡ getD (columnsAt (elementOf features t) rows features from′ to cols) j []
+module _ (rows features from′ to : ℕ) (t : Tables) (order : List ℕ) (a : Side) (P : Params) (j : ℕ) (hj : j < features) where
+  pub column-of : part rows j from′ to order ≡ part rows j from′ to order → map (elementOf features t) (part rows j from′ to order) ≡ getD (columnsAt (elementOf features t) rows features from′ to order) j []
   unfolding columnsAt
-  column-of _ = sym (getD-from (λ k. map (elementOf features t) (part rows k from′ to cols)) 0 features j [] hj ∙ ap (λ k. map (elementOf features t) (part rows k from′ to cols)) (zero-add j))
+  column-of _ = sym (getD-from (λ k. map (elementOf features t) (part rows k from′ to order)) 0 features j [] hj ∙ ap (λ k. map (elementOf features t) (part rows k from′ to order)) (zero-add j))
 
-  pub try-best : (h : Held) (d : Tapes) {l : List ℕ} {b : Held} → l ≡ part rows j from′ to cols → b ≡ bestIn P (bare a) j h (map (elementOf features t) l)
-      → {k : Splitter} → k ≡ Best → ok (record { best = b; left = d }) ≡ tryOne (tape (P .features)) k P (taskAt rows features from′ to t cols a) j (record { best = h; left = d })
+  pub try-best : (h : Held) (d : Tapes) {l : List ℕ} {b : Held} → l ≡ part rows j from′ to order → b ≡ bestIn P (bare a) j h (map (elementOf features t) l)
+      → {k : Splitter} → k ≡ Best → ok (record { best = b; left = d }) ≡ tryOne (tape (P .features)) k P (taskAt rows features from′ to t order a) j (record { best = h; left = d })
   unfolding tryOne
   try-best h d {l} {b} el eb {k} ek =
       ap (λ z. ok (record { best = z; left = d }))
       (eb ∙ ap (λ z. bestIn P (bare a) j h (map (elementOf features t) z)) el ∙ ap (bestIn P (bare a) j h) (column-of refl)
-      ∙ best-bare P a (columnsAt (elementOf features t) rows features from′ to cols) j h (getD (columnsAt (elementOf features t) rows features from′ to cols) j []))
-      ∙ ap (λ z. tryOne (tape (P .features)) z P (taskAt rows features from′ to t cols a) j (record { best = h; left = d })) (sym ek)
+      ∙ best-bare P a (columnsAt (elementOf features t) rows features from′ to order) j h (getD (columnsAt (elementOf features t) rows features from′ to order) j []))
+      ∙ ap (λ z. tryOne (tape (P .features)) z P (taskAt rows features from′ to t order a) j (record { best = h; left = d })) (sym ek)
 
-  pub try-random : (r : Tries Tapes) {l : List ℕ} {q : Out (Tries Tapes)} → l ≡ part rows j from′ to cols → q ≡ randomIn (tape (P .features)) P (bare a) j r (map (elementOf features t) l)
-      → {k : Splitter} → k ≡ Random → q ≡ tryOne (tape (P .features)) k P (taskAt rows features from′ to t cols a) j r
+  pub try-random : (r : Tries Tapes) {l : List ℕ} {q : Out (Tries Tapes)} → l ≡ part rows j from′ to order → q ≡ randomIn (tape (P .features)) P (bare a) j r (map (elementOf features t) l)
+      → {k : Splitter} → k ≡ Random → q ≡ tryOne (tape (P .features)) k P (taskAt rows features from′ to t order a) j r
   unfolding tryOne
   try-random r {l} {q} el eb {k} ek =
       eb ∙ ap (λ z. randomIn (tape (P .features)) P (bare a) j r (map (elementOf features t) z)) el ∙ ap (randomIn (tape (P .features)) P (bare a) j r) (column-of refl)
-      ∙ random-bare P a (columnsAt (elementOf features t) rows features from′ to cols) j r (getD (columnsAt (elementOf features t) rows features from′ to cols) j [])
-      ∙ ap (λ z. tryOne (tape (P .features)) z P (taskAt rows features from′ to t cols a) j r) (sym ek)
+      ∙ random-bare P a (columnsAt (elementOf features t) rows features from′ to order) j r (getD (columnsAt (elementOf features t) rows features from′ to order) j [])
+      ∙ ap (λ z. tryOne (tape (P .features)) z P (taskAt rows features from′ to t order a) j r) (sym ek)
 
 pub column-room : (rows features j : ℕ) {k : ℕ} → k ≡ j → j < features → k * rows + rows ≤ features * rows
 column-room rows features j {k} q h = subst (λ n. n * rows + rows ≤ features * rows) (sym q) (subst (λ n. n ≤ features * rows) (suc-mul j rows) (mul-le-mul-right rows h))
@@ -262,29 +262,29 @@ module _ (n : ℕ) (words : List ℕ) (p : ℕ) (room : p + n ≤ length words) 
 
 -- ---- the features, one after the other
 
-module _ (P : Params) (task : Task) (M : List Float) (words : List ℕ) (p k i : ℕ) (room : p + k ≤ length words) (h : i < k) (best : Held) (used : ℕ) (W : List ℕ) (s : ℕ) where
+module _ (P : Params) (node : NodeRows) (M : List Float) (words : List ℕ) (p k i : ℕ) (room : p + k ≤ length words) (h : i < k) (best : Held) (used : ℕ) (W : List ℕ) (s : ℕ) where
   abbrev here : Tries Tapes
   here = record { best = best; left = left W M s used }
 
-  tries-head : tryAll (tape (P .features)) P task (drop i (take k (drop p words))) here ≡ bind (tryOne (tape (P .features)) (P .splitter) P task (getD words (p + i) 0) here) (λ r. tryAll (tape (P .features)) P task (drop (suc i) (take k (drop p words))) r)
+  tries-head : tryAll (tape (P .features)) P node (drop i (take k (drop p words))) here ≡ bind (tryOne (tape (P .features)) (P .splitter) P node (getD words (p + i) 0) here) (λ r. tryAll (tape (P .features)) P node (drop (suc i) (take k (drop p words))) r)
   unfolding tryAll
-  tries-head = ap (λ l. tryAll (tape (P .features)) P task l here) (choice-head k words p room i h)
+  tries-head = ap (λ l. tryAll (tape (P .features)) P node l here) (choice-head k words p room i h)
 
-  pub tries-stop : {r : Tried} → r ≡ Refused → meantTries W M s r ≡ tryOne (tape (P .features)) (P .splitter) P task (getD words (p + i) 0) here
-      → bad s ≡ tryAll (tape (P .features)) P task (drop i (take k (drop p words))) here
+  pub tries-stop : {r : Attempt} → r ≡ Refused → meantTries W M s r ≡ tryOne (tape (P .features)) (P .splitter) P node (getD words (p + i) 0) here
+      → bad s ≡ tryAll (tape (P .features)) P node (drop i (take k (drop p words))) here
   unfolding bind
-  tries-stop e q = ap (λ m. bind m (λ r. tryAll (tape (P .features)) P task (drop (suc i) (take k (drop p words))) r)) (sym (ap (meantTries W M s) e) ∙ q) ∙ sym tries-head
+  tries-stop e q = ap (λ m. bind m (λ r. tryAll (tape (P .features)) P node (drop (suc i) (take k (drop p words))) r)) (sym (ap (meantTries W M s) e) ∙ q) ∙ sym tries-head
 
-  pub tries-next : {r : Tried} {b : Held} {n : ℕ} → r ≡ Goes b n → meantTries W M s r ≡ tryOne (tape (P .features)) (P .splitter) P task (getD words (p + i) 0) here
-      → tryAll (tape (P .features)) P task (drop (i + 1) (take k (drop p words))) (record { best = b; left = left W M s n }) ≡ tryAll (tape (P .features)) P task (drop i (take k (drop p words))) here
+  pub tries-next : {r : Attempt} {b : Held} {n : ℕ} → r ≡ Goes b n → meantTries W M s r ≡ tryOne (tape (P .features)) (P .splitter) P node (getD words (p + i) 0) here
+      → tryAll (tape (P .features)) P node (drop (i + 1) (take k (drop p words))) (record { best = b; left = left W M s n }) ≡ tryAll (tape (P .features)) P node (drop i (take k (drop p words))) here
   unfolding bind
   tries-next {r} {b} {n} e q =
-      ap (λ j. tryAll (tape (P .features)) P task (drop j (take k (drop p words))) (record { best = b; left = left W M s n })) (add-one i)
-      ∙ ap (λ m. bind m (λ r. tryAll (tape (P .features)) P task (drop (suc i) (take k (drop p words))) r)) (sym (ap (meantTries W M s) e) ∙ q) ∙ sym tries-head
+      ap (λ j. tryAll (tape (P .features)) P node (drop j (take k (drop p words))) (record { best = b; left = left W M s n })) (add-one i)
+      ∙ ap (λ m. bind m (λ r. tryAll (tape (P .features)) P node (drop (suc i) (take k (drop p words))) r)) (sym (ap (meantTries W M s) e) ∙ q) ∙ sym tries-head
 
-pub tries-end : (P : Params) (task : Task) (words : List ℕ) (p k i : ℕ) → p + k ≤ length words → k ≤ i → (r : Tries Tapes) → ok r ≡ tryAll (tape (P .features)) P task (drop i (take k (drop p words))) r
+pub tries-end : (P : Params) (node : NodeRows) (words : List ℕ) (p k i : ℕ) → p + k ≤ length words → k ≤ i → (r : Tries Tapes) → ok r ≡ tryAll (tape (P .features)) P node (drop i (take k (drop p words))) r
 unfolding tryAll
-tries-end P task words p k i room h r = sym (ap (λ l. tryAll (tape (P .features)) P task l r) (drop-of-length-le (take k (drop p words)) (subst (λ n. n ≤ i) (sym (choice-long k words p room)) h)))
+tries-end P node words p k i room h r = sym (ap (λ l. tryAll (tape (P .features)) P node l r) (drop-of-length-le (take k (drop p words)) (subst (λ n. n ≤ i) (sym (choice-long k words p room)) h)))
 
 -- ---- the search of a node
 
@@ -307,51 +307,51 @@ chosen-at n words p room e k hk i h =
     let g : i < n = omega arith in
     subst (λ w. w < n) (choice-at n words p room i g) (fresh-at n [] (choice n words p room) (sym (all-chosen n words p room) ∙ e) i (subst (λ z. i < z) (sym (choice-long n words p room)) g))
 
-module _ (P : Params) (W : List ℕ) (M : List Float) (task : Task) (d : Drawn) (fair : Fair W d) where
+module _ (P : Params) (W : List ℕ) (M : List Float) (node : NodeRows) (d : Drawn) (fair : Fair W d) where
   abbrev n′ : ℕ
   n′ = P .features
 
   abbrev after : List ℕ × Tapes → Out (Found × Tapes)
-  after o = bind (tryAll (tape (P .features)) P task (take (min (P .tried) n′) (o .0)) (record { best = Nothing; left = o .1 })) (λ r. ok (found (r .best), tape (P .features) .done (r .left)))
+  after o = bind (tryAll (tape (P .features)) P node (take (min (P .tried) n′) (o .0)) (record { best = Nothing; left = o .1 })) (λ r. ok (found (r .best), tape (P .features) .done (r .left)))
 
-  search-by : (b : Bool) → eachOnce n′ (take n′ (drop (d .words) W)) ≡ b → bind (takeWords b n′ (drawsAt W M d)) after ≡ search (tape (P .features)) P (drawsAt W M d) task
+  search-by : (b : Bool) → eachOnce n′ (take n′ (drop (d .words) W)) ≡ b → bind (takeWords b n′ (drawsAt W M d)) after ≡ search (tape (P .features)) P (drawsAt W M d) node
   unfolding search tape
   search-by b e = sym (ap (λ z. bind (takeWords z n′ (drawsAt W M d)) after) e)
 
-  pub search-bad : eachOnce n′ (take n′ (drop (d .words) W)) ≡ false → Searched P W M task d S.Refused
+  pub search-bad : eachOnce n′ (take n′ (drop (d .words) W)) ≡ false → Searched P W M node d S.Refused
   unfolding takeWords bind
   search-bad e = record { same = search-by false e; fair = tt }
 
-  pub search-short : length W - d .words < n′ → Searched P W M task d S.Refused
+  pub search-short : length W - d .words < n′ → Searched P W M node d S.Refused
   unfolding eachOnce
   search-short h =
       search-bad (ap (λ b. b && fresh n′ [] (take n′ (drop (d .words) W)))
       (ne-eqb (length (take n′ (drop (d .words) W))) n′ (λ e. let q = simp (length-take, length-drop) at e in omega (arith, q, h))))
 
   search-tries : eachOnce n′ (take n′ (drop (d .words) W)) ≡ true
-      → bind (tryAll (tape (P .features)) P task (take (min (P .tried) n′) (drop (d .words) W)) (record { best = Nothing; left = left (drop n′ (drop (d .words) W)) M (d .searches) (d .thresholds) }))
-      (λ r. ok (found (r .best), tape (P .features) .done (r .left))) ≡ search (tape (P .features)) P (drawsAt W M d) task
+      → bind (tryAll (tape (P .features)) P node (take (min (P .tried) n′) (drop (d .words) W)) (record { best = Nothing; left = left (drop n′ (drop (d .words) W)) M (d .searches) (d .thresholds) }))
+      (λ r. ok (found (r .best), tape (P .features) .done (r .left))) ≡ search (tape (P .features)) P (drawsAt W M d) node
   unfolding takeWords bind
   search-tries e =
-      ap (λ l. bind (tryAll (tape (P .features)) P task l (record { best = Nothing; left = left (drop n′ (drop (d .words) W)) M (d .searches) (d .thresholds) })) (λ r. ok (found (r .best), tape (P .features) .done (r .left))))
+      ap (λ l. bind (tryAll (tape (P .features)) P node l (record { best = Nothing; left = left (drop n′ (drop (d .words) W)) M (d .searches) (d .thresholds) })) (λ r. ok (found (r .best), tape (P .features) .done (r .left))))
       (sym (take-take (min (P .tried) n′) n′ (drop (d .words) W) (omega arith)))
       ∙ search-by true e
 
-  module _ (e : eachOnce n′ (take n′ (drop (d .words) W)) ≡ true) {k : ℕ} (ek : k ≡ min (P .tried) n′) (r : Tried)
-      (t : (U : List ℕ) (s : ℕ) → meantTries U M s r ≡ tryAll (tape (P .features)) P task (take k (drop (d .words) W)) (record { best = Nothing; left = left U M s (d .thresholds) })) where
-    search-meant : bind (meantTries (drop n′ (drop (d .words) W)) M (d .searches) r) (λ r. ok (found (r .best), tape (P .features) .done (r .left))) ≡ search (tape (P .features)) P (drawsAt W M d) task
+  module _ (e : eachOnce n′ (take n′ (drop (d .words) W)) ≡ true) {k : ℕ} (ek : k ≡ min (P .tried) n′) (r : Attempt)
+      (t : (U : List ℕ) (s : ℕ) → meantTries U M s r ≡ tryAll (tape (P .features)) P node (take k (drop (d .words) W)) (record { best = Nothing; left = left U M s (d .thresholds) })) where
+    search-meant : bind (meantTries (drop n′ (drop (d .words) W)) M (d .searches) r) (λ r. ok (found (r .best), tape (P .features) .done (r .left))) ≡ search (tape (P .features)) P (drawsAt W M d) node
     search-meant =
         ap (λ m. bind m (λ r. ok (found (r .best), tape (P .features) .done (r .left))))
         (t (drop n′ (drop (d .words) W)) (d .searches)
-        ∙ ap (λ j. tryAll (tape (P .features)) P task (take j (drop (d .words) W)) (record { best = Nothing; left = left (drop n′ (drop (d .words) W)) M (d .searches) (d .thresholds) })) ek)
+        ∙ ap (λ j. tryAll (tape (P .features)) P node (take j (drop (d .words) W)) (record { best = Nothing; left = left (drop n′ (drop (d .words) W)) M (d .searches) (d .thresholds) })) ek)
         ∙ search-tries e
 
-    pub search-stop : r ≡ Refused → Searched P W M task d S.Refused
+    pub search-stop : r ≡ Refused → Searched P W M node d S.Refused
     unfolding bind
     search-stop q = record { same = sym (ap (λ z. bind (meantTries (drop n′ (drop (d .words) W)) M (d .searches) z) (λ r. ok (found (r .best), tape (P .features) .done (r .left)))) q) ∙ search-meant; fair = tt }
 
     pub search-goes : (h : Held) (m : ℕ) → r ≡ Goes h m → (n : ℕ) → n ≡ n′ → d .words + n ≤ length W → 0 < n
-        → Searched P W M task d (S.Goes h (record { words = d .words + n; thresholds = m; searches = d .searches + 1 }))
+        → Searched P W M node d (S.Goes h (record { words = d .words + n; thresholds = m; searches = d .searches + 1 }))
     unfolding bind tape
     search-goes h m q n en room pos′ =
         record {

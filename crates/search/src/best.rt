@@ -1,12 +1,12 @@
-// Best search: the walk along a column, and the best candidate that it meets.
+// Best search: the sweep along a column, and the best candidate that it meets.
 ghost use mathlib.Core.Path.{_≡_};
 ghost use mathlib.Core.Bool.{cond};
 ghost use mathlib.Core.List.{map};
 ghost use Prim.Native.Nat.{ℕ, _+_, _≤_, _<_};
 ghost use lib.ListN.{length, getD};
 ghost use lib.Ieee.{lt, eq};
-ghost use Rattle.rules.specs.Search.{better, judge, walk, tally, bestIn};
-ghost use Rattle.search.specs.Flat.{Shaped, Below, elementOf, bare, stepIn, cutBetween, heldOf, walkOf, earlierOf, valueIn, runAt, cutsIn, Readable};
+ghost use Rattle.rules.specs.Search.{better, judge, sweep, tally, bestIn};
+ghost use Rattle.search.specs.Flat.{Shaped, Below, elementOf, bare, stepIn, cutBetween, heldOf, sweepOf, earlierOf, valueIn, runAt, cutsIn, Readable};
 use crate::Cell;
 use criterion::Side;
 use criterion::take_in;
@@ -124,7 +124,7 @@ pub fn judge_spot(p: Params, a: Side, s: Spot, t: Totals, k: u32, place: usize) 
 
 pub fn step_of(p: Params, a: Side, w: Run, e: Cell, place: usize) -> Run
     requires { ⌜ (w .count + e .count ≤ a .count) × (w .spot .place ≤ place) ⌝ }
-    ensures { λ r. ⌜ (r .spot .place ≤ place) × ((j : ℕ) (c : ℕ → Cut) → c place ≡ cutBetween j (w .last) (e .value) → walkOf c r ≡ stepIn p a j (walkOf c w) e) ⌝ }
+    ensures { λ r. ⌜ (r .spot .place ≤ place) × ((j : ℕ) (c : ℕ → Cut) → c place ≡ cutBetween j (w .last) (e .value) → sweepOf c r ≡ stepIn p a j (sweepOf c w) e) ⌝ }
 {
     let before = w.before;
     let spot = anew(w.spot);
@@ -147,10 +147,10 @@ pub fn step_of(p: Params, a: Side, w: Run, e: Cell, place: usize) -> Run
     }
 }
 
-// The walk of a column's stretch.
-pub fn walk_column(
-    x: &[f64],
-    y: &[f64],
+// The sweep of a column's stretch.
+pub fn sweep_column(
+    values: &[f64],
+    targets: &[f64],
     weights: &[f64],
     counts: &[u32],
     col: &[u32],
@@ -162,17 +162,17 @@ pub fn walk_column(
     w: Run,
 ) -> Run
     requires rows { ⌜ Below rows (now col) ⌝ }
-    requires shape { ⌜ Shaped rows features (record { x = now x; y = now y; weights = now weights; counts = now counts }) × (j < features) ⌝ }
-    requires room { ⌜ w .count + tally (map (elementOf features (record { x = now x; y = now y; weights = now weights; counts = now counts })) (now col)) ≤ a .count ⌝ }
-    requires start { ⌜ (w .spot .place ≡ 0) × (w .last ≡ runAt (valueIn features (now x) j) (now col) 0) ⌝ }
-    ensures { λ r. ⌜ (r .spot .place ≤ length (now (col .entry))) × ((b : Cut) → let c = cutsIn features (now (x .entry)) j (now (col .entry)) b in walkOf c r ≡ walk p (bare a) j (walkOf c w) (map (elementOf features (record { x = now (x .entry); y = now (y .entry); weights = now (weights .entry); counts = now (counts .entry) })) (now (col .entry)))) ⌝ }
+    requires shape { ⌜ Shaped rows features (record { values = now values; targets = now targets; weights = now weights; counts = now counts }) × (j < features) ⌝ }
+    requires room { ⌜ w .count + tally (map (elementOf features (record { values = now values; targets = now targets; weights = now weights; counts = now counts })) (now col)) ≤ a .count ⌝ }
+    requires start { ⌜ (w .spot .place ≡ 0) × (w .last ≡ runAt (valueIn features (now values) j) (now col) 0) ⌝ }
+    ensures { λ r. ⌜ (r .spot .place ≤ length (now (col .entry))) × ((b : Cut) → let c = cutsIn features (now (values .entry)) j (now (col .entry)) b in sweepOf c r ≡ sweep p (bare a) j (sweepOf c w) (map (elementOf features (record { values = now (values .entry); targets = now (targets .entry); weights = now (weights .entry); counts = now (counts .entry) })) (now (col .entry)))) ⌝ }
 {
     let mut v = w;
     let mut i: usize = 0;
     while i < col.len() {
         let e = crate::cell_of(
-            x,
-            y,
+            values,
+            targets,
             weights,
             counts,
             rows,
@@ -187,11 +187,16 @@ pub fn walk_column(
 }
 
 // The value of the row at place i of a column.
-fn value_here(x: &[f64], col: &[u32], rows: usize, features: usize, j: u32, i: usize) -> f64
-    requires { ⌜ Readable rows features (now x) j (now col) × (i < length (now col)) ⌝ }
-    ensures { λ r. ⌜ r ≡ valueIn features (now (x .entry)) j (getD (now (col .entry)) i 0) ⌝ }
+fn value_here(values: &[f64], col: &[u32], rows: usize, features: usize, j: u32, i: usize) -> f64
+    requires { ⌜ Readable rows features (now values) j (now col) × (i < length (now col)) ⌝ }
+    ensures { λ r. ⌜ r ≡ valueIn features (now (values .entry)) j (getD (now (col .entry)) i 0) ⌝ }
 {
-    crate::value_of(x, features, criterion::wide(j), criterion::wide(col[i]))
+    crate::value_of(
+        values,
+        features,
+        criterion::wide(j),
+        criterion::wide(col[i]),
+    )
 }
 
 // A run of equals of value v, or a new one of value e.
@@ -205,14 +210,14 @@ fn run_on(v: f64, e: f64) -> f64
 }
 
 // The value of the run of equals that ends before place n, its first, from the column's start on.
-fn run_anew(x: &[f64], col: &[u32], rows: usize, features: usize, j: u32, n: usize) -> f64
-    requires { ⌜ Readable rows features (now x) j (now col) × (n < length (now col)) ⌝ }
-    ensures { λ r. ⌜ r ≡ runAt (valueIn features (now (x .entry)) j) (now (col .entry)) n ⌝ }
+fn run_anew(values: &[f64], col: &[u32], rows: usize, features: usize, j: u32, n: usize) -> f64
+    requires { ⌜ Readable rows features (now values) j (now col) × (n < length (now col)) ⌝ }
+    ensures { λ r. ⌜ r ≡ runAt (valueIn features (now (values .entry)) j) (now (col .entry)) n ⌝ }
 {
-    let mut v = value_here(x, col, rows, features, j, 0);
+    let mut v = value_here(values, col, rows, features, j, 0);
     let mut i: usize = 0;
     while i < n {
-        let e = value_here(x, col, rows, features, j, i);
+        let e = value_here(values, col, rows, features, j, i);
         v = run_on(v, e);
         i += 1;
     }
@@ -220,23 +225,23 @@ fn run_anew(x: &[f64], col: &[u32], rows: usize, features: usize, j: u32, n: usi
 }
 
 // The same. Values that are equal differ only where they are zeros: any other is the same as the last of its run, which is read first.
-fn run_before(x: &[f64], col: &[u32], rows: usize, features: usize, j: u32, n: usize) -> f64
-    requires { ⌜ Readable rows features (now x) j (now col) × (n < length (now col)) ⌝ }
-    ensures { λ r. ⌜ r ≡ runAt (valueIn features (now (x .entry)) j) (now (col .entry)) n ⌝ }
+fn run_before(values: &[f64], col: &[u32], rows: usize, features: usize, j: u32, n: usize) -> f64
+    requires { ⌜ Readable rows features (now values) j (now col) × (n < length (now col)) ⌝ }
+    ensures { λ r. ⌜ r ≡ runAt (valueIn features (now (values .entry)) j) (now (col .entry)) n ⌝ }
 {
     if 0 < n {
-        let v = value_here(x, col, rows, features, j, n - 1);
+        let v = value_here(values, col, rows, features, j, n - 1);
         if v == 0.0 {
-            return run_anew(x, col, rows, features, j, n);
+            return run_anew(values, col, rows, features, j, n);
         }
         return v;
     }
-    run_anew(x, col, rows, features, j, n)
+    run_anew(values, col, rows, features, j, n)
 }
 
-// What s holds once the column is walked.
+// What s holds once the column is swept.
 pub fn held_of(
-    x: &[f64],
+    values: &[f64],
     col: &[u32],
     rows: usize,
     features: usize,
@@ -244,16 +249,16 @@ pub fn held_of(
     earlier: Cut,
     s: Spot,
 ) -> Held
-    requires { ⌜ Readable rows features (now x) j (now col) × (s .place ≤ length (now col)) ⌝ }
-    ensures { λ r. ⌜ r ≡ heldOf (cutsIn features (now (x .entry)) j (now (col .entry)) earlier) s ⌝ }
+    requires { ⌜ Readable rows features (now values) j (now col) × (s .place ≤ length (now col)) ⌝ }
+    ensures { λ r. ⌜ r ≡ heldOf (cutsIn features (now (values .entry)) j (now (col .entry)) earlier) s ⌝ }
 {
     if s.held {
         if s.place == 0 {
             return Held::Holds(earlier, s.proxy);
         }
         let i = s.place - 1;
-        let low = run_before(x, col, rows, features, j, i);
-        let high = value_here(x, col, rows, features, j, i);
+        let low = run_before(values, col, rows, features, j, i);
+        let high = value_here(values, col, rows, features, j, i);
         let t = threshold_of(low, high);
         return Held::Holds(
             Cut {
@@ -268,8 +273,8 @@ pub fn held_of(
 
 // The best splitter along a column's stretch.
 pub fn best_in(
-    x: &[f64],
-    y: &[f64],
+    values: &[f64],
+    targets: &[f64],
     weights: &[f64],
     counts: &[u32],
     col: &[u32],
@@ -281,14 +286,14 @@ pub fn best_in(
     h: Held,
 ) -> Held
     requires rows { ⌜ Below rows (now col) ⌝ }
-    requires shape { ⌜ Shaped rows features (record { x = now x; y = now y; weights = now weights; counts = now counts }) × (j < features) ⌝ }
-    requires room { ⌜ tally (map (elementOf features (record { x = now x; y = now y; weights = now weights; counts = now counts })) (now col)) ≤ a .count ⌝ }
-    ensures { λ r. ⌜ r ≡ bestIn p (bare a) j h (map (elementOf features (record { x = now (x .entry); y = now (y .entry); weights = now (weights .entry); counts = now (counts .entry) })) (now (col .entry))) ⌝ }
+    requires shape { ⌜ Shaped rows features (record { values = now values; targets = now targets; weights = now weights; counts = now counts }) × (j < features) ⌝ }
+    requires room { ⌜ tally (map (elementOf features (record { values = now values; targets = now targets; weights = now weights; counts = now counts })) (now col)) ≤ a .count ⌝ }
+    ensures { λ r. ⌜ r ≡ bestIn p (bare a) j h (map (elementOf features (record { values = now (values .entry); targets = now (targets .entry); weights = now (weights .entry); counts = now (counts .entry) })) (now (col .entry))) ⌝ }
 {
     if col.len() == 0 {
         return h;
     }
-    let first = value_here(x, col, rows, features, j, 0);
+    let first = value_here(values, col, rows, features, j, 0);
     let spot = spot_of(h);
     let w = Run {
         before: Totals {
@@ -299,6 +304,18 @@ pub fn best_in(
         last: first,
         spot,
     };
-    let v = walk_column(x, y, weights, counts, col, rows, features, p, j, a, w);
-    held_of(x, col, rows, features, j, earlier_of(h), v.spot)
+    let v = sweep_column(
+        values,
+        targets,
+        weights,
+        counts,
+        col,
+        rows,
+        features,
+        p,
+        j,
+        a,
+        w,
+    );
+    held_of(values, col, rows, features, j, earlier_of(h), v.spot)
 }

@@ -25,7 +25,7 @@ use rules::Totals;
 pub mod best;
 pub mod random;
 
-// What a walk along a feature learns of a row.
+// What a sweep along a feature learns of a row.
 pub struct Cell {
     pub count: u32,
     pub mass: f64,
@@ -34,7 +34,7 @@ pub struct Cell {
 }
 
 // What trying a feature leaves: the best so far, and how many thresholds were taken from the tape; or a bad draw.
-pub enum Tried {
+pub enum Attempt {
     Refused,
     Goes(Held, usize),
 }
@@ -81,16 +81,16 @@ pub fn judge_of(p: Params, a: Side, h: Held, t: Totals, k: u32, c: Cut) -> Held
     better_of(h, c, q)
 }
 
-pub fn value_of(x: &[f64], features: usize, j: usize, r: usize) -> f64
-    requires { ⌜ r * features + j < length (now x) ⌝ }
-    ensures { λ v. ⌜ v ≡ getD (now (x .entry)) (r * features + j) nan ⌝ }
+pub fn value_of(values: &[f64], features: usize, j: usize, r: usize) -> f64
+    requires { ⌜ r * features + j < length (now values) ⌝ }
+    ensures { λ v. ⌜ v ≡ getD (now (values .entry)) (r * features + j) nan ⌝ }
 {
-    x[r * features + j]
+    values[r * features + j]
 }
 
 pub fn cell_of(
-    x: &[f64],
-    y: &[f64],
+    values: &[f64],
+    targets: &[f64],
     weights: &[f64],
     counts: &[u32],
     rows: usize,
@@ -98,13 +98,13 @@ pub fn cell_of(
     j: usize,
     r: usize,
 ) -> Cell
-    requires { ⌜ Shaped rows features (record { x = now x; y = now y; weights = now weights; counts = now counts }) × (r < rows) × (j < features) ⌝ }
-    ensures { λ e. ⌜ e ≡ cellOf j (elementOf features (record { x = now (x .entry); y = now (y .entry); weights = now (weights .entry); counts = now (counts .entry) }) r) ⌝ }
+    requires { ⌜ Shaped rows features (record { values = now values; targets = now targets; weights = now weights; counts = now counts }) × (r < rows) × (j < features) ⌝ }
+    ensures { λ e. ⌜ e ≡ cellOf j (elementOf features (record { values = now (values .entry); targets = now (targets .entry); weights = now (weights .entry); counts = now (counts .entry) }) r) ⌝ }
 {
     let k = counts[r];
-    let t = y[r];
+    let t = targets[r];
     let m = mass_of(weights, counts, r);
-    let v = value_of(x, features, j, r);
+    let v = value_of(values, features, j, r);
     Cell {
         count: k,
         mass: m,
@@ -115,11 +115,11 @@ pub fn cell_of(
 
 // One feature of a node whose rows lie from `from` to `to` in every column.
 pub fn try_one(
-    x: &[f64],
-    y: &[f64],
+    values: &[f64],
+    targets: &[f64],
     weights: &[f64],
     counts: &[u32],
-    cols: &[u32],
+    order: &[u32],
     thresholds: &[f64],
     rows: usize,
     features: usize,
@@ -130,9 +130,9 @@ pub fn try_one(
     a: Side,
     h: Held,
     m: usize,
-) -> Tried
-    requires { ⌜ NodeAsks rows features from to (record { x = now x; y = now y; weights = now weights; counts = now counts }) (now cols) (a .count) × (j < features) ⌝ }
-    ensures { λ r. ⌜ ((W : List ℕ) (s : ℕ) → meantTries W (now (thresholds .entry)) s r ≡ tryOne (tape (p .features)) (p .splitter) p (taskAt rows features from to (record { x = now (x .entry); y = now (y .entry); weights = now (weights .entry); counts = now (counts .entry) }) (now (cols .entry)) a) j (record { best = h; left = left W (now (thresholds .entry)) s m })) ⌝ }
+) -> Attempt
+    requires { ⌜ NodeAsks rows features from to (record { values = now values; targets = now targets; weights = now weights; counts = now counts }) (now order) (a .count) × (j < features) ⌝ }
+    ensures { λ r. ⌜ ((W : List ℕ) (s : ℕ) → meantTries W (now (thresholds .entry)) s r ≡ tryOne (tape (p .features)) (p .splitter) p (taskAt rows features from to (record { values = now (values .entry); targets = now (targets .entry); weights = now (weights .entry); counts = now (counts .entry) }) (now (order .entry)) a) j (record { best = h; left = left W (now (thresholds .entry)) s m })) ⌝ }
 {
     let base = criterion::wide(j) * rows;
     let lo = base + from;
@@ -141,11 +141,11 @@ pub fn try_one(
     match kind {
         Splitter::Best => {
             let b = crate::best::best_in(
-                x,
-                y,
+                values,
+                targets,
                 weights,
                 counts,
-                &cols[lo..hi],
+                &order[lo..hi],
                 rows,
                 features,
                 p,
@@ -153,14 +153,14 @@ pub fn try_one(
                 a,
                 h,
             );
-            Tried::Goes(b, m)
+            Attempt::Goes(b, m)
         }
         Splitter::Random => crate::random::random_in(
-            x,
-            y,
+            values,
+            targets,
             weights,
             counts,
-            &cols[lo..hi],
+            &order[lo..hi],
             thresholds,
             rows,
             features,
@@ -208,11 +208,11 @@ pub fn choice_good(words: &[u32], at: usize, features: usize) -> bool
 
 // The first k features of the words from `at` on, tried one after the other.
 pub fn try_all(
-    x: &[f64],
-    y: &[f64],
+    values: &[f64],
+    targets: &[f64],
     weights: &[f64],
     counts: &[u32],
-    cols: &[u32],
+    order: &[u32],
     words: &[u32],
     thresholds: &[f64],
     rows: usize,
@@ -224,10 +224,10 @@ pub fn try_all(
     at: usize,
     k: usize,
     m: usize,
-) -> Tried
-    requires { ⌜ NodeAsks rows features from to (record { x = now x; y = now y; weights = now weights; counts = now counts }) (now cols) (a .count) ⌝ }
+) -> Attempt
+    requires { ⌜ NodeAsks rows features from to (record { values = now values; targets = now targets; weights = now weights; counts = now counts }) (now order) (a .count) ⌝ }
     requires { ⌜ (at + k ≤ length (now words)) × ((i : ℕ) → i < k → getD (now words) (at + i) 0 < features) ⌝ }
-    ensures { λ r. ⌜ ((W : List ℕ) (s : ℕ) → meantTries W (now (thresholds .entry)) s r ≡ tryAll (tape (p .features)) p (taskAt rows features from to (record { x = now (x .entry); y = now (y .entry); weights = now (weights .entry); counts = now (counts .entry) }) (now (cols .entry)) a) (take k (drop at (now (words .entry)))) (record { best = Nothing; left = left W (now (thresholds .entry)) s m })) ⌝ }
+    ensures { λ r. ⌜ ((W : List ℕ) (s : ℕ) → meantTries W (now (thresholds .entry)) s r ≡ tryAll (tape (p .features)) p (taskAt rows features from to (record { values = now (values .entry); targets = now (targets .entry); weights = now (weights .entry); counts = now (counts .entry) }) (now (order .entry)) a) (take k (drop at (now (words .entry)))) (record { best = Nothing; left = left W (now (thresholds .entry)) s m })) ⌝ }
 {
     let mut best = Held::Nothing;
     let mut used = m;
@@ -235,11 +235,11 @@ pub fn try_all(
     while i < k {
         let j = words[at + i];
         let r = try_one(
-            x,
-            y,
+            values,
+            targets,
             weights,
             counts,
-            cols,
+            order,
             thresholds,
             rows,
             features,
@@ -251,14 +251,14 @@ pub fn try_all(
             best,
             used,
         );
-        let Tried::Goes(b, n) = r else {
-            return Tried::Refused;
+        let Attempt::Goes(b, n) = r else {
+            return Attempt::Refused;
         };
         best = b;
         used = n;
         i += 1;
     }
-    Tried::Goes(best, used)
+    Attempt::Goes(best, used)
 }
 
 pub fn lesser(a: usize, b: usize) -> usize
@@ -272,11 +272,11 @@ pub fn lesser(a: usize, b: usize) -> usize
 
 // The search of a node whose rows lie from `from` to `to` in every column.
 pub fn search_node(
-    x: &[f64],
-    y: &[f64],
+    values: &[f64],
+    targets: &[f64],
     weights: &[f64],
     counts: &[u32],
-    cols: &[u32],
+    order: &[u32],
     words: &[u32],
     thresholds: &[f64],
     rows: usize,
@@ -287,8 +287,8 @@ pub fn search_node(
     a: Side,
     d: Drawn,
 ) -> Search
-    requires { ⌜ NodeAsks rows features from to (record { x = now x; y = now y; weights = now weights; counts = now counts }) (now cols) (a .count) × (features ≡ p .features) × (features ≤ 1024) × (0 < features) × Fair (now words) d ⌝ }
-    ensures { λ r. ⌜ Searched p (now (words .entry)) (now (thresholds .entry)) (taskAt rows features from to (record { x = now (x .entry); y = now (y .entry); weights = now (weights .entry); counts = now (counts .entry) }) (now (cols .entry)) a) d r ⌝ }
+    requires { ⌜ NodeAsks rows features from to (record { values = now values; targets = now targets; weights = now weights; counts = now counts }) (now order) (a .count) × (features ≡ p .features) × (features ≤ 1024) × (0 < features) × Fair (now words) d ⌝ }
+    ensures { λ r. ⌜ Searched p (now (words .entry)) (now (thresholds .entry)) (taskAt rows features from to (record { values = now (values .entry); targets = now (targets .entry); weights = now (weights .entry); counts = now (counts .entry) }) (now (order .entry)) a) d r ⌝ }
 {
     let at = d.words;
     if words.len() - at < features {
@@ -297,11 +297,11 @@ pub fn search_node(
     if choice_good(words, at, features) {
         let k = lesser(criterion::wide(p.tried), features);
         let r = try_all(
-            x,
-            y,
+            values,
+            targets,
             weights,
             counts,
-            cols,
+            order,
             words,
             thresholds,
             rows,
@@ -314,7 +314,7 @@ pub fn search_node(
             k,
             d.thresholds,
         );
-        let Tried::Goes(h, m) = r else {
+        let Attempt::Goes(h, m) = r else {
             return Search::Refused;
         };
         return Search::Goes(

@@ -6,8 +6,8 @@ ghost use Rattle.rules.specs.Draws.{tape};
 ghost use Rattle.rules.specs.Search.{tally, randomIn, trueSide};
 ghost use Rattle.criterion.specs.Sides.{sideOn};
 ghost use Rattle.search.specs.Flat.{Shaped, Below, elementOf, bare, sideStep, meantTries, left, drawAt};
+use crate::Attempt;
 use crate::Cell;
-use crate::Tried;
 use criterion::Side;
 use rules::Cut;
 use rules::Held;
@@ -26,8 +26,8 @@ pub fn joined_if(s: Side, e: Cell, t: f64) -> Side
 
 // The true side of a column's stretch, by feature j and threshold t: its totals and count.
 pub fn true_side(
-    x: &[f64],
-    y: &[f64],
+    values: &[f64],
+    targets: &[f64],
     weights: &[f64],
     counts: &[u32],
     col: &[u32],
@@ -38,16 +38,16 @@ pub fn true_side(
     most: u32,
 ) -> Side
     requires rows { ⌜ Below rows (now col) ⌝ }
-    requires shape { ⌜ Shaped rows features (record { x = now x; y = now y; weights = now weights; counts = now counts }) × (j < features) ⌝ }
-    requires room { ⌜ tally (map (elementOf features (record { x = now x; y = now y; weights = now weights; counts = now counts })) (now col)) ≤ most ⌝ }
-    ensures { λ r. ⌜ (r ≡ sideOn (trueSide (record { feature = j; threshold = t }) (map (elementOf features (record { x = now (x .entry); y = now (y .entry); weights = now (weights .entry); counts = now (counts .entry) })) (now (col .entry))))) × (r .count ≤ most) ⌝ }
+    requires shape { ⌜ Shaped rows features (record { values = now values; targets = now targets; weights = now weights; counts = now counts }) × (j < features) ⌝ }
+    requires room { ⌜ tally (map (elementOf features (record { values = now values; targets = now targets; weights = now weights; counts = now counts })) (now col)) ≤ most ⌝ }
+    ensures { λ r. ⌜ (r ≡ sideOn (trueSide (record { feature = j; threshold = t }) (map (elementOf features (record { values = now (values .entry); targets = now (targets .entry); weights = now (weights .entry); counts = now (counts .entry) })) (now (col .entry))))) × (r .count ≤ most) ⌝ }
 {
     let mut s = criterion::no_side();
     let mut i = 0;
     while i < col.len() {
         let e = crate::cell_of(
-            x,
-            y,
+            values,
+            targets,
             weights,
             counts,
             rows,
@@ -63,8 +63,8 @@ pub fn true_side(
 
 // A threshold off the tape, judged by the side that it makes. lo is the stretch's lowest value, hi its highest.
 pub fn draw_in(
-    x: &[f64],
-    y: &[f64],
+    values: &[f64],
+    targets: &[f64],
     weights: &[f64],
     counts: &[u32],
     col: &[u32],
@@ -78,19 +78,30 @@ pub fn draw_in(
     m: usize,
     lo: f64,
     hi: f64,
-) -> Tried
+) -> Attempt
     requires rows { ⌜ Below rows (now col) ⌝ }
-    requires shape { ⌜ Shaped rows features (record { x = now x; y = now y; weights = now weights; counts = now counts }) × (j < features) ⌝ }
-    requires room { ⌜ tally (map (elementOf features (record { x = now x; y = now y; weights = now weights; counts = now counts })) (now col)) ≤ a .count ⌝ }
-    ensures { λ r. ⌜ ((W : List ℕ) (s : ℕ) → meantTries W (now (thresholds .entry)) s r ≡ drawAt p (bare a) j h (map (elementOf features (record { x = now (x .entry); y = now (y .entry); weights = now (weights .entry); counts = now (counts .entry) })) (now (col .entry))) (left W (now (thresholds .entry)) s m) lo hi) ⌝ }
+    requires shape { ⌜ Shaped rows features (record { values = now values; targets = now targets; weights = now weights; counts = now counts }) × (j < features) ⌝ }
+    requires room { ⌜ tally (map (elementOf features (record { values = now values; targets = now targets; weights = now weights; counts = now counts })) (now col)) ≤ a .count ⌝ }
+    ensures { λ r. ⌜ ((W : List ℕ) (s : ℕ) → meantTries W (now (thresholds .entry)) s r ≡ drawAt p (bare a) j h (map (elementOf features (record { values = now (values .entry); targets = now (targets .entry); weights = now (weights .entry); counts = now (counts .entry) })) (now (col .entry))) (left W (now (thresholds .entry)) s m) lo hi) ⌝ }
 {
     if thresholds.len() <= m {
-        return Tried::Refused;
+        return Attempt::Refused;
     }
     let t = thresholds[m];
     if lo <= t {
         if t < hi {
-            let s = true_side(x, y, weights, counts, col, rows, features, j, t, a.count);
+            let s = true_side(
+                values,
+                targets,
+                weights,
+                counts,
+                col,
+                rows,
+                features,
+                j,
+                t,
+                a.count,
+            );
             let side = s.totals;
             let b = crate::judge_of(
                 p,
@@ -103,17 +114,17 @@ pub fn draw_in(
                     threshold: t,
                 },
             );
-            return Tried::Goes(b, m + 1);
+            return Attempt::Goes(b, m + 1);
         }
-        return Tried::Refused;
+        return Attempt::Refused;
     }
-    Tried::Refused
+    Attempt::Refused
 }
 
 // The random splitter along a column's stretch.
 pub fn random_in(
-    x: &[f64],
-    y: &[f64],
+    values: &[f64],
+    targets: &[f64],
     weights: &[f64],
     counts: &[u32],
     col: &[u32],
@@ -125,22 +136,32 @@ pub fn random_in(
     a: Side,
     h: Held,
     m: usize,
-) -> Tried
+) -> Attempt
     requires rows { ⌜ Below rows (now col) ⌝ }
-    requires shape { ⌜ Shaped rows features (record { x = now x; y = now y; weights = now weights; counts = now counts }) × (j < features) ⌝ }
-    requires room { ⌜ tally (map (elementOf features (record { x = now x; y = now y; weights = now weights; counts = now counts })) (now col)) ≤ a .count ⌝ }
-    ensures { λ r. ⌜ ((W : List ℕ) (s : ℕ) → meantTries W (now (thresholds .entry)) s r ≡ randomIn (tape (p .features)) p (bare a) j (record { best = h; left = left W (now (thresholds .entry)) s m }) (map (elementOf features (record { x = now (x .entry); y = now (y .entry); weights = now (weights .entry); counts = now (counts .entry) })) (now (col .entry)))) ⌝ }
+    requires shape { ⌜ Shaped rows features (record { values = now values; targets = now targets; weights = now weights; counts = now counts }) × (j < features) ⌝ }
+    requires room { ⌜ tally (map (elementOf features (record { values = now values; targets = now targets; weights = now weights; counts = now counts })) (now col)) ≤ a .count ⌝ }
+    ensures { λ r. ⌜ ((W : List ℕ) (s : ℕ) → meantTries W (now (thresholds .entry)) s r ≡ randomIn (tape (p .features)) p (bare a) j (record { best = h; left = left W (now (thresholds .entry)) s m }) (map (elementOf features (record { values = now (values .entry); targets = now (targets .entry); weights = now (weights .entry); counts = now (counts .entry) })) (now (col .entry)))) ⌝ }
 {
     let n = col.len();
     if n == 0 {
-        return Tried::Goes(h, m);
+        return Attempt::Goes(h, m);
     }
-    let lo = crate::value_of(x, features, criterion::wide(j), criterion::wide(col[0]));
-    let hi = crate::value_of(x, features, criterion::wide(j), criterion::wide(col[n - 1]));
+    let lo = crate::value_of(
+        values,
+        features,
+        criterion::wide(j),
+        criterion::wide(col[0]),
+    );
+    let hi = crate::value_of(
+        values,
+        features,
+        criterion::wide(j),
+        criterion::wide(col[n - 1]),
+    );
     if lo < hi {
         return draw_in(
-            x,
-            y,
+            values,
+            targets,
             weights,
             counts,
             col,
@@ -156,5 +177,5 @@ pub fn random_in(
             hi,
         );
     }
-    Tried::Goes(h, m)
+    Attempt::Goes(h, m)
 }

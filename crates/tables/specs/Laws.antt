@@ -18,7 +18,7 @@ use Rattle.rules.specs.declared.NodeReply.{NodeReply}
 use Rattle.rules.specs.Words.{from, every, along}
 use Rattle.rules.specs.Lent.{Columns, Entry, shortest, entryAt, entriesAt}
 use Rattle.rules.specs.Table.{isLeaf, goodEntry, goodFrom, goodTree, ForestTable, startsGood, nodeOf, nodeRead}
-use Rattle.laws.specs.Lists.{every-all, same-default, ordered-along, ordered-at, length-from}
+use Rattle.lemmas.specs.Lists.{every-all, same-default, ordered-along, ordered-at, length-from}
 use Rattle.checks.specs.Tests.{and-both}
 use Rattle.tables.specs.Table.{entryIs, bare, Lying}
 

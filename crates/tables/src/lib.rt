@@ -23,11 +23,18 @@ fn wide(n: u32) -> usize
 }
 
 // A split at node k of a tree of n nodes. Its children are widened first: one more than the largest u32 must not wrap.
-fn split_good(features: usize, n: usize, k: usize, feature: u32, yes: u32, no: u32) -> bool
-    ensures { λ r. ⌜ r ≡ goodSplit features n k feature yes no ⌝ }
+fn split_good(
+    features: usize,
+    n: usize,
+    k: usize,
+    feature: u32,
+    truechild: u32,
+    falsechild: u32,
+) -> bool
+    ensures { λ r. ⌜ r ≡ goodSplit features n k feature truechild falsechild ⌝ }
 {
-    let y = wide(yes);
-    let o = wide(no);
+    let y = wide(truechild);
+    let o = wide(falsechild);
     let j = wide(feature);
     if y <= k {
         return false;
@@ -42,13 +49,20 @@ fn split_good(features: usize, n: usize, k: usize, feature: u32, yes: u32, no: u
 }
 
 // Node k of a tree of n nodes, by its feature, its true child and its false child.
-pub fn entry_good(features: usize, n: usize, k: usize, feature: u32, yes: u32, no: u32) -> bool
-    ensures { λ r. ⌜ r ≡ goodEntry features n k (bare feature yes no) ⌝ }
+pub fn entry_good(
+    features: usize,
+    n: usize,
+    k: usize,
+    feature: u32,
+    truechild: u32,
+    falsechild: u32,
+) -> bool
+    ensures { λ r. ⌜ r ≡ goodEntry features n k (bare feature truechild falsechild) ⌝ }
 {
-    if yes == 0 {
-        return no == 0;
+    if truechild == 0 {
+        return falsechild == 0;
     }
-    split_good(features, n, k, feature, yes, no)
+    split_good(features, n, k, feature, truechild, falsechild)
 }
 
 // The n entries from place a on, as a tree.
@@ -60,11 +74,11 @@ pub fn tree_good(
     feature: &[u32],
     threshold: &[f64],
     score: &[f64],
-    yes: &[u32],
-    no: &[u32],
+    truechild: &[u32],
+    falsechild: &[u32],
 ) -> bool
-    requires { ⌜ Within (columnsOf (now value) (now feature) (now threshold) (now score) (now yes) (now no)) a n ⌝ }
-    ensures { λ r. ⌜ r ≡ goodTree features (entriesAt (columnsOf (now (value .entry)) (now (feature .entry)) (now (threshold .entry)) (now (score .entry)) (now (yes .entry)) (now (no .entry))) a n) ⌝ }
+    requires { ⌜ Within (columnsOf (now value) (now feature) (now threshold) (now score) (now truechild) (now falsechild)) a n ⌝ }
+    ensures { λ r. ⌜ r ≡ goodTree features (entriesAt (columnsOf (now (value .entry)) (now (feature .entry)) (now (threshold .entry)) (now (score .entry)) (now (truechild .entry)) (now (falsechild .entry))) a n) ⌝ }
 {
     if n == 0 {
         return false;
@@ -72,7 +86,7 @@ pub fn tree_good(
     let mut k: usize = 0;
     while k < n {
         let at = a + k;
-        if !entry_good(features, n, k, feature[at], yes[at], no[at]) {
+        if !entry_good(features, n, k, feature[at], truechild[at], falsechild[at]) {
             return false;
         }
         k += 1;
@@ -125,11 +139,11 @@ pub fn trees_good(
     feature: &[u32],
     threshold: &[f64],
     score: &[f64],
-    yes: &[u32],
-    no: &[u32],
+    truechild: &[u32],
+    falsechild: &[u32],
 ) -> bool
-    requires { ⌜ Lying (tableOf trees (now starts) (columnsOf (now value) (now feature) (now threshold) (now score) (now yes) (now no))) ⌝ }
-    ensures { λ r. ⌜ r ≡ every (goodTree features) (treesOf (tableOf trees (now (starts .entry)) (columnsOf (now (value .entry)) (now (feature .entry)) (now (threshold .entry)) (now (score .entry)) (now (yes .entry)) (now (no .entry))))) ⌝ }
+    requires { ⌜ Lying (tableOf trees (now starts) (columnsOf (now value) (now feature) (now threshold) (now score) (now truechild) (now falsechild))) ⌝ }
+    ensures { λ r. ⌜ r ≡ every (goodTree features) (treesOf (tableOf trees (now (starts .entry)) (columnsOf (now (value .entry)) (now (feature .entry)) (now (threshold .entry)) (now (score .entry)) (now (truechild .entry)) (now (falsechild .entry))))) ⌝ }
 {
     let mut t: usize = 0;
     while t < trees {
@@ -137,7 +151,17 @@ pub fn trees_good(
         let a = wide(starts[t]);
         let e = wide(starts[next]);
         let n = e - a;
-        if !tree_good(features, a, n, value, feature, threshold, score, yes, no) {
+        if !tree_good(
+            features,
+            a,
+            n,
+            value,
+            feature,
+            threshold,
+            score,
+            truechild,
+            falsechild,
+        ) {
             return false;
         }
         t += 1;
@@ -153,19 +177,19 @@ pub fn forest_good(
     feature: &[u32],
     threshold: &[f64],
     score: &[f64],
-    yes: &[u32],
-    no: &[u32],
+    truechild: &[u32],
+    falsechild: &[u32],
 ) -> bool
     requires { ⌜ Started trees (now starts) ⌝ }
-    ensures { λ r. ⌜ r ≡ goodForest features (tableOf trees (now (starts .entry)) (columnsOf (now (value .entry)) (now (feature .entry)) (now (threshold .entry)) (now (score .entry)) (now (yes .entry)) (now (no .entry)))) ⌝ }
+    ensures { λ r. ⌜ r ≡ goodForest features (tableOf trees (now (starts .entry)) (columnsOf (now (value .entry)) (now (feature .entry)) (now (threshold .entry)) (now (score .entry)) (now (truechild .entry)) (now (falsechild .entry)))) ⌝ }
 {
     let n = checks::rooms::shortest_of(
         value.len(),
         feature.len(),
         threshold.len(),
         score.len(),
-        yes.len(),
-        no.len(),
+        truechild.len(),
+        falsechild.len(),
     );
     if starts_good(trees, starts, n) {
         trees_good(
@@ -176,8 +200,8 @@ pub fn forest_good(
             feature,
             threshold,
             score,
-            yes,
-            no,
+            truechild,
+            falsechild,
         )
     } else {
         false
@@ -193,10 +217,10 @@ fn tree_verdict(
     feature: &[u32],
     threshold: &[f64],
     score: &[f64],
-    yes: &[u32],
-    no: &[u32],
+    truechild: &[u32],
+    falsechild: &[u32],
 ) -> u32
-    ensures { λ r. ⌜ r ≡ firstFailed (treeTableTests features (columnsOf (now (value .entry)) (now (feature .entry)) (now (threshold .entry)) (now (score .entry)) (now (yes .entry)) (now (no .entry)))) ⌝ }
+    ensures { λ r. ⌜ r ≡ firstFailed (treeTableTests features (columnsOf (now (value .entry)) (now (feature .entry)) (now (threshold .entry)) (now (score .entry)) (now (truechild .entry)) (now (falsechild .entry)))) ⌝ }
 {
     if !checks::features_in(features) {
         return 1;
@@ -206,10 +230,20 @@ fn tree_verdict(
         feature.len(),
         threshold.len(),
         score.len(),
-        yes.len(),
-        no.len(),
+        truechild.len(),
+        falsechild.len(),
     );
-    if !tree_good(features, 0, n, value, feature, threshold, score, yes, no) {
+    if !tree_good(
+        features,
+        0,
+        n,
+        value,
+        feature,
+        threshold,
+        score,
+        truechild,
+        falsechild,
+    ) {
         return 8;
     }
     0
@@ -222,12 +256,20 @@ pub fn check_tree(
     feature: &[u32],
     threshold: &[f64],
     score: &[f64],
-    yes: &[u32],
-    no: &[u32],
+    truechild: &[u32],
+    falsechild: &[u32],
 ) -> Reply
-    ensures { λ r. ⌜ r ≡ checkTree features (columnsOf (now (value .entry)) (now (feature .entry)) (now (threshold .entry)) (now (score .entry)) (now (yes .entry)) (now (no .entry))) ⌝ }
+    ensures { λ r. ⌜ r ≡ checkTree features (columnsOf (now (value .entry)) (now (feature .entry)) (now (threshold .entry)) (now (score .entry)) (now (truechild .entry)) (now (falsechild .entry))) ⌝ }
 {
-    let number = tree_verdict(features, value, feature, threshold, score, yes, no);
+    let number = tree_verdict(
+        features,
+        value,
+        feature,
+        threshold,
+        score,
+        truechild,
+        falsechild,
+    );
     checks::reply_of(number)
 }
 
@@ -249,10 +291,10 @@ fn forest_verdict(
     feature: &[u32],
     threshold: &[f64],
     score: &[f64],
-    yes: &[u32],
-    no: &[u32],
+    truechild: &[u32],
+    falsechild: &[u32],
 ) -> u32
-    ensures { λ r. ⌜ r ≡ firstFailed (forestTableTests features (tableOf trees (now (starts .entry)) (columnsOf (now (value .entry)) (now (feature .entry)) (now (threshold .entry)) (now (score .entry)) (now (yes .entry)) (now (no .entry))))) ⌝ }
+    ensures { λ r. ⌜ r ≡ firstFailed (forestTableTests features (tableOf trees (now (starts .entry)) (columnsOf (now (value .entry)) (now (feature .entry)) (now (threshold .entry)) (now (score .entry)) (now (truechild .entry)) (now (falsechild .entry))))) ⌝ }
 {
     if !forest_in(features, trees) {
         return 1;
@@ -268,8 +310,8 @@ fn forest_verdict(
         feature,
         threshold,
         score,
-        yes,
-        no,
+        truechild,
+        falsechild,
     ) {
         return 8;
     }
@@ -285,10 +327,10 @@ pub fn check_forest(
     feature: &[u32],
     threshold: &[f64],
     score: &[f64],
-    yes: &[u32],
-    no: &[u32],
+    truechild: &[u32],
+    falsechild: &[u32],
 ) -> Reply
-    ensures { λ r. ⌜ r ≡ checkForest features (tableOf trees (now (starts .entry)) (columnsOf (now (value .entry)) (now (feature .entry)) (now (threshold .entry)) (now (score .entry)) (now (yes .entry)) (now (no .entry)))) ⌝ }
+    ensures { λ r. ⌜ r ≡ checkForest features (tableOf trees (now (starts .entry)) (columnsOf (now (value .entry)) (now (feature .entry)) (now (threshold .entry)) (now (score .entry)) (now (truechild .entry)) (now (falsechild .entry)))) ⌝ }
 {
     let number = forest_verdict(
         features,
@@ -298,19 +340,26 @@ pub fn check_forest(
         feature,
         threshold,
         score,
-        yes,
-        no,
+        truechild,
+        falsechild,
     );
     checks::reply_of(number)
 }
 
 // ---- a node read out
 
-pub fn node_of(value: f64, feature: u32, threshold: f64, score: f64, yes: u32, no: u32) -> Node
-    ensures { λ r. ⌜ r ≡ nodeOf (entryIs value feature threshold score yes no) ⌝ }
+pub fn node_of(
+    value: f64,
+    feature: u32,
+    threshold: f64,
+    score: f64,
+    truechild: u32,
+    falsechild: u32,
+) -> Node
+    ensures { λ r. ⌜ r ≡ nodeOf (entryIs value feature threshold score truechild falsechild) ⌝ }
 {
-    if yes == 0 {
-        if no == 0 {
+    if truechild == 0 {
+        if falsechild == 0 {
             let kind = Kind::Leaf;
             return Node { value, kind };
         }
@@ -319,7 +368,7 @@ pub fn node_of(value: f64, feature: u32, threshold: f64, score: f64, yes: u32, n
     let fork = Fork {
         cut,
         score,
-        children: yes,
+        children: truechild,
     };
     let kind = Kind::Split(fork);
     Node { value, kind }
@@ -332,13 +381,21 @@ pub fn read_node(
     feature: &[u32],
     threshold: &[f64],
     score: &[f64],
-    yes: &[u32],
-    no: &[u32],
+    truechild: &[u32],
+    falsechild: &[u32],
     k: usize,
 ) -> NodeReply
-    ensures { λ r. ⌜ r ≡ readNode features (columnsOf (now (value .entry)) (now (feature .entry)) (now (threshold .entry)) (now (score .entry)) (now (yes .entry)) (now (no .entry))) k ⌝ }
+    ensures { λ r. ⌜ r ≡ readNode features (columnsOf (now (value .entry)) (now (feature .entry)) (now (threshold .entry)) (now (score .entry)) (now (truechild .entry)) (now (falsechild .entry))) k ⌝ }
 {
-    let number = tree_verdict(features, value, feature, threshold, score, yes, no);
+    let number = tree_verdict(
+        features,
+        value,
+        feature,
+        threshold,
+        score,
+        truechild,
+        falsechild,
+    );
     if number != 0 {
         return NodeReply::Refused(number);
     }
@@ -347,12 +404,19 @@ pub fn read_node(
         feature.len(),
         threshold.len(),
         score.len(),
-        yes.len(),
-        no.len(),
+        truechild.len(),
+        falsechild.len(),
     );
     if n <= k {
         return NodeReply::Missing;
     }
-    let node = node_of(value[k], feature[k], threshold[k], score[k], yes[k], no[k]);
+    let node = node_of(
+        value[k],
+        feature[k],
+        threshold[k],
+        score[k],
+        truechild[k],
+        falsechild[k],
+    );
     NodeReply::Read(node)
 }

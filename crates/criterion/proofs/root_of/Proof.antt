@@ -1,5 +1,5 @@
 -- `criterion::root_of` meets its contract: the loop ends at the first number whose next square is above n, and there is one such number. Assumes nothing.
-use Rattle.laws.specs.Tried.{root-only}
+use Rattle.lemmas.specs.Tried.{root-only}
 use Prim.Native.Nat.{ℕ, zero, suc, _+_, _*_, _-_, _≤_}
 use native.Mathlib.Omega.{arith}
 use Rattle.criterion.proofs.root_of.Statement.{statement}

@@ -10,7 +10,7 @@ use Rattle.importances.proofs.add_tree.Statement.{statement}
 use Rattle.importances.proofs.add_tree.Tie as tie
 
 abbrev columns : tie.Start → Columns
-columns s = columnsOf (now (s .args .value)) (now (s .args .feature)) (now (s .args .threshold)) (now (s .args .score)) (now (s .args .yes)) (now (s .args .no))
+columns s = columnsOf (now (s .args .value)) (now (s .args .feature)) (now (s .args .threshold)) (now (s .args .score)) (now (s .args .truechild)) (now (s .args .falsechild))
 
 score-tree-requires : tie.Need-score-tree-requires
 score-tree-requires c κs = let s = c .before .before .before .before .before .before .before .before .before in subst (λ m. TreeLies m (columns s) (s .args .a) (s .args .n)) (sym (s .pre .1)) (s .pre .0)

@@ -11,7 +11,7 @@ use Rattle.importances.proofs.forest_importances.Statement.{statement}
 use Rattle.importances.proofs.forest_importances.Tie as tie
 
 abbrev columns : tie.Start → Columns
-columns s = columnsOf (now (s .args .value)) (now (s .args .feature)) (now (s .args .threshold)) (now (s .args .score)) (now (s .args .yes)) (now (s .args .no))
+columns s = columnsOf (now (s .args .value)) (now (s .args .feature)) (now (s .args .threshold)) (now (s .args .score)) (now (s .args .truechild)) (now (s .args .falsechild))
 
 abbrev table : tie.Start → ForestTable
 table s = tableOf (s .args .trees) (now (s .args .starts)) (columns s)

@@ -11,7 +11,7 @@ use Rattle.importances.proofs.score_tree.Statement.{statement}
 use Rattle.importances.proofs.score_tree.Tie as tie
 
 abbrev columns : tie.Start → Columns
-columns s = columnsOf (now (s .args .value)) (now (s .args .feature)) (now (s .args .threshold)) (now (s .args .score)) (now (s .args .yes)) (now (s .args .no))
+columns s = columnsOf (now (s .args .value)) (now (s .args .feature)) (now (s .args .threshold)) (now (s .args .score)) (now (s .args .truechild)) (now (s .args .falsechild))
 
 zero-f64-requires : tie.Need-zero-f64-requires
 zero-f64-requires c κs = search needs

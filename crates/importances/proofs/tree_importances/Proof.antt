@@ -9,7 +9,7 @@ use Rattle.importances.proofs.tree_importances.Statement.{statement}
 use Rattle.importances.proofs.tree_importances.Tie as tie
 
 abbrev columns : tie.Start → Columns
-columns s = columnsOf (now (s .args .value)) (now (s .args .feature)) (now (s .args .threshold)) (now (s .args .score)) (now (s .args .yes)) (now (s .args .no))
+columns s = columnsOf (now (s .args .value)) (now (s .args .feature)) (now (s .args .threshold)) (now (s .args .score)) (now (s .args .truechild)) (now (s .args .falsechild))
 
 tree-verdict-requires : tie.Need-tree-verdict-requires
 tree-verdict-requires c κs = search needs

@@ -14,7 +14,7 @@ use Rattle.importances.proofs.tree_verdict.Statement.{statement}
 use Rattle.importances.proofs.tree_verdict.Tie as tie
 
 abbrev columns : tie.Start → Columns
-columns s = columnsOf (now (s .args .value)) (now (s .args .feature)) (now (s .args .threshold)) (now (s .args .score)) (now (s .args .yes)) (now (s .args .no))
+columns s = columnsOf (now (s .args .value)) (now (s .args .feature)) (now (s .args .threshold)) (now (s .args .score)) (now (s .args .truechild)) (now (s .args .falsechild))
 
 inside : (c : tie.Else1) → featuresIn (c .before .before .before .before .before .before .before .before .args .features) ≡ true
 inside c = sym (c .before .features-in .ensures) ∙ not-false _ (c .if1 .left)

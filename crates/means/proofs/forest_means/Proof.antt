@@ -9,13 +9,13 @@ use Rattle.rules.specs.Lent.{valuesAt, columnsOf}
 use Rattle.rules.specs.Checks.{firstFailed}
 use Rattle.rules.specs.Table.{ForestTable, treesOf, tableOf}
 use Rattle.rules.specs.Reading.{reads, meanOf, meanTests, forestMeans}
-use Rattle.reading.specs.Ends.{reads-refused, reads-done}
+use Rattle.predict.specs.Ends.{reads-refused, reads-done}
 use Rattle.means.specs.Means.{mean-passed, all-means}
 use Rattle.means.proofs.forest_means.Statement.{statement}
 use Rattle.means.proofs.forest_means.Tie as tie
 
 abbrev table : tie.Start → ForestTable
-table s = tableOf (s .args .trees) (now (s .args .starts)) (columnsOf (now (s .args .value)) (now (s .args .feature)) (now (s .args .threshold)) (now (s .args .score)) (now (s .args .yes)) (now (s .args .no)))
+table s = tableOf (s .args .trees) (now (s .args .starts)) (columnsOf (now (s .args .value)) (now (s .args .feature)) (now (s .args .threshold)) (now (s .args .score)) (now (s .args .truechild)) (now (s .args .falsechild)))
 
 abbrev meant : tie.Start → List Float
 meant s = map (λ i. meanOf (treesOf (table s)) (valuesAt (s .args .shape .features) (now (s .args .values)) i)) (from 0 (s .args .shape .rows))

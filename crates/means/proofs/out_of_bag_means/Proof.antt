@@ -10,13 +10,13 @@ use Rattle.rules.specs.Checks.{firstFailed}
 use Rattle.rules.specs.Table.{ForestTable, tableOf}
 use Rattle.rules.specs.Reading.{reads}
 use Rattle.rules.specs.OutOfBag.{outTests, outOfBagMean, outOfBagMeans}
-use Rattle.reading.specs.Ends.{reads-refused, reads-done}
+use Rattle.predict.specs.Ends.{reads-refused, reads-done}
 use Rattle.means.specs.Means.{out-passed}
 use Rattle.means.proofs.out_of_bag_means.Statement.{statement}
 use Rattle.means.proofs.out_of_bag_means.Tie as tie
 
 abbrev table : tie.Start → ForestTable
-table s = tableOf (s .args .trees) (now (s .args .starts)) (columnsOf (now (s .args .value)) (now (s .args .feature)) (now (s .args .threshold)) (now (s .args .score)) (now (s .args .yes)) (now (s .args .no)))
+table s = tableOf (s .args .trees) (now (s .args .starts)) (columnsOf (now (s .args .value)) (now (s .args .feature)) (now (s .args .threshold)) (now (s .args .score)) (now (s .args .truechild)) (now (s .args .falsechild)))
 
 abbrev meant : tie.Start → List Float
 meant s = map (outOfBagMean (s .args .shape) (now (s .args .values)) (now (s .args .counts)) (table s)) (from 0 (s .args .shape .rows))

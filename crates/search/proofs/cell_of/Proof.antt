@@ -31,7 +31,7 @@ value-of-requires : tie.Need-value-of-requires
 value-of-requires c κs = let p = c .before .before .before .before .before .before .before .pre in let a = c .before .before .before .before .before .before .before .args in place (a .r) (a .rows) (a .features) (a .j) (p .1) (p .0 .wide) (p .2)
 
 returns : tie.Need-returns
-returns c = let a = c .before .before .before .before .before .before .before .before .args in cell-is (a .features) (record { x = a .x .now; y = a .y .now; weights = a .weights .now; counts = a .counts .now }) (a .j) (a .r) (c .before .before .before .before .before .before .before .before .pre .2) (c .before .mass-of .ensures) (c .value-of .ensures)
+returns c = let a = c .before .before .before .before .before .before .before .before .args in cell-is (a .features) (record { values = a .values .now; targets = a .targets .now; weights = a .weights .now; counts = a .counts .now }) (a .j) (a .r) (c .before .before .before .before .before .before .before .before .pre .2) (c .before .mass-of .ensures) (c .value-of .ensures)
 
 pub cell-of-spec : {M : Type 1} → statement M
 cell-of-spec =

@@ -14,7 +14,7 @@ sub-if1 : tie.Need-sub-if1
 sub-if1 c = search needs
 
 returns : tie.Need-returns
-returns c = let a = c .before .before .before .before .before .before .before .before .args in search-short (a .p) (a .words .now) (a .thresholds .now) (taskAt (a .rows) (a .features) (a .from) (a .to) (record { x = a .x .now; y = a .y .now; weights = a .weights .now; counts = a .counts .now }) (a .cols .now) (a .a)) (a .d) (c .before .before .before .before .before .before .before .before .pre .4) (subst (λ n. length (a .words .now) - a .d .words < n) (c .before .before .before .before .before .before .before .before .pre .1) (c .if1 .taken))
+returns c = let a = c .before .before .before .before .before .before .before .before .args in search-short (a .p) (a .words .now) (a .thresholds .now) (taskAt (a .rows) (a .features) (a .from) (a .to) (record { values = a .values .now; targets = a .targets .now; weights = a .weights .now; counts = a .counts .now }) (a .order .now) (a .a)) (a .d) (c .before .before .before .before .before .before .before .before .pre .4) (subst (λ n. length (a .words .now) - a .d .words < n) (c .before .before .before .before .before .before .before .before .pre .1) (c .if1 .taken))
 
 choice-good-requires : tie.Need-choice-good-requires
 choice-good-requires c κs = (c .before .before .before .before .before .before .before .before .pre .2, omega (arith, c .before .before .before .before .before .before .before .before .pre .4 .0, c .if1 .left))
@@ -39,7 +39,7 @@ enum-told : tie.Need-enum-told
 enum-told c = search needs
 
 returns-2 : tie.Need-returns-2
-returns-2 c = let a = c .before .before .before .before .before .before .before .before .before .before .before .before .before .before .before .args in search-stop (a .p) (a .words .now) (a .thresholds .now) (taskAt (a .rows) (a .features) (a .from) (a .to) (record { x = a .x .now; y = a .y .now; weights = a .weights .now; counts = a .counts .now }) (a .cols .now) (a .a)) (a .d) (c .before .before .before .before .before .before .before .before .before .before .before .before .before .before .before .pre .4) (sym (ap (λ n. eachOnce n (take n (drop (a .d .words) (a .words .now)))) (c .before .before .before .before .before .before .before .before .before .before .before .before .before .before .before .pre .1)) ∙ sym (c .before .before .before .before .before .before .choice-good .ensures) ∙ c .before .before .before .before .before .if2 .taken) (c .before .before .before .lesser .ensures ∙ ap (λ z. min z (a .features)) (c .before .before .before .before .wide .ensures) ∙ ap (min (a .p .tried)) (c .before .before .before .before .before .before .before .before .before .before .before .before .before .before .before .pre .1)) _ (c .before .before .try-all .ensures) (c .enum-told .given .1)
+returns-2 c = let a = c .before .before .before .before .before .before .before .before .before .before .before .before .before .before .before .args in search-stop (a .p) (a .words .now) (a .thresholds .now) (taskAt (a .rows) (a .features) (a .from) (a .to) (record { values = a .values .now; targets = a .targets .now; weights = a .weights .now; counts = a .counts .now }) (a .order .now) (a .a)) (a .d) (c .before .before .before .before .before .before .before .before .before .before .before .before .before .before .before .pre .4) (sym (ap (λ n. eachOnce n (take n (drop (a .d .words) (a .words .now)))) (c .before .before .before .before .before .before .before .before .before .before .before .before .before .before .before .pre .1)) ∙ sym (c .before .before .before .before .before .before .choice-good .ensures) ∙ c .before .before .before .before .before .if2 .taken) (c .before .before .before .lesser .ensures ∙ ap (λ z. min z (a .features)) (c .before .before .before .before .wide .ensures) ∙ ap (min (a .p .tried)) (c .before .before .before .before .before .before .before .before .before .before .before .before .before .before .before .pre .1)) _ (c .before .before .try-all .ensures) (c .enum-told .given .1)
 
 add-t24 : tie.Need-add-t24
 add-t24 c = omega (arith, c .before .before .before .before .before .before .before .before .before .before .before .before .before .before .before .before .pre .4 .0, c .before .before .before .before .before .before .before .before .if1 .left, c .before .before .before .before .before .before .before .before .before .before .before .before .before .before .before .before .good .1 .1 .1 .1 .1 .0 .0)
@@ -48,10 +48,10 @@ add-t25 : tie.Need-add-t25
 add-t25 c = omega (arith, c .before .before .before .before .before .before .before .before .before .before .before .before .before .before .before .before .before .pre .4 .0, c .before .before .before .before .before .before .before .before .before .before .before .before .before .before .before .before .before .pre .4 .1, c .before .before .before .before .before .before .before .before .before .before .before .before .before .before .before .before .before .pre .3, c .before .before .before .before .before .before .before .before .before .if1 .left, c .before .before .before .before .before .before .before .before .before .before .before .before .before .before .before .before .before .good .1 .1 .1 .1 .1 .0 .0)
 
 returns-3 : tie.Need-returns-3
-returns-3 c = let a = c .before .before .before .before .before .before .before .before .before .before .before .before .before .before .before .before .before .args in search-goes (a .p) (a .words .now) (a .thresholds .now) (taskAt (a .rows) (a .features) (a .from) (a .to) (record { x = a .x .now; y = a .y .now; weights = a .weights .now; counts = a .counts .now }) (a .cols .now) (a .a)) (a .d) (c .before .before .before .before .before .before .before .before .before .before .before .before .before .before .before .before .before .pre .4) (sym (ap (λ n. eachOnce n (take n (drop (a .d .words) (a .words .now)))) (c .before .before .before .before .before .before .before .before .before .before .before .before .before .before .before .before .before .pre .1)) ∙ sym (c .before .before .before .before .before .before .before .before .choice-good .ensures) ∙ c .before .before .before .before .before .before .before .if2 .taken) (c .before .before .before .before .before .lesser .ensures ∙ ap (λ z. min z (a .features)) (c .before .before .before .before .before .before .wide .ensures) ∙ ap (min (a .p .tried)) (c .before .before .before .before .before .before .before .before .before .before .before .before .before .before .before .before .before .pre .1)) _ (c .before .before .before .before .try-all .ensures) _ _ (c .before .before .r .given .1) (a .features) (c .before .before .before .before .before .before .before .before .before .before .before .before .before .before .before .before .before .pre .1) (omega (arith, c .before .before .before .before .before .before .before .before .before .before .before .before .before .before .before .before .before .pre .4 .0, c .before .before .before .before .before .before .before .before .before .if1 .left)) (c .before .before .before .before .before .before .before .before .before .before .before .before .before .before .before .before .before .pre .3)
+returns-3 c = let a = c .before .before .before .before .before .before .before .before .before .before .before .before .before .before .before .before .before .args in search-goes (a .p) (a .words .now) (a .thresholds .now) (taskAt (a .rows) (a .features) (a .from) (a .to) (record { values = a .values .now; targets = a .targets .now; weights = a .weights .now; counts = a .counts .now }) (a .order .now) (a .a)) (a .d) (c .before .before .before .before .before .before .before .before .before .before .before .before .before .before .before .before .before .pre .4) (sym (ap (λ n. eachOnce n (take n (drop (a .d .words) (a .words .now)))) (c .before .before .before .before .before .before .before .before .before .before .before .before .before .before .before .before .before .pre .1)) ∙ sym (c .before .before .before .before .before .before .before .before .choice-good .ensures) ∙ c .before .before .before .before .before .before .before .if2 .taken) (c .before .before .before .before .before .lesser .ensures ∙ ap (λ z. min z (a .features)) (c .before .before .before .before .before .before .wide .ensures) ∙ ap (min (a .p .tried)) (c .before .before .before .before .before .before .before .before .before .before .before .before .before .before .before .before .before .pre .1)) _ (c .before .before .before .before .try-all .ensures) _ _ (c .before .before .r .given .1) (a .features) (c .before .before .before .before .before .before .before .before .before .before .before .before .before .before .before .before .before .pre .1) (omega (arith, c .before .before .before .before .before .before .before .before .before .before .before .before .before .before .before .before .before .pre .4 .0, c .before .before .before .before .before .before .before .before .before .if1 .left)) (c .before .before .before .before .before .before .before .before .before .before .before .before .before .before .before .before .before .pre .3)
 
 returns-4 : tie.Need-returns-4
-returns-4 c = let a = c .before .before .before .before .before .before .before .before .before .before .args in search-bad (a .p) (a .words .now) (a .thresholds .now) (taskAt (a .rows) (a .features) (a .from) (a .to) (record { x = a .x .now; y = a .y .now; weights = a .weights .now; counts = a .counts .now }) (a .cols .now) (a .a)) (a .d) (c .before .before .before .before .before .before .before .before .before .before .pre .4) (sym (ap (λ n. eachOnce n (take n (drop (a .d .words) (a .words .now)))) (c .before .before .before .before .before .before .before .before .before .before .pre .1)) ∙ sym (c .before .choice-good .ensures) ∙ c .if2 .left)
+returns-4 c = let a = c .before .before .before .before .before .before .before .before .before .before .args in search-bad (a .p) (a .words .now) (a .thresholds .now) (taskAt (a .rows) (a .features) (a .from) (a .to) (record { values = a .values .now; targets = a .targets .now; weights = a .weights .now; counts = a .counts .now }) (a .order .now) (a .a)) (a .d) (c .before .before .before .before .before .before .before .before .before .before .pre .4) (sym (ap (λ n. eachOnce n (take n (drop (a .d .words) (a .words .now)))) (c .before .before .before .before .before .before .before .before .before .before .pre .1)) ∙ sym (c .before .choice-good .ensures) ∙ c .if2 .left)
 
 pub search-node-spec : {M : Type 1} → statement M
 search-node-spec =

@@ -14,19 +14,19 @@ wide-requires : tie.Need-wide-requires
 wide-requires c κs = search needs
 
 mul-base : tie.Need-mul-base
-mul-base c = omega (arith, column-room (c .before .before .before .before .before .before .before .args .rows) (c .before .before .before .before .before .before .before .args .features) (c .before .before .before .before .before .before .before .args .j) (c .wide .ensures) (c .before .before .before .before .before .before .before .pre .1), c .before .before .before .before .before .before .before .pre .0 .long, c .before .before .before .before .before .before .before .pre .0 .high, c .before .before .before .before .before .before .before .pre .0 .order, c .before .before .before .before .before .before .before .good .1 .1 .1 .1 .0 .0)
+mul-base c = omega (arith, column-room (c .before .before .before .before .before .before .before .args .rows) (c .before .before .before .before .before .before .before .args .features) (c .before .before .before .before .before .before .before .args .j) (c .wide .ensures) (c .before .before .before .before .before .before .before .pre .1), c .before .before .before .before .before .before .before .pre .0 .long, c .before .before .before .before .before .before .before .pre .0 .high, c .before .before .before .before .before .before .before .pre .0 .ordered, c .before .before .before .before .before .before .before .good .1 .1 .1 .1 .0 .0)
 
 add-lo : tie.Need-add-lo
-add-lo c = omega (arith, column-room (c .before .before .before .before .before .before .before .args .rows) (c .before .before .before .before .before .before .before .args .features) (c .before .before .before .before .before .before .before .args .j) (c .wide .ensures) (c .before .before .before .before .before .before .before .pre .1), c .before .before .before .before .before .before .before .pre .0 .long, c .before .before .before .before .before .before .before .pre .0 .high, c .before .before .before .before .before .before .before .pre .0 .order, c .before .before .before .before .before .before .before .good .1 .1 .1 .1 .0 .0)
+add-lo c = omega (arith, column-room (c .before .before .before .before .before .before .before .args .rows) (c .before .before .before .before .before .before .before .args .features) (c .before .before .before .before .before .before .before .args .j) (c .wide .ensures) (c .before .before .before .before .before .before .before .pre .1), c .before .before .before .before .before .before .before .pre .0 .long, c .before .before .before .before .before .before .before .pre .0 .high, c .before .before .before .before .before .before .before .pre .0 .ordered, c .before .before .before .before .before .before .before .good .1 .1 .1 .1 .0 .0)
 
 add-hi : tie.Need-add-hi
-add-hi c = omega (arith, column-room (c .before .before .before .before .before .before .before .args .rows) (c .before .before .before .before .before .before .before .args .features) (c .before .before .before .before .before .before .before .args .j) (c .wide .ensures) (c .before .before .before .before .before .before .before .pre .1), c .before .before .before .before .before .before .before .pre .0 .long, c .before .before .before .before .before .before .before .pre .0 .high, c .before .before .before .before .before .before .before .pre .0 .order, c .before .before .before .before .before .before .before .good .1 .1 .1 .1 .0 .0)
+add-hi c = omega (arith, column-room (c .before .before .before .before .before .before .before .args .rows) (c .before .before .before .before .before .before .before .args .features) (c .before .before .before .before .before .before .before .args .j) (c .wide .ensures) (c .before .before .before .before .before .before .before .pre .1), c .before .before .before .before .before .before .before .pre .0 .long, c .before .before .before .before .before .before .before .pre .0 .high, c .before .before .before .before .before .before .before .pre .0 .ordered, c .before .before .before .before .before .before .before .good .1 .1 .1 .1 .0 .0)
 
 enum-told : tie.Need-enum-told
 enum-told c = search needs
 
 mul-best-in : tie.Need-mul-best-in
-mul-best-in c = omega (arith, column-room (c .before .before .before .before .before .before .before .before .before .args .rows) (c .before .before .before .before .before .before .before .before .before .args .features) (c .before .before .before .before .before .before .before .before .before .args .j) (c .before .before .wide .ensures) (c .before .before .before .before .before .before .before .before .before .pre .1), c .before .before .before .before .before .before .before .before .before .pre .0 .long, c .before .before .before .before .before .before .before .before .before .pre .0 .high, c .before .before .before .before .before .before .before .before .before .pre .0 .order, c .before .before .before .before .before .before .before .before .before .good .1 .1 .1 .1 .0 .0)
+mul-best-in c = omega (arith, column-room (c .before .before .before .before .before .before .before .before .before .args .rows) (c .before .before .before .before .before .before .before .before .before .args .features) (c .before .before .before .before .before .before .before .before .before .args .j) (c .before .before .wide .ensures) (c .before .before .before .before .before .before .before .before .before .pre .1), c .before .before .before .before .before .before .before .before .before .pre .0 .long, c .before .before .before .before .before .before .before .before .before .pre .0 .high, c .before .before .before .before .before .before .before .before .before .pre .0 .ordered, c .before .before .before .before .before .before .before .before .before .good .1 .1 .1 .1 .0 .0)
 
 sub-best-in : tie.Need-sub-best-in
 sub-best-in c = search needs
@@ -35,19 +35,19 @@ part-best-in-start : tie.Need-part-best-in-start
 part-best-in-start c = search needs
 
 part-best-in-end : tie.Need-part-best-in-end
-part-best-in-end c = omega (arith, column-room (c .before .before .before .before .before .before .before .before .before .args .rows) (c .before .before .before .before .before .before .before .before .before .args .features) (c .before .before .before .before .before .before .before .before .before .args .j) (c .before .before .wide .ensures) (c .before .before .before .before .before .before .before .before .before .pre .1), c .before .before .before .before .before .before .before .before .before .pre .0 .long, c .before .before .before .before .before .before .before .before .before .pre .0 .high, c .before .before .before .before .before .before .before .before .before .pre .0 .order, c .before .before .before .before .before .before .before .before .before .good .1 .1 .1 .1 .0 .0)
+part-best-in-end c = omega (arith, column-room (c .before .before .before .before .before .before .before .before .before .args .rows) (c .before .before .before .before .before .before .before .before .before .args .features) (c .before .before .before .before .before .before .before .before .before .args .j) (c .before .before .wide .ensures) (c .before .before .before .before .before .before .before .before .before .pre .1), c .before .before .before .before .before .before .before .before .before .pre .0 .long, c .before .before .before .before .before .before .before .before .before .pre .0 .high, c .before .before .before .before .before .before .before .before .before .pre .0 .ordered, c .before .before .before .before .before .before .before .before .before .good .1 .1 .1 .1 .0 .0)
 
 best-in-requires : tie.Need-best-in-requires
 best-in-requires c κs =
     let a = c .before .before .before .before .before .before .before .before .before .before .args in
     let q = c .before .before .before .before .before .before .before .before .before .before .pre .0 in
-    (subst (Below (a .rows)) (sym (part-is (a .rows) (a .cols .now) (a .from) (a .to) (a .j) (c .before .before .before .wide .ensures) (q .order))) (q .below (a .j) (c .before .before .before .before .before .before .before .before .before .before .pre .1)), ((q .shape, c .before .before .before .before .before .before .before .before .before .before .pre .1), subst (λ l. tally (map (elementOf (a .features) (record { x = a .x .now; y = a .y .now; weights = a .weights .now; counts = a .counts .now })) l) ≤ a .a .count) (sym (part-is (a .rows) (a .cols .now) (a .from) (a .to) (a .j) (c .before .before .before .wide .ensures) (q .order))) (q .room (a .j) (c .before .before .before .before .before .before .before .before .before .before .pre .1))))
+    (subst (Below (a .rows)) (sym (part-is (a .rows) (a .order .now) (a .from) (a .to) (a .j) (c .before .before .before .wide .ensures) (q .ordered))) (q .below (a .j) (c .before .before .before .before .before .before .before .before .before .before .pre .1)), ((q .shape, c .before .before .before .before .before .before .before .before .before .before .pre .1), subst (λ l. tally (map (elementOf (a .features) (record { values = a .values .now; targets = a .targets .now; weights = a .weights .now; counts = a .counts .now })) l) ≤ a .a .count) (sym (part-is (a .rows) (a .order .now) (a .from) (a .to) (a .j) (c .before .before .before .wide .ensures) (q .ordered))) (q .room (a .j) (c .before .before .before .before .before .before .before .before .before .before .pre .1))))
 
 enum-told-2 : tie.Need-enum-told-2
 enum-told-2 c = search needs
 
 mul-random-in : tie.Need-mul-random-in
-mul-random-in c = omega (arith, column-room (c .before .before .before .before .before .before .before .before .before .args .rows) (c .before .before .before .before .before .before .before .before .before .args .features) (c .before .before .before .before .before .before .before .before .before .args .j) (c .before .before .wide .ensures) (c .before .before .before .before .before .before .before .before .before .pre .1), c .before .before .before .before .before .before .before .before .before .pre .0 .long, c .before .before .before .before .before .before .before .before .before .pre .0 .high, c .before .before .before .before .before .before .before .before .before .pre .0 .order, c .before .before .before .before .before .before .before .before .before .good .1 .1 .1 .1 .0 .0)
+mul-random-in c = omega (arith, column-room (c .before .before .before .before .before .before .before .before .before .args .rows) (c .before .before .before .before .before .before .before .before .before .args .features) (c .before .before .before .before .before .before .before .before .before .args .j) (c .before .before .wide .ensures) (c .before .before .before .before .before .before .before .before .before .pre .1), c .before .before .before .before .before .before .before .before .before .pre .0 .long, c .before .before .before .before .before .before .before .before .before .pre .0 .high, c .before .before .before .before .before .before .before .before .before .pre .0 .ordered, c .before .before .before .before .before .before .before .before .before .good .1 .1 .1 .1 .0 .0)
 
 sub-random-in : tie.Need-sub-random-in
 sub-random-in c = search needs
@@ -56,19 +56,19 @@ part-random-in-start : tie.Need-part-random-in-start
 part-random-in-start c = search needs
 
 part-random-in-end : tie.Need-part-random-in-end
-part-random-in-end c = omega (arith, column-room (c .before .before .before .before .before .before .before .before .before .args .rows) (c .before .before .before .before .before .before .before .before .before .args .features) (c .before .before .before .before .before .before .before .before .before .args .j) (c .before .before .wide .ensures) (c .before .before .before .before .before .before .before .before .before .pre .1), c .before .before .before .before .before .before .before .before .before .pre .0 .long, c .before .before .before .before .before .before .before .before .before .pre .0 .high, c .before .before .before .before .before .before .before .before .before .pre .0 .order, c .before .before .before .before .before .before .before .before .before .good .1 .1 .1 .1 .0 .0)
+part-random-in-end c = omega (arith, column-room (c .before .before .before .before .before .before .before .before .before .args .rows) (c .before .before .before .before .before .before .before .before .before .args .features) (c .before .before .before .before .before .before .before .before .before .args .j) (c .before .before .wide .ensures) (c .before .before .before .before .before .before .before .before .before .pre .1), c .before .before .before .before .before .before .before .before .before .pre .0 .long, c .before .before .before .before .before .before .before .before .before .pre .0 .high, c .before .before .before .before .before .before .before .before .before .pre .0 .ordered, c .before .before .before .before .before .before .before .before .before .good .1 .1 .1 .1 .0 .0)
 
 random-in-requires : tie.Need-random-in-requires
 random-in-requires c κs =
     let a = c .before .before .before .before .before .before .before .before .before .before .args in
     let q = c .before .before .before .before .before .before .before .before .before .before .pre .0 in
-    (subst (Below (a .rows)) (sym (part-is (a .rows) (a .cols .now) (a .from) (a .to) (a .j) (c .before .before .before .wide .ensures) (q .order))) (q .below (a .j) (c .before .before .before .before .before .before .before .before .before .before .pre .1)), ((q .shape, c .before .before .before .before .before .before .before .before .before .before .pre .1), subst (λ l. tally (map (elementOf (a .features) (record { x = a .x .now; y = a .y .now; weights = a .weights .now; counts = a .counts .now })) l) ≤ a .a .count) (sym (part-is (a .rows) (a .cols .now) (a .from) (a .to) (a .j) (c .before .before .before .wide .ensures) (q .order))) (q .room (a .j) (c .before .before .before .before .before .before .before .before .before .before .pre .1))))
+    (subst (Below (a .rows)) (sym (part-is (a .rows) (a .order .now) (a .from) (a .to) (a .j) (c .before .before .before .wide .ensures) (q .ordered))) (q .below (a .j) (c .before .before .before .before .before .before .before .before .before .before .pre .1)), ((q .shape, c .before .before .before .before .before .before .before .before .before .before .pre .1), subst (λ l. tally (map (elementOf (a .features) (record { values = a .values .now; targets = a .targets .now; weights = a .weights .now; counts = a .counts .now })) l) ≤ a .a .count) (sym (part-is (a .rows) (a .order .now) (a .from) (a .to) (a .j) (c .before .before .before .wide .ensures) (q .ordered))) (q .room (a .j) (c .before .before .before .before .before .before .before .before .before .before .pre .1))))
 
 returns : tie.Need-returns
-returns c = λ W s. let a = c .before .before .before .before .before .before .before .before .before .before .before .args in let q = c .before .before .before .before .before .before .before .before .before .before .before .pre .0 in try-best (a .rows) (a .features) (a .from) (a .to) (record { x = a .x .now; y = a .y .now; weights = a .weights .now; counts = a .counts .now }) (a .cols .now) (a .a) (a .p) (a .j) (c .before .before .before .before .before .before .before .before .before .before .before .pre .1) (a .h) (left W (a .thresholds .now) s (a .m)) (part-is (a .rows) (a .cols .now) (a .from) (a .to) (a .j) (c .before .before .before .before .wide .ensures) (q .order)) (c .best-in .ensures) (c .before .before .enum-told .given .1)
+returns c = λ W s. let a = c .before .before .before .before .before .before .before .before .before .before .before .args in let q = c .before .before .before .before .before .before .before .before .before .before .before .pre .0 in try-best (a .rows) (a .features) (a .from) (a .to) (record { values = a .values .now; targets = a .targets .now; weights = a .weights .now; counts = a .counts .now }) (a .order .now) (a .a) (a .p) (a .j) (c .before .before .before .before .before .before .before .before .before .before .before .pre .1) (a .h) (left W (a .thresholds .now) s (a .m)) (part-is (a .rows) (a .order .now) (a .from) (a .to) (a .j) (c .before .before .before .before .wide .ensures) (q .ordered)) (c .best-in .ensures) (c .before .before .enum-told .given .1)
 
 returns-2 : tie.Need-returns-2
-returns-2 c = λ W s. let a = c .before .before .before .before .before .before .before .before .before .before .before .args in let q = c .before .before .before .before .before .before .before .before .before .before .before .pre .0 in try-random (a .rows) (a .features) (a .from) (a .to) (record { x = a .x .now; y = a .y .now; weights = a .weights .now; counts = a .counts .now }) (a .cols .now) (a .a) (a .p) (a .j) (c .before .before .before .before .before .before .before .before .before .before .before .pre .1) (record { best = a .h; left = left W (a .thresholds .now) s (a .m) }) (part-is (a .rows) (a .cols .now) (a .from) (a .to) (a .j) (c .before .before .before .before .wide .ensures) (q .order)) (c .random-in .ensures W s) (c .before .before .enum-told2 .given .1)
+returns-2 c = λ W s. let a = c .before .before .before .before .before .before .before .before .before .before .before .args in let q = c .before .before .before .before .before .before .before .before .before .before .before .pre .0 in try-random (a .rows) (a .features) (a .from) (a .to) (record { values = a .values .now; targets = a .targets .now; weights = a .weights .now; counts = a .counts .now }) (a .order .now) (a .a) (a .p) (a .j) (c .before .before .before .before .before .before .before .before .before .before .before .pre .1) (record { best = a .h; left = left W (a .thresholds .now) s (a .m) }) (part-is (a .rows) (a .order .now) (a .from) (a .to) (a .j) (c .before .before .before .before .wide .ensures) (q .ordered)) (c .random-in .ensures W s) (c .before .before .enum-told2 .given .1)
 
 pub try-one-spec : {M : Type 1} → statement M
 try-one-spec =

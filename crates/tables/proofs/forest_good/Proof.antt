@@ -9,7 +9,7 @@ use Rattle.tables.proofs.forest_good.Statement.{statement}
 use Rattle.tables.proofs.forest_good.Tie as tie
 
 abbrev columns : tie.Start → Columns
-columns s = columnsOf (now (s .args .value)) (now (s .args .feature)) (now (s .args .threshold)) (now (s .args .score)) (now (s .args .yes)) (now (s .args .no))
+columns s = columnsOf (now (s .args .value)) (now (s .args .feature)) (now (s .args .threshold)) (now (s .args .score)) (now (s .args .truechild)) (now (s .args .falsechild))
 
 abbrev table : tie.Start → ForestTable
 table s = tableOf (s .args .trees) (now (s .args .starts)) (columns s)

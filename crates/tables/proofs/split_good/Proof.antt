@@ -9,7 +9,7 @@ use Rattle.tables.proofs.split_good.Statement.{statement}
 use Rattle.tables.proofs.split_good.Tie as tie
 
 -- widened, the numbers are the same
-same : (c : tie.After-wide3) → let a = c .before .before .before .args in goodSplit (a .features) (a .n) (a .k) (c .wide3 .result) (c .before .before .wide .result) (c .before .wide2 .result) ≡ goodSplit (a .features) (a .n) (a .k) (a .feature) (a .yes) (a .no)
+same : (c : tie.After-wide3) → let a = c .before .before .before .args in goodSplit (a .features) (a .n) (a .k) (c .wide3 .result) (c .before .before .wide .result) (c .before .wide2 .result) ≡ goodSplit (a .features) (a .n) (a .k) (a .feature) (a .truechild) (a .falsechild)
 same c = let a = c .before .before .before .args in λ i. goodSplit (a .features) (a .n) (a .k) (c .wide3 .ensures .0 i) (c .before .before .wide .ensures .0 i) (c .before .wide2 .ensures .0 i)
 
 wide-requires : tie.Need-wide-requires

@@ -12,7 +12,7 @@ use lib.Dec.{leb, ltb}
 use Rattle.rules.specs.Table.{startsGood}
 use Rattle.rules.specs.Words.{along}
 use Rattle.rules.specs.Lent.{shortest}
-use Rattle.laws.specs.Lists.{same-default}
+use Rattle.lemmas.specs.Lists.{same-default}
 use Rattle.checks.specs.Tests.{and-on, and-off}
 use Rattle.tables.proofs.starts_good.Statement.{statement}
 use Rattle.tables.proofs.starts_good.Tie as tie

@@ -6,7 +6,7 @@ use mathlib.Core.Path.{_≡_, sym, _∙_}
 use Prim.Native.Nat.{_≤_, _-_, _+_}
 use denote.Ref.{now}
 use Rattle.rules.specs.Table.{goodTree}
-use Rattle.rules.specs.Threshold.{threshold}
+use Rattle.rules.specs.Threshold.{thresholdBetween}
 use Rattle.rules.specs.Lent.{Columns, entryAt, entriesAt, columnsOf}
 use Rattle.tables.specs.Laws.{goodOn, tree-starts, tree-none, tree-goes, tree-stops, tree-ends, bare-same}
 use Rattle.tables.proofs.tree_good.Statement.{statement}
@@ -19,7 +19,7 @@ abbrev μ-loop : tie.MeasureT-loop
 μ-loop features a n value feature threshold score trues falses k₀ k = n - k
 
 abbrev columns : tie.Start Inv-loop μ-loop → Columns
-columns s = columnsOf (now (s .args .value)) (now (s .args .feature)) (now (s .args .threshold)) (now (s .args .score)) (now (s .args .yes)) (now (s .args .no))
+columns s = columnsOf (now (s .args .value)) (now (s .args .feature)) (now (s .args .threshold)) (now (s .args .score)) (now (s .args .truechild)) (now (s .args .falsechild))
 
 returns : tie.Need-returns Inv-loop μ-loop
 returns c = let s = c .before .before .before .before .before .before .before in tree-none (s .args .features) (columns s) (s .args .a) (s .args .n) (c .if1 .taken)

@@ -11,7 +11,7 @@ use Rattle.tables.proofs.tree_verdict.Statement.{statement}
 use Rattle.tables.proofs.tree_verdict.Tie as tie
 
 abbrev columns : tie.Start → Columns
-columns s = columnsOf (now (s .args .value)) (now (s .args .feature)) (now (s .args .threshold)) (now (s .args .score)) (now (s .args .yes)) (now (s .args .no))
+columns s = columnsOf (now (s .args .value)) (now (s .args .feature)) (now (s .args .threshold)) (now (s .args .score)) (now (s .args .truechild)) (now (s .args .falsechild))
 
 -- all that is lent was looked at
 looked : (c : tie.After-tree-good) → c .tree-good .result ≡ goodTree (c .before .before .before .before .before .before .before .before .before .before .args .features) (treeIn (columns (c .before .before .before .before .before .before .before .before .before .before)))

@@ -10,7 +10,7 @@ use Prim.Native.Nat.{ℕ, suc, _≤_, _<_, _-_, _+_}
 use denote.Ref.{now}
 use lib.ListN.{getD}
 use Rattle.rules.specs.Table.{goodTree, ForestTable, treeAt, treesOf, tableOf}
-use Rattle.rules.specs.Threshold.{threshold}
+use Rattle.rules.specs.Threshold.{thresholdBetween}
 use Rattle.rules.specs.Words.{from, every}
 use Rattle.rules.specs.Lent.{Columns, entriesAt, columnsOf}
 use Rattle.checks.specs.Scans.{everyOn, count-goes, count-stops, count-ends, count-starts}
@@ -31,7 +31,7 @@ abbrev μ-loop : tie.MeasureT-loop
 μ-loop features trees starts value feature threshold score trues falses t₀ t = trees - t
 
 abbrev columns : tie.Start Inv-loop μ-loop → Columns
-columns s = columnsOf (now (s .args .value)) (now (s .args .feature)) (now (s .args .threshold)) (now (s .args .score)) (now (s .args .yes)) (now (s .args .no))
+columns s = columnsOf (now (s .args .value)) (now (s .args .feature)) (now (s .args .threshold)) (now (s .args .score)) (now (s .args .truechild)) (now (s .args .falsechild))
 
 abbrev table : tie.Start Inv-loop μ-loop → ForestTable
 table s = tableOf (s .args .trees) (now (s .args .starts)) (columns s)

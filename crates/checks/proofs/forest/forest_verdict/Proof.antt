@@ -5,7 +5,7 @@ use mathlib.Core.Path.{_≡_, sym, _∙_}
 use mathlib.Core.Bool.{true, _&&_}
 use Prim.Native.Nat.{_≤_}
 use denote.Ref.{now}
-use Rattle.rules.specs.Checks.{treesIn, shapeIn, lengths, goodCuts, numbersGood, countsGood, countsOne}
+use Rattle.rules.specs.Checks.{treesIn, shapeIn, lengths, goodStarts, numbersGood, countsGood, countsOne}
 use Rattle.rules.specs.Listing.{listingsGood}
 use Rattle.rules.specs.Lent.{Given, givenOf}
 use Rattle.checks.specs.Tests.{and-both, passes, fails, none-failed, within-top}
@@ -22,7 +22,7 @@ start c = c .before .before .before .before .before .before .before .before .bef
 passed-1 : (c : tie.Else1) → let s = start c in (shapeIn (s .args .shape) && treesIn (s .args .trees)) ≡ true
 passed-1 c = sym (c .before .forest-in .ensures) ∙ not-false _ (c .if1 .left)
 
-passed-2 : (c : tie.Else2) → let s = start (c .before .before) in (lengths (s .args .shape) (s .args .trees) (given s) && (goodCuts (s .args .trees) (s .args .words) (now (s .args .wordcuts)) && goodCuts (s .args .trees) (s .args .thresholds) (now (s .args .thresholdcuts)))) ≡ true
+passed-2 : (c : tie.Else2) → let s = start (c .before .before) in (lengths (s .args .shape) (s .args .trees) (given s) && (goodStarts (s .args .trees) (s .args .words) (now (s .args .wordstarts)) && goodStarts (s .args .trees) (s .args .thresholds) (now (s .args .thresholdstarts)))) ≡ true
 passed-2 c = sym (c .before .forest-long .ensures) ∙ not-false _ (c .if2 .left)
 
 passed-3 : (c : tie.Else3) → numbersGood (given (start (c .before .before .before .before))) ≡ true
@@ -54,7 +54,7 @@ returns c =
     λ C R h.
     let s = c .before .before .before .before .before .before .before .before .before in
     fails 1 _ _ (sym (c .before .forest-in .ensures) ∙ not-true _ (c .if1 .taken))
-    ∙ forest-same _ _ (given s) (s .args .words) (s .args .thresholds) (now (s .args .wordcuts)) (now (s .args .thresholdcuts)) _ _ _ C R h
+    ∙ forest-same _ _ (given s) (s .args .words) (s .args .thresholds) (now (s .args .wordstarts)) (now (s .args .thresholdstarts)) _ _ _ C R h
 
 forest-long-requires : tie.Need-forest-long-requires
 forest-long-requires c κs = record { shape = shaped c; few = few c }
@@ -65,7 +65,7 @@ returns-2 c =
     λ C R h.
     let s = c .before .before .before .before .before .before .before .before .before .before .before in
     passes 1 _ _ (passed-1 (c .before .before)) (fails 2 _ _ (sym (c .before .forest-long .ensures) ∙ not-true _ (c .if2 .taken)))
-    ∙ forest-same _ _ (given s) (s .args .words) (s .args .thresholds) (now (s .args .wordcuts)) (now (s .args .thresholdcuts)) _ _ _ C R h
+    ∙ forest-same _ _ (given s) (s .args .words) (s .args .thresholds) (now (s .args .wordstarts)) (now (s .args .thresholdstarts)) _ _ _ C R h
 
 numbers-good-requires : tie.Need-numbers-good-requires
 numbers-good-requires c κs = search needs
@@ -76,7 +76,7 @@ returns-3 c =
     λ C R h.
     let s = c .before .before .before .before .before .before .before .before .before .before .before .before .before in
     passes 1 _ _ (passed-1 (c .before .before .before .before)) (passes 2 _ _ (passed-2 (c .before .before)) (fails 3 _ _ (sym (c .before .numbers-good .ensures) ∙ not-true _ (c .if3 .taken))))
-    ∙ forest-same _ _ (given s) (s .args .words) (s .args .thresholds) (now (s .args .wordcuts)) (now (s .args .thresholdcuts)) _ _ _ C R h
+    ∙ forest-same _ _ (given s) (s .args .words) (s .args .thresholds) (now (s .args .wordstarts)) (now (s .args .thresholdstarts)) _ _ _ C R h
 
 forest-counts-requires : tie.Need-forest-counts-requires
 forest-counts-requires c κs = search needs
@@ -87,7 +87,7 @@ returns-4 c =
     λ C R h.
     let s = c .before .before .before .before .before .before .before .before .before .before .before .before .before .before .before in
     passes 1 _ _ (passed-1 (c .before .before .before .before .before .before)) (passes 2 _ _ (passed-2 (c .before .before .before .before)) (passes 3 _ _ (passed-3 (c .before .before)) (fails 4 _ _ (sym (c .before .forest-counts .ensures) ∙ not-true _ (c .if4 .taken)))))
-    ∙ forest-same _ _ (given s) (s .args .words) (s .args .thresholds) (now (s .args .wordcuts)) (now (s .args .thresholdcuts)) _ _ _ C R h
+    ∙ forest-same _ _ (given s) (s .args .words) (s .args .thresholds) (now (s .args .wordstarts)) (now (s .args .thresholdstarts)) _ _ _ C R h
 
 listings-good-requires : tie.Need-listings-good-requires
 listings-good-requires c κs = long-laid _ _ (given (start (c .before .before .before .before .before .before))) (shaped (c .before .before .before .before .before .before)) (long (c .before .before .before .before))
@@ -98,7 +98,7 @@ returns-5 c =
     λ C R h.
     let s = c .before .before .before .before .before .before .before .before .before .before .before .before .before .before .before .before .before in
     passes 1 _ _ (passed-1 (c .before .before .before .before .before .before .before .before)) (passes 2 _ _ (passed-2 (c .before .before .before .before .before .before)) (passes 3 _ _ (passed-3 (c .before .before .before .before)) (passes 4 _ _ (passed-4 (c .before .before)) (fails 5 _ _ (sym (c .before .listings-good .ensures) ∙ not-true _ (c .if5 .taken))))))
-    ∙ forest-same _ _ (given s) (s .args .words) (s .args .thresholds) (now (s .args .wordcuts)) (now (s .args .thresholdcuts)) _ _ _ C R h
+    ∙ forest-same _ _ (given s) (s .args .words) (s .args .thresholds) (now (s .args .wordstarts)) (now (s .args .thresholdstarts)) _ _ _ C R h
 
 forest-rooms-requires : tie.Need-forest-rooms-requires
 forest-rooms-requires c κs = (shaped (c .before .before .before .before .before .before .before .before), long-grown _ _ (given (start (c .before .before .before .before .before .before .before .before))) (shaped (c .before .before .before .before .before .before .before .before)) (long (c .before .before .before .before .before .before)) (few (c .before .before .before .before .before .before .before .before)))
@@ -109,7 +109,7 @@ returns-6 c =
     λ C R h.
     let s = c .before .before .before .before .before .before .before .before .before .before .before .before .before .before .before .before .before .before .before in
     passes 1 _ _ (passed-1 (c .before .before .before .before .before .before .before .before .before .before)) (passes 2 _ _ (passed-2 (c .before .before .before .before .before .before .before .before)) (passes 3 _ _ (passed-3 (c .before .before .before .before .before .before)) (passes 4 _ _ (passed-4 (c .before .before .before .before)) (passes 5 _ _ (passed-5 (c .before .before)) (fails 6 _ _ (sym (c .before .forest-rooms .ensures (R .work) (R .reports) (h .work) (h .reports)) ∙ not-true _ (c .if6 .taken)))))))
-    ∙ forest-same _ _ (given s) (s .args .words) (s .args .thresholds) (now (s .args .wordcuts)) (now (s .args .thresholdcuts)) _ _ _ C R h
+    ∙ forest-same _ _ (given s) (s .args .words) (s .args .thresholds) (now (s .args .wordstarts)) (now (s .args .thresholdstarts)) _ _ _ C R h
 
 returns-7 : tie.Need-returns-7
 unfolding numbersGood countsGood countsOne
@@ -117,7 +117,7 @@ returns-7 c =
     λ C R h.
     let s = c .before .before .before .before .before .before .before .before .before .before .before .before .before .before .before .before .before .before .before in
     passes 1 _ _ (passed-1 (c .before .before .before .before .before .before .before .before .before .before)) (passes 2 _ _ (passed-2 (c .before .before .before .before .before .before .before .before)) (passes 3 _ _ (passed-3 (c .before .before .before .before .before .before)) (passes 4 _ _ (passed-4 (c .before .before .before .before)) (passes 5 _ _ (passed-5 (c .before .before)) (passes 6 _ _ (sym (c .before .forest-rooms .ensures (R .work) (R .reports) (h .work) (h .reports)) ∙ not-false _ (c .if6 .left)) none-failed)))))
-    ∙ forest-same _ _ (given s) (s .args .words) (s .args .thresholds) (now (s .args .wordcuts)) (now (s .args .thresholdcuts)) _ _ _ C R h
+    ∙ forest-same _ _ (given s) (s .args .words) (s .args .thresholds) (now (s .args .wordstarts)) (now (s .args .thresholdstarts)) _ _ _ C R h
 
 pub forest-verdict-spec : {M : Type 1} → statement M
 forest-verdict-spec =

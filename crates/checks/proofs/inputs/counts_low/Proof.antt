@@ -8,7 +8,7 @@ use denote.Ref.{now}
 use lib.ListN.{length, drop}
 use lib.Dec.{leb}
 use Rattle.rules.specs.Words.{every}
-use Rattle.laws.specs.Splits.{counts}
+use Rattle.lemmas.specs.Splits.{counts}
 use Rattle.checks.specs.Scans.{every-goes, every-stops, every-ends}
 use Rattle.checks.proofs.inputs.counts_low.Statement.{statement}
 use Rattle.checks.proofs.inputs.counts_low.Tie as tie

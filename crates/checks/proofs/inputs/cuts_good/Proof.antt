@@ -8,8 +8,8 @@ use mathlib.Core.Bool.{true}
 use Prim.Native.Nat.{ℕ, suc, _+_}
 use denote.Ref.{now}
 use lib.Dec.{eqb}
-use Rattle.rules.specs.Checks.{goodCuts}
-use Rattle.laws.specs.Lists.{same-default}
+use Rattle.rules.specs.Checks.{goodStarts}
+use Rattle.lemmas.specs.Lists.{same-default}
 use Rattle.checks.specs.Tests.{and-on, and-off}
 use Rattle.checks.proofs.inputs.cuts_good.Statement.{statement}
 use Rattle.checks.proofs.inputs.cuts_good.Tie as tie
@@ -21,14 +21,14 @@ add-if1 : tie.Need-add-if1
 add-if1 c = search needs
 
 returns : tie.Need-returns
-unfolding goodCuts
+unfolding goodStarts
 returns c = and-off _ _ (ne-eqb _ _ (λ h. c .if1 .taken (h ∙ sym (add-one _))))
 
 shared-slice-read-if2 : tie.Need-shared-slice-read-if2
 shared-slice-read-if2 c = omega arith
 
 returns-2 : tie.Need-returns-2
-unfolding goodCuts
+unfolding goodStarts
 returns-2 c =
     let cuts = now (c .before .before .before .before .args .cuts) in
     and-on _ _ (long _ _ (c .before .before .if1 .left)) (and-off _ _ (ne-eqb _ _ (λ h. c .if2 .taken (same-default cuts 0 0 1 (omega arith) ∙ h))))
@@ -37,7 +37,7 @@ cuts-rise-requires : tie.Need-cuts-rise-requires
 cuts-rise-requires c κs = search needs
 
 returns-3 : tie.Need-returns-3
-unfolding goodCuts
+unfolding goodStarts
 returns-3 c =
     let cuts = now (c .before .before .before .before .before .before .args .cuts) in
     and-on _ _ (long _ _ (c .before .before .before .before .if1 .left)) (and-on _ _ (eq-eqb _ _ (same-default cuts 0 1 0 (omega arith) ∙ c .before .before .if2 .left))
@@ -50,7 +50,7 @@ shared-slice-read-result : tie.Need-shared-slice-read-result
 shared-slice-read-result c = omega arith
 
 returns-4 : tie.Need-returns-4
-unfolding goodCuts
+unfolding goodStarts
 returns-4 c =
     let a = c .before .before .before .before .before .before .before .args in
     let cuts = now (a .cuts) in

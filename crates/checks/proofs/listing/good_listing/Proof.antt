@@ -7,7 +7,7 @@ use lib.ListN.{length, take, drop}
 use lib.Dec.{T}
 use Rattle.rules.specs.Listing.{goodListing}
 use Rattle.rules.specs.Lent.{listingAt}
-use Rattle.laws.specs.Once.{once-below}
+use Rattle.lemmas.specs.Once.{once-below}
 use Rattle.checks.specs.Tests.{and-on, and-off}
 use Rattle.checks.specs.Cells.{stretch-within, listing-lies}
 use Rattle.checks.proofs.listing.good_listing.Statement.{statement}

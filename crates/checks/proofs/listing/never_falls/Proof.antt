@@ -11,7 +11,7 @@ use lib.Ieee.{Float, lt}
 use Rattle.rules.specs.Words.{along, alongFrom}
 use Rattle.rules.specs.Lent.{cell}
 use Rattle.rules.specs.Listing.{neverFalls}
-use Rattle.laws.specs.Lists.{every-at}
+use Rattle.lemmas.specs.Lists.{every-at}
 use Rattle.checks.specs.Scans.{along-none, along-starts, along-goes, along-stops, along-ends}
 use Rattle.checks.proofs.listing.never_falls.Statement.{statement}
 use Rattle.checks.proofs.listing.never_falls.Tie as tie

@@ -5,7 +5,7 @@ use mathlib.Core.Path.{_≡_, sym, ap, _∙_, subst}
 use Prim.Native.Nat.{_≤_, _-_, _+_, _*_}
 use denote.Ref.{now}
 use lib.ListN.{length}
-use Rattle.laws.specs.Splits.{counts}
+use Rattle.lemmas.specs.Splits.{counts}
 use Rattle.checks.specs.Rooms.{roomIn, roomOf, roomsIn, totalOn, total-adds, total-ends, total-starts}
 use Rattle.checks.specs.Cells.{stretch-within, part-lies, part-long}
 use Rattle.checks.proofs.rooms.forest_room.Statement.{statement}

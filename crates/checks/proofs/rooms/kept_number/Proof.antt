@@ -7,7 +7,7 @@ use mathlib.Core.Logic.{⊎-elim}
 use Prim.Native.Nat.{ℕ, _≤_, _-_, _+_}
 use denote.Ref.{now}
 use Rattle.rules.specs.Lent.{keptIn, kept}
-use Rattle.laws.specs.Splits.{counts}
+use Rattle.lemmas.specs.Splits.{counts}
 use Rattle.checks.specs.Rooms.{keptOf, keptOn, kept-counts, kept-passes, kept-ends, kept-starts}
 use Rattle.checks.proofs.rooms.kept_number.Statement.{statement}
 use Rattle.checks.proofs.rooms.kept_number.Tie as tie

@@ -7,7 +7,7 @@ use mathlib.Core.Bool.{Bool, _&&_}
 use Prim.Native.Nat.{_≤_, _<_, _*_, max}
 use lib.Dec.{leb}
 use Rattle.rules.specs.Checks.{workEnough}
-use Rattle.rules.specs.Lent.{Stack, stack, Work}
+use Rattle.rules.specs.Lent.{WaitingRoom, waitingRoom, Work}
 use Rattle.checks.specs.Tests.{and-on, and-off, entries-low}
 use Rattle.checks.specs.Lent.{WorkHas}
 use Rattle.checks.proofs.rooms.work_enough.Statement.{statement}
@@ -20,7 +20,7 @@ enough a =
     leb (S .features * S .rows) (L .order) && (leb (S .rows) (L .scratch) && (leb (max (S .rows) (S .features)) (L .flags) && leb (S .rows) (L .waiting)))
 
 -- in a work room of these lengths it is what the rules ask
-asked : (a : tie.Start) (w : Work Stack) → WorkHas (a .args .room) w → enough a ≡ workEnough stack (a .args .shape) w
+asked : (a : tie.Start) (w : Work WaitingRoom) → WorkHas (a .args .room) w → enough a ≡ workEnough waitingRoom (a .args .shape) w
 unfolding workEnough
 asked a w h =
     let S = a .args .shape in

@@ -3,7 +3,7 @@ use borrow.Author.Needs.{needs}
 use native.Mathlib.Omega.{arith}
 use mathlib.Core.Path.{ap, _∙_}
 use Rattle.rules.specs.Answers.{nodeTold}
-use Rattle.numbers.specs.Nodes.{child-below}
+use Rattle.c_types.specs.Nodes.{child-below}
 use Rattle.exports.proofs.checkers.tailboardy_read_node.Statement.{statement}
 use Rattle.exports.proofs.checkers.tailboardy_read_node.Tie as tie
 

@@ -4,10 +4,10 @@ use Prim.Native.Nat.{ℕ, _-_, _<_, _≤_}
 use denote.Ref.{now}
 use lib.ListN.{length}
 use lib.Ieee.{Float}
-use Rattle.rules.specs.Threshold.{threshold}
+use Rattle.rules.specs.Threshold.{thresholdBetween}
 use Rattle.rules.specs.Lent.{Columns, entriesAt, columnsOf}
-use Rattle.reading.specs.Walks.{leafAt, walkable}
-use Rattle.reading.specs.Rows.{Written, row-first, row-next, row-last}
+use Rattle.predict.specs.Walks.{leafAt, walkable}
+use Rattle.predict.specs.Rows.{Written, row-first, row-next, row-last}
 use Rattle.means.specs.Sums.{withTree}
 use Rattle.means.proofs.sums.add_tree.Statement.{statement}
 use Rattle.means.proofs.sums.add_tree.Tie as tie
@@ -20,7 +20,7 @@ abbrev μ-loop : tie.MeasureT-loop
 μ-loop rows features base a n values counts value feature threshold score trues falses out₀ i₀ out i = rows - i
 
 abbrev columns : tie.Start Inv-loop μ-loop → Columns
-columns s = columnsOf (now (s .args .value)) (now (s .args .feature)) (now (s .args .threshold)) (now (s .args .score)) (now (s .args .yes)) (now (s .args .no))
+columns s = columnsOf (now (s .args .value)) (now (s .args .feature)) (now (s .args .threshold)) (now (s .args .score)) (now (s .args .truechild)) (now (s .args .falsechild))
 
 abbrev taken : tie.Start Inv-loop μ-loop → ℕ → Float → Float
 taken s = withTree (now (s .args .counts)) (s .args .base) (leafAt (s .args .features) (now (s .args .values)) (entriesAt (columns s) (s .args .a) (s .args .n)))

@@ -7,12 +7,12 @@ use Prim.Native.Nat.{ℕ, _-_, _+_, _*_, _<_, _≤_}
 use mathlib.Core.List.{List}
 use denote.Ref.{now}
 use lib.ListN.{getD}
-use Rattle.rules.specs.Threshold.{threshold}
+use Rattle.rules.specs.Threshold.{thresholdBetween}
 use Rattle.rules.specs.Lent.{Entry, entriesAt, columnsOf}
 use Rattle.rules.specs.Table.{ForestTable, treeAt, tableOf}
 use Rattle.tables.specs.Laws.{start-below}
-use Rattle.reading.specs.Walks.{leafAt}
-use Rattle.reading.specs.Rows.{rewritten}
+use Rattle.predict.specs.Walks.{leafAt}
+use Rattle.predict.specs.Rows.{rewritten}
 use Rattle.means.specs.Sums.{withTree, Adding, tree-first, tree-next, tree-last, tree-lies}
 use Rattle.means.proofs.sums.add_trees.Statement.{statement}
 use Rattle.means.proofs.sums.add_trees.Tie as tie
@@ -25,7 +25,7 @@ abbrev μ-loop : tie.MeasureT-loop
 μ-loop rows features trees values counts starts value feature threshold score trues falses out₀ t₀ out t = trees - t
 
 abbrev table : tie.Start Inv-loop μ-loop → ForestTable
-table s = tableOf (s .args .trees) (now (s .args .starts)) (columnsOf (now (s .args .value)) (now (s .args .feature)) (now (s .args .threshold)) (now (s .args .score)) (now (s .args .yes)) (now (s .args .no)))
+table s = tableOf (s .args .trees) (now (s .args .starts)) (columnsOf (now (s .args .value)) (now (s .args .feature)) (now (s .args .threshold)) (now (s .args .score)) (now (s .args .truechild)) (now (s .args .falsechild)))
 
 -- tree t starts where it starts, and ends where the next does
 below : (c : tie.In-loop Inv-loop μ-loop) → getD (now (c .before .before .before .before .before .before .before .before .before .before .before .before .args .starts)) (c .before .loop .t) 0 < getD (now (c .before .before .before .before .before .before .before .before .before .before .before .before .args .starts)) (c .before .loop .t + 1) 0

@@ -4,7 +4,7 @@ use mathlib.Core.Path.{refl}
 use Prim.Native.Nat.{_-_, _≤_}
 use denote.Ref.{now}
 use Rattle.rules.specs.Words.{nought}
-use Rattle.reading.specs.Rows.{Written, row-first, row-next, row-last}
+use Rattle.predict.specs.Rows.{Written, row-first, row-next, row-last}
 use Rattle.means.proofs.sums.clear.Statement.{statement}
 use Rattle.means.proofs.sums.clear.Tie as tie
 

@@ -6,7 +6,7 @@ use denote.Ref.{now}
 use lib.ListN.{length, getD}
 use lib.Ieee.{Float, nan, binary64, div}
 use Rattle.rules.specs.Words.{float}
-use Rattle.reading.specs.Rows.{Written, row-first, row-next, row-last}
+use Rattle.predict.specs.Rows.{Written, row-first, row-next, row-last}
 use Rattle.means.specs.Sums.{outNumber}
 use Rattle.means.proofs.sums.divide.Statement.{statement}
 use Rattle.means.proofs.sums.divide.Tie as tie

@@ -8,13 +8,13 @@ use lib.Ieee.{Float, binary64, div}
 use Rattle.rules.specs.Words.{nought, float}
 use Rattle.rules.specs.Lent.{columnsOf}
 use Rattle.rules.specs.Table.{ForestTable, tableOf}
-use Rattle.reading.specs.Rows.{rewritten, length-rewritten}
+use Rattle.predict.specs.Rows.{rewritten, length-rewritten}
 use Rattle.means.specs.Sums.{outNumber, sumsAll, means-are}
 use Rattle.means.proofs.sums.means.Statement.{statement}
 use Rattle.means.proofs.sums.means.Tie as tie
 
 abbrev table : tie.Start → ForestTable
-table s = tableOf (s .args .trees) (now (s .args .starts)) (columnsOf (now (s .args .value)) (now (s .args .feature)) (now (s .args .threshold)) (now (s .args .score)) (now (s .args .yes)) (now (s .args .no)))
+table s = tableOf (s .args .trees) (now (s .args .starts)) (columnsOf (now (s .args .value)) (now (s .args .feature)) (now (s .args .threshold)) (now (s .args .score)) (now (s .args .truechild)) (now (s .args .falsechild)))
 
 abbrev sums : tie.Start → ℕ → Float → Float
 sums s = sumsAll (s .args .shape .rows) (s .args .shape .features) (now (s .args .values)) (now (s .args .counts)) (table s)

@@ -5,12 +5,12 @@ use mathlib.Core.Bool.{cond}
 use denote.Ref.{now}
 use lib.Ieee.{Float, binary64, add}
 use Rattle.rules.specs.Lent.{entriesAt, columnsOf}
-use Rattle.reading.specs.Walks.{leafAt}
+use Rattle.predict.specs.Walks.{leafAt}
 use Rattle.means.proofs.sums.sum_with.Statement.{statement}
 use Rattle.means.proofs.sums.sum_with.Tie as tie
 
 abbrev value : tie.Start → Float
-value s = leafAt (s .args .features) (now (s .args .values)) (entriesAt (columnsOf (now (s .args .value)) (now (s .args .feature)) (now (s .args .threshold)) (now (s .args .score)) (now (s .args .yes)) (now (s .args .no))) (s .args .a) (s .args .n)) (s .args .i)
+value s = leafAt (s .args .features) (now (s .args .values)) (entriesAt (columnsOf (now (s .args .value)) (now (s .args .feature)) (now (s .args .threshold)) (now (s .args .score)) (now (s .args .truechild)) (now (s .args .falsechild))) (s .args .a) (s .args .n)) (s .args .i)
 
 is-out-requires : tie.Need-is-out-requires
 is-out-requires c κs = search needs

@@ -1,7 +1,7 @@
 -- `replay::nodes::read` is safe: the node's false child stands in its column, so its number does not wrap. Assumes nothing.
 use borrow.Author.Needs.{needs}
 use native.Mathlib.Omega.{arith}
-use Rattle.numbers.specs.Nodes.{child-below}
+use Rattle.c_types.specs.Nodes.{child-below}
 use Rattle.replay.proofs.nodes.read.Statement.{statement}
 use Rattle.replay.proofs.nodes.read.Tie as tie
 

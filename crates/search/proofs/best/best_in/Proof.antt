@@ -1,15 +1,15 @@
--- `search::best::best_in` meets its contract: an empty stretch keeps what is held; else the walk starts at the first value. Assumes nothing.
+-- `search::best::best_in` meets its contract: an empty stretch keeps what is held; else the sweep starts at the first value. Assumes nothing.
 use native.Mathlib.Omega.{arith}
 use mathlib.Core.Path.{refl, _∙_}
 use lib.ListN.{getD}
 use Rattle.search.specs.Flat.{elementOf, cutsIn, runAt}
-use Rattle.search.specs.Laws.{value-is, best-none, best-walk}
+use Rattle.search.specs.Laws.{value-is, best-none, best-sweep}
 use borrow.Author.Needs.{needs}
 use Rattle.search.proofs.best.best_in.Statement.{statement}
 use Rattle.search.proofs.best.best_in.Tie as tie
 
 returns : tie.Need-returns
-returns c = let a = c .before .before .before .before .before .before .args in best-none (elementOf (a .features) (record { x = a .x .now; y = a .y .now; weights = a .weights .now; counts = a .counts .now })) (a .col .now) (c .if1 .taken) (a .p) (a .a) (a .j) (a .h)
+returns c = let a = c .before .before .before .before .before .before .args in best-none (elementOf (a .features) (record { values = a .values .now; targets = a .targets .now; weights = a .weights .now; counts = a .counts .now })) (a .col .now) (c .if1 .taken) (a .p) (a .a) (a .j) (a .h)
 
 value-here-requires : tie.Need-value-here-requires
 value-here-requires c κs = let p = c .before .before .before .before .before .before .pre in (record { below = p .0; wide = p .1 .0 .0 .wide; one = p .1 .0 .1 }, omega (arith, c .if1 .left))
@@ -17,24 +17,24 @@ value-here-requires c κs = let p = c .before .before .before .before .before .b
 spot-of-requires : tie.Need-spot-of-requires
 spot-of-requires c κs = search needs
 
-walk-column-requires : tie.Need-walk-column-requires
+sweep-column-requires : tie.Need-sweep-column-requires
 unfolding runAt
-walk-column-requires c κs = let p = c .before .before .before .before .before .before .before .before .pre in (p .0, (p .1 .0, (omega (arith, p .1 .1), (c .spot-of .ensures .0, c .before .value-here .ensures))))
+sweep-column-requires c κs = let p = c .before .before .before .before .before .before .before .before .pre in (p .0, (p .1 .0, (omega (arith, p .1 .1), (c .spot-of .ensures .0, c .before .value-here .ensures))))
 
 earlier-of-requires : tie.Need-earlier-of-requires
 earlier-of-requires c κs = search needs
 
 held-of-requires : tie.Need-held-of-requires
-held-of-requires c κs = let p = c .before .before .before .before .before .before .before .before .before .before .pre in (record { below = p .0; wide = p .1 .0 .0 .wide; one = p .1 .0 .1 }, c .before .walk-column .ensures .0)
+held-of-requires c κs = let p = c .before .before .before .before .before .before .before .before .before .before .pre in (record { below = p .0; wide = p .1 .0 .0 .wide; one = p .1 .0 .1 }, c .before .sweep-column .ensures .0)
 
 returns-2 : tie.Need-returns-2
 unfolding cutsIn
 returns-2 c =
     let a = c .before .before .before .before .before .before .before .before .before .before .before .args in
-    let first = value-is (a .features) (record { x = a .x .now; y = a .y .now; weights = a .weights .now; counts = a .counts .now }) (a .j) (getD (a .col .now) 0 0) (c .before .before .before .before .before .before .before .before .before .before .before .pre .1 .0 .1) (c .before .before .before .before .value-here .ensures) refl refl in
+    let first = value-is (a .features) (record { values = a .values .now; targets = a .targets .now; weights = a .weights .now; counts = a .counts .now }) (a .j) (getD (a .col .now) 0 0) (c .before .before .before .before .before .before .before .before .before .before .before .pre .1 .0 .1) (c .before .before .before .before .value-here .ensures) refl refl in
     let b = c .before .earlier-of .result in
     c .held-of .ensures
-    ∙ best-walk (elementOf (a .features) (record { x = a .x .now; y = a .y .now; weights = a .weights .now; counts = a .counts .now })) (a .col .now) (c .before .before .before .before .before .if1 .left) (a .p) (a .a) (a .j) (a .h) first (c .before .before .before .spot-of .ensures .1 (cutsIn (a .features) (a .x .now) (a .j) (a .col .now) b) (c .before .earlier-of .ensures)) (c .before .before .walk-column .ensures .1 b)
+    ∙ best-sweep (elementOf (a .features) (record { values = a .values .now; targets = a .targets .now; weights = a .weights .now; counts = a .counts .now })) (a .col .now) (c .before .before .before .before .before .if1 .left) (a .p) (a .a) (a .j) (a .h) first (c .before .before .before .spot-of .ensures .1 (cutsIn (a .features) (a .values .now) (a .j) (a .col .now) b) (c .before .earlier-of .ensures)) (c .before .before .sweep-column .ensures .1 b)
 
 pub best-in-spec : {M : Type 1} → statement M
 best-in-spec =
@@ -43,7 +43,7 @@ best-in-spec =
     returns
     value-here-requires
     spot-of-requires
-    walk-column-requires
+    sweep-column-requires
     earlier-of-requires
     held-of-requires
     returns-2)

@@ -7,7 +7,7 @@ use Rattle.search.proofs.best.held_of.Statement.{statement}
 use Rattle.search.proofs.best.held_of.Tie as tie
 
 returns : tie.Need-returns
-returns c = let a = c .before .before .before .before .before .args in held-earlier (a .features) (a .x .now) (a .j) (a .col .now) (a .earlier) (a .s) (c .before .before .if1 .taken) (c .if2 .taken)
+returns c = let a = c .before .before .before .before .before .args in held-earlier (a .features) (a .values .now) (a .j) (a .col .now) (a .earlier) (a .s) (c .before .before .if1 .taken) (c .if2 .taken)
 
 sub-i : tie.Need-sub-i
 sub-i c = omega (arith, c .before .if2 .left)
@@ -22,7 +22,7 @@ threshold-of-requires : tie.Need-threshold-of-requires
 threshold-of-requires c κs = search needs
 
 returns-2 : tie.Need-returns-2
-returns-2 c = let a = c .before .before .before .before .before .before .before .before .before .args in held-here (a .features) (a .x .now) (a .j) (a .col .now) (a .earlier) (a .s) (c .before .before .before .before .before .before .if1 .taken) (c .before .before .before .before .if2 .left) (c .before .before .run-before .ensures) (c .before .value-here .ensures) (c .threshold-of .ensures .exact)
+returns-2 c = let a = c .before .before .before .before .before .before .before .before .before .args in held-here (a .features) (a .values .now) (a .j) (a .col .now) (a .earlier) (a .s) (c .before .before .before .before .before .before .if1 .taken) (c .before .before .before .before .if2 .left) (c .before .before .run-before .ensures) (c .before .value-here .ensures) (c .threshold-of .ensures .exact)
 
 returns-3 : tie.Need-returns-3
 unfolding heldOf

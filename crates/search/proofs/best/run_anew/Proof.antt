@@ -11,10 +11,10 @@ use Rattle.search.proofs.best.run_anew.Statement.{statement}
 use Rattle.search.proofs.best.run_anew.Tie as tie
 
 abbrev Inv-loop : tie.InvT-loop
-Inv-loop x col rows features j n v₀ i₀ v i = (i ≤ n) × (v ≡ runAt (valueIn features x j) col i)
+Inv-loop values col rows features j n v₀ i₀ v i = (i ≤ n) × (v ≡ runAt (valueIn features values j) col i)
 
 abbrev μ-loop : tie.MeasureT-loop
-μ-loop x col rows features j n v₀ i₀ v i = n - i
+μ-loop values col rows features j n v₀ i₀ v i = n - i
 
 value-here-requires : tie.Need-value-here-requires Inv-loop μ-loop
 value-here-requires c κs = search needs
@@ -39,13 +39,13 @@ loop-again : tie.Need-loop-again Inv-loop μ-loop
 loop-again c =
     let a = c .before .before .before .before .before .before .before .args in
     let l = c .before .before .before .loop in
-    (omega (arith, c .before .before .loop-test .taken), c .run-on .ensures ∙ (λ k. cond (eq (c .before .value-here2 .ensures k) (l .inv .1 k)) (l .inv .1 k) (c .before .value-here2 .ensures k)) ∙ sym (run-next (valueIn (a .features) (a .x .now) (a .j)) (a .col .now) (l .i)))
+    (omega (arith, c .before .before .loop-test .taken), c .run-on .ensures ∙ (λ k. cond (eq (c .before .value-here2 .ensures k) (l .inv .1 k)) (l .inv .1 k) (c .before .value-here2 .ensures k)) ∙ sym (run-next (valueIn (a .features) (a .values .now) (a .j)) (a .col .now) (l .i)))
 
 returns : tie.Need-returns Inv-loop μ-loop
 returns c =
     let a = c .before .before .before .before .before .args in
     let l = c .before .loop in
-    l .inv .1 ∙ ap (runAt (valueIn (a .features) (a .x .now) (a .j)) (a .col .now)) (omega (arith, l .inv .0, c .loop-test .left))
+    l .inv .1 ∙ ap (runAt (valueIn (a .features) (a .values .now) (a .j)) (a .col .now)) (omega (arith, l .inv .0, c .loop-test .left))
 
 pub run-anew-spec : {M : Type 1} → statement M
 run-anew-spec =

@@ -18,7 +18,7 @@ returns : tie.Need-returns
 returns c = c .run-anew .ensures
 
 returns-2 : tie.Need-returns-2
-returns-2 c = let a = c .before .before .before .before .before .args in run-last (valueIn (a .features) (a .x .now) (a .j)) (a .col .now) (λ r. c .before .before .before .before .shared-slice-known .given _) (a .n) (c .before .before .if1 .taken) (c .before .value-here .ensures) (c .if2 .left)
+returns-2 c = let a = c .before .before .before .before .before .args in run-last (valueIn (a .features) (a .values .now) (a .j)) (a .col .now) (λ r. c .before .before .before .before .shared-slice-known .given _) (a .n) (c .before .before .if1 .taken) (c .before .value-here .ensures) (c .if2 .left)
 
 run-anew-requires-2 : tie.Need-run-anew-requires-2
 run-anew-requires-2 c κs = c .before .before .before .pre

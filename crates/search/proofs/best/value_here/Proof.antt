@@ -29,7 +29,7 @@ value-of-requires c κs =
 returns : tie.Need-returns
 returns c =
     let a = c .before .before .before .before .before .before .args in
-    c .value-of .ensures ∙ (λ k. getD (a .x .now) (c .before .wide2 .ensures k * a .features + c .before .before .before .wide .ensures k) nan)
+    c .value-of .ensures ∙ (λ k. getD (a .values .now) (c .before .wide2 .ensures k * a .features + c .before .before .before .wide .ensures k) nan)
 
 pub value-here-spec : {M : Type 1} → statement M
 value-here-spec =

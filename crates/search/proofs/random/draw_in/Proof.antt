@@ -7,7 +7,7 @@ use Rattle.search.proofs.random.draw_in.Statement.{statement}
 use Rattle.search.proofs.random.draw_in.Tie as tie
 
 returns : tie.Need-returns
-returns c = λ W s. let a = c .before .before .before .before .before .before .before .args in draw-none (a .p) (a .a) (a .j) (a .h) (map (elementOf (a .features) (record { x = a .x .now; y = a .y .now; weights = a .weights .now; counts = a .counts .now })) (a .col .now)) W (a .thresholds .now) s (a .m) (a .lo) (a .hi) (c .if1 .taken)
+returns c = λ W s. let a = c .before .before .before .before .before .before .before .args in draw-none (a .p) (a .a) (a .j) (a .h) (map (elementOf (a .features) (record { values = a .values .now; targets = a .targets .now; weights = a .weights .now; counts = a .counts .now })) (a .col .now)) W (a .thresholds .now) s (a .m) (a .lo) (a .hi) (c .if1 .taken)
 
 mul-t : tie.Need-mul-t
 mul-t c = search needs
@@ -25,13 +25,13 @@ add-t26 : tie.Need-add-t26
 add-t26 c = search needs
 
 returns-2 : tie.Need-returns-2
-returns-2 c = λ W s. let a = c .before .before .before .before .before .before .before .before .before .before .before .before .before .args in draw-good (a .p) (a .a) (a .j) (a .h) (map (elementOf (a .features) (record { x = a .x .now; y = a .y .now; weights = a .weights .now; counts = a .counts .now })) (a .col .now)) W (a .thresholds .now) s (a .m) (a .lo) (a .hi) (c .before .before .before .before .before .before .if1 .left) (c .before .before .before .before .if2 .taken) (c .before .before .before .if3 .taken) (c .before .before .true-side .ensures .0) (c .judge-of .ensures)
+returns-2 c = λ W s. let a = c .before .before .before .before .before .before .before .before .before .before .before .before .before .args in draw-good (a .p) (a .a) (a .j) (a .h) (map (elementOf (a .features) (record { values = a .values .now; targets = a .targets .now; weights = a .weights .now; counts = a .counts .now })) (a .col .now)) W (a .thresholds .now) s (a .m) (a .lo) (a .hi) (c .before .before .before .before .before .before .if1 .left) (c .before .before .before .before .if2 .taken) (c .before .before .before .if3 .taken) (c .before .before .true-side .ensures .0) (c .judge-of .ensures)
 
 returns-3 : tie.Need-returns-3
-returns-3 c = λ W s. let a = c .before .before .before .before .before .before .before .before .before .before .args in draw-high (a .p) (a .a) (a .j) (a .h) (map (elementOf (a .features) (record { x = a .x .now; y = a .y .now; weights = a .weights .now; counts = a .counts .now })) (a .col .now)) W (a .thresholds .now) s (a .m) (a .lo) (a .hi) (c .before .before .before .if1 .left) (c .before .if2 .taken) (c .if3 .left)
+returns-3 c = λ W s. let a = c .before .before .before .before .before .before .before .before .before .before .args in draw-high (a .p) (a .a) (a .j) (a .h) (map (elementOf (a .features) (record { values = a .values .now; targets = a .targets .now; weights = a .weights .now; counts = a .counts .now })) (a .col .now)) W (a .thresholds .now) s (a .m) (a .lo) (a .hi) (c .before .before .before .if1 .left) (c .before .if2 .taken) (c .if3 .left)
 
 returns-4 : tie.Need-returns-4
-returns-4 c = λ W s. let a = c .before .before .before .before .before .before .before .before .before .args in draw-low (a .p) (a .a) (a .j) (a .h) (map (elementOf (a .features) (record { x = a .x .now; y = a .y .now; weights = a .weights .now; counts = a .counts .now })) (a .col .now)) W (a .thresholds .now) s (a .m) (a .lo) (a .hi) (c .before .before .if1 .left) (c .if2 .left)
+returns-4 c = λ W s. let a = c .before .before .before .before .before .before .before .before .before .args in draw-low (a .p) (a .a) (a .j) (a .h) (map (elementOf (a .features) (record { values = a .values .now; targets = a .targets .now; weights = a .weights .now; counts = a .counts .now })) (a .col .now)) W (a .thresholds .now) s (a .m) (a .lo) (a .hi) (c .before .before .if1 .left) (c .if2 .left)
 
 pub draw-in-spec : {M : Type 1} → statement M
 draw-in-spec =

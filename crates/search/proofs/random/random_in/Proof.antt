@@ -11,7 +11,7 @@ use Rattle.search.proofs.random.random_in.Statement.{statement}
 use Rattle.search.proofs.random.random_in.Tie as tie
 
 returns : tie.Need-returns
-returns c = λ W s. let a = c .before .before .before .before .before .before .before .args in random-none (elementOf (a .features) (record { x = a .x .now; y = a .y .now; weights = a .weights .now; counts = a .counts .now })) (a .col .now) (c .if1 .taken) (a .p) (bare (a .a)) (a .j) (record { best = a .h; left = left W (a .thresholds .now) s (a .m) })
+returns c = λ W s. let a = c .before .before .before .before .before .before .before .args in random-none (elementOf (a .features) (record { values = a .values .now; targets = a .targets .now; weights = a .weights .now; counts = a .counts .now })) (a .col .now) (c .if1 .taken) (a .p) (bare (a .a)) (a .j) (record { best = a .h; left = left W (a .thresholds .now) s (a .m) })
 
 wide-requires : tie.Need-wide-requires
 wide-requires c κs = search needs
@@ -47,10 +47,10 @@ draw-in-requires : tie.Need-draw-in-requires
 draw-in-requires c κs = search needs
 
 returns-2 : tie.Need-returns-2
-returns-2 c = λ W s. let a = c .before .before .before .before .before .before .before .before .before .before .before .before .before .before .before .before .before .args in random-draws (elementOf (a .features) (record { x = a .x .now; y = a .y .now; weights = a .weights .now; counts = a .counts .now })) (a .p) (a .a) (a .j) (a .h) W (a .thresholds .now) s (a .m) (a .col .now) (c .before .before .before .before .before .before .before .before .before .before .if1 .left) _ _ (value-is (a .features) (record { x = a .x .now; y = a .y .now; weights = a .weights .now; counts = a .counts .now }) (a .j) (getD (a .col .now) 0 0) (c .before .before .before .before .before .before .before .before .before .before .before .before .before .before .before .before .before .pre .1 .0 .1) (c .before .before .before .before .before .before .value-of .ensures) (c .before .before .before .before .before .before .before .before .before .wide .ensures) (c .before .before .before .before .before .before .before .wide2 .ensures)) (value-is (a .features) (record { x = a .x .now; y = a .y .now; weights = a .weights .now; counts = a .counts .now }) (a .j) (getD (a .col .now) (length (a .col .now) - 1) 0) (c .before .before .before .before .before .before .before .before .before .before .before .before .before .before .before .before .before .pre .1 .0 .1) (c .before .before .value-of2 .ensures) (c .before .before .before .before .before .wide3 .ensures) (c .before .before .before .wide4 .ensures)) (c .before .if2 .taken) _ (c .draw-in .ensures W s)
+returns-2 c = λ W s. let a = c .before .before .before .before .before .before .before .before .before .before .before .before .before .before .before .before .before .args in random-draws (elementOf (a .features) (record { values = a .values .now; targets = a .targets .now; weights = a .weights .now; counts = a .counts .now })) (a .p) (a .a) (a .j) (a .h) W (a .thresholds .now) s (a .m) (a .col .now) (c .before .before .before .before .before .before .before .before .before .before .if1 .left) _ _ (value-is (a .features) (record { values = a .values .now; targets = a .targets .now; weights = a .weights .now; counts = a .counts .now }) (a .j) (getD (a .col .now) 0 0) (c .before .before .before .before .before .before .before .before .before .before .before .before .before .before .before .before .before .pre .1 .0 .1) (c .before .before .before .before .before .before .value-of .ensures) (c .before .before .before .before .before .before .before .before .before .wide .ensures) (c .before .before .before .before .before .before .before .wide2 .ensures)) (value-is (a .features) (record { values = a .values .now; targets = a .targets .now; weights = a .weights .now; counts = a .counts .now }) (a .j) (getD (a .col .now) (length (a .col .now) - 1) 0) (c .before .before .before .before .before .before .before .before .before .before .before .before .before .before .before .before .before .pre .1 .0 .1) (c .before .before .value-of2 .ensures) (c .before .before .before .before .before .wide3 .ensures) (c .before .before .before .wide4 .ensures)) (c .before .if2 .taken) _ (c .draw-in .ensures W s)
 
 returns-3 : tie.Need-returns-3
-returns-3 c = λ W s. let a = c .before .before .before .before .before .before .before .before .before .before .before .before .before .before .before .before .args in random-flat (elementOf (a .features) (record { x = a .x .now; y = a .y .now; weights = a .weights .now; counts = a .counts .now })) (a .p) (a .a) (a .j) (a .h) W (a .thresholds .now) s (a .m) (a .col .now) (c .before .before .before .before .before .before .before .before .before .if1 .left) _ _ (value-is (a .features) (record { x = a .x .now; y = a .y .now; weights = a .weights .now; counts = a .counts .now }) (a .j) (getD (a .col .now) 0 0) (c .before .before .before .before .before .before .before .before .before .before .before .before .before .before .before .before .pre .1 .0 .1) (c .before .before .before .before .before .value-of .ensures) (c .before .before .before .before .before .before .before .before .wide .ensures) (c .before .before .before .before .before .before .wide2 .ensures)) (value-is (a .features) (record { x = a .x .now; y = a .y .now; weights = a .weights .now; counts = a .counts .now }) (a .j) (getD (a .col .now) (length (a .col .now) - 1) 0) (c .before .before .before .before .before .before .before .before .before .before .before .before .before .before .before .before .pre .1 .0 .1) (c .before .value-of2 .ensures) (c .before .before .before .before .wide3 .ensures) (c .before .before .wide4 .ensures)) (c .if2 .left)
+returns-3 c = λ W s. let a = c .before .before .before .before .before .before .before .before .before .before .before .before .before .before .before .before .args in random-flat (elementOf (a .features) (record { values = a .values .now; targets = a .targets .now; weights = a .weights .now; counts = a .counts .now })) (a .p) (a .a) (a .j) (a .h) W (a .thresholds .now) s (a .m) (a .col .now) (c .before .before .before .before .before .before .before .before .before .if1 .left) _ _ (value-is (a .features) (record { values = a .values .now; targets = a .targets .now; weights = a .weights .now; counts = a .counts .now }) (a .j) (getD (a .col .now) 0 0) (c .before .before .before .before .before .before .before .before .before .before .before .before .before .before .before .before .pre .1 .0 .1) (c .before .before .before .before .before .value-of .ensures) (c .before .before .before .before .before .before .before .before .wide .ensures) (c .before .before .before .before .before .before .wide2 .ensures)) (value-is (a .features) (record { values = a .values .now; targets = a .targets .now; weights = a .weights .now; counts = a .counts .now }) (a .j) (getD (a .col .now) (length (a .col .now) - 1) 0) (c .before .before .before .before .before .before .before .before .before .before .before .before .before .before .before .before .pre .1 .0 .1) (c .before .value-of2 .ensures) (c .before .before .before .before .wide3 .ensures) (c .before .before .wide4 .ensures)) (c .if2 .left)
 
 pub random-in-spec : {M : Type 1} → statement M
 random-in-spec =

@@ -6,7 +6,7 @@ use mathlib.Core.List.{map}
 use lib.ListN.{length, getD, drop}
 use Rattle.search.specs.Flat.{elementOf}
 use Rattle.rules.specs.Words.{total}
-use Rattle.rules.specs.Search.{tally, totals}
+use Rattle.rules.specs.Search.{tally, totalsOf}
 use Rattle.criterion.specs.declared.Side.{Side}
 use Rattle.rules.specs.Totals.{empty}
 use Rattle.search.specs.Laws.{cell-here, turn-fits, onto, turn-side, turn-most, side-end}
@@ -15,24 +15,24 @@ use Rattle.search.proofs.random.true_side.Statement.{statement}
 use Rattle.search.proofs.random.true_side.Tie as tie
 
 abbrev Inv-loop : tie.InvT-loop
-Inv-loop x y weights counts col rows features j t most s₀ i₀ s i =
+Inv-loop values targets weights counts col rows features j t most s₀ i₀ s i =
     (i ≤ length col)
-    × (s .count + tally (map (elementOf features (record { x = x; y = y; weights = weights; counts = counts })) (drop i col)) ≤ most)
-    × (onto (record { feature = j; threshold = t }) s (map (elementOf features (record { x = x; y = y; weights = weights; counts = counts })) (drop i col)) ≡ onto (record { feature = j; threshold = t }) (record { totals = empty; count = 0 }) (map (elementOf features (record { x = x; y = y; weights = weights; counts = counts })) col))
+    × (s .count + tally (map (elementOf features (record { values = values; targets = targets; weights = weights; counts = counts })) (drop i col)) ≤ most)
+    × (onto (record { feature = j; threshold = t }) s (map (elementOf features (record { values = values; targets = targets; weights = weights; counts = counts })) (drop i col)) ≡ onto (record { feature = j; threshold = t }) (record { totals = empty; count = 0 }) (map (elementOf features (record { values = values; targets = targets; weights = weights; counts = counts })) col))
 
 abbrev μ-loop : tie.MeasureT-loop
-μ-loop x y weights counts col rows features j t most s₀ i₀ s i = length col - i
+μ-loop values targets weights counts col rows features j t most s₀ i₀ s i = length col - i
 
 no-side-requires : tie.Need-no-side-requires Inv-loop μ-loop
 no-side-requires c κs = search needs
 
 loop-holds : tie.Need-loop-holds Inv-loop μ-loop
-unfolding total totals
+unfolding total totalsOf
 loop-holds c =
     let p = c .before .before .before .before .before .before .pre in
     let a = c .before .before .before .before .before .before .args in
     let e = c .no-side .ensures in
-    (omega arith, omega (arith, p .1 .1, ap (λ (z : Side). z .count) e), ap (λ z. onto (record { feature = a .j; threshold = a .t }) z (map (elementOf (a .features) (record { x = a .x .now; y = a .y .now; weights = a .weights .now; counts = a .counts .now })) (a .col .now))) e)
+    (omega arith, omega (arith, p .1 .1, ap (λ (z : Side). z .count) e), ap (λ z. onto (record { feature = a .j; threshold = a .t }) z (map (elementOf (a .features) (record { values = a .values .now; targets = a .targets .now; weights = a .weights .now; counts = a .counts .now })) (a .col .now))) e)
 
 wide-requires : tie.Need-wide-requires Inv-loop μ-loop
 wide-requires c κs = search needs
@@ -52,7 +52,7 @@ cell-of-requires c κs =
     (s .1 .0 .0, subst (λ n. n < c .before .before .before .before .before .before .before .before .before .before .before .args .rows) (sym (c .wide2 .ensures)) (s .0 (c .before .before .before .before .loop .i) (c .before .before .before .loop-test .taken)), subst (λ n. n < c .before .before .before .before .before .before .before .before .before .before .before .args .features) (sym (c .before .before .wide .ensures)) (s .1 .0 .1))
 
 joined-if-requires : tie.Need-joined-if-requires Inv-loop μ-loop
-joined-if-requires c κs = let a = c .before .before .before .before .before .before .before .before .before .before .before .before .args in let l = c .before .before .before .before .before .loop in omega (arith, turn-fits (elementOf (a .features) (record { x = a .x .now; y = a .y .now; weights = a .weights .now; counts = a .counts .now })) (a .col .now) (l .i) (c .before .before .before .before .loop-test .taken) (a .j) (l .s .count) (a .most) (cell-here (a .features) (record { x = a .x .now; y = a .y .now; weights = a .weights .now; counts = a .counts .now }) (a .j) (getD (a .col .now) (l .i) 0) (c .cell-of .ensures) (c .before .before .before .wide .ensures) (c .before .wide2 .ensures)) (l .inv .1), c .before .before .before .before .before .before .before .before .before .before .before .before .fits .most)
+joined-if-requires c κs = let a = c .before .before .before .before .before .before .before .before .before .before .before .before .args in let l = c .before .before .before .before .before .loop in omega (arith, turn-fits (elementOf (a .features) (record { values = a .values .now; targets = a .targets .now; weights = a .weights .now; counts = a .counts .now })) (a .col .now) (l .i) (c .before .before .before .before .loop-test .taken) (a .j) (l .s .count) (a .most) (cell-here (a .features) (record { values = a .values .now; targets = a .targets .now; weights = a .weights .now; counts = a .counts .now }) (a .j) (getD (a .col .now) (l .i) 0) (c .cell-of .ensures) (c .before .before .before .wide .ensures) (c .before .wide2 .ensures)) (l .inv .1), c .before .before .before .before .before .before .before .before .before .before .before .before .fits .most)
 
 add-i : tie.Need-add-i Inv-loop μ-loop
 add-i c = omega (arith, c .before .before .before .before .before .loop-test .taken, c .before .before .before .before .before .before .before .before .before .before .before .before .before .good .1 .1 .1 .1 .0 .0)
@@ -64,14 +64,14 @@ loop-again : tie.Need-loop-again Inv-loop μ-loop
 loop-again c =
     let a = c .before .before .before .before .before .before .before .before .before .before .before .before .before .args in
     let l = c .before .before .before .before .before .before .loop in
-    let e = cell-here (a .features) (record { x = a .x .now; y = a .y .now; weights = a .weights .now; counts = a .counts .now }) (a .j) (getD (a .col .now) (l .i) 0) (c .before .cell-of .ensures) (c .before .before .before .before .wide .ensures) (c .before .before .wide2 .ensures) in (
+    let e = cell-here (a .features) (record { values = a .values .now; targets = a .targets .now; weights = a .weights .now; counts = a .counts .now }) (a .j) (getD (a .col .now) (l .i) 0) (c .before .cell-of .ensures) (c .before .before .before .before .wide .ensures) (c .before .before .wide2 .ensures) in (
       omega arith,
-      turn-most (elementOf (a .features) (record { x = a .x .now; y = a .y .now; weights = a .weights .now; counts = a .counts .now })) (a .col .now) (l .i) (c .before .before .before .before .before .loop-test .taken) (a .j) (a .t) (l .s) (a .most) e (c .joined-if .ensures) (l .inv .1),
-      turn-side (elementOf (a .features) (record { x = a .x .now; y = a .y .now; weights = a .weights .now; counts = a .counts .now })) (a .col .now) (l .i) (c .before .before .before .before .before .loop-test .taken) (a .j) (a .t) (l .s) e (c .joined-if .ensures) ∙ l .inv .2,
+      turn-most (elementOf (a .features) (record { values = a .values .now; targets = a .targets .now; weights = a .weights .now; counts = a .counts .now })) (a .col .now) (l .i) (c .before .before .before .before .before .loop-test .taken) (a .j) (a .t) (l .s) (a .most) e (c .joined-if .ensures) (l .inv .1),
+      turn-side (elementOf (a .features) (record { values = a .values .now; targets = a .targets .now; weights = a .weights .now; counts = a .counts .now })) (a .col .now) (l .i) (c .before .before .before .before .before .loop-test .taken) (a .j) (a .t) (l .s) e (c .joined-if .ensures) ∙ l .inv .2,
     )
 
 returns : tie.Need-returns Inv-loop μ-loop
-returns c = let a = c .before .before .before .before .before .before .before .before .args in let l = c .before .loop in (side-end (elementOf (a .features) (record { x = a .x .now; y = a .y .now; weights = a .weights .now; counts = a .counts .now })) (a .col .now) (l .i) (c .loop-test .left) (record { feature = a .j; threshold = a .t }) (l .s) (l .inv .2), omega (arith, l .inv .1))
+returns c = let a = c .before .before .before .before .before .before .before .before .args in let l = c .before .loop in (side-end (elementOf (a .features) (record { values = a .values .now; targets = a .targets .now; weights = a .weights .now; counts = a .counts .now })) (a .col .now) (l .i) (c .loop-test .left) (record { feature = a .j; threshold = a .t }) (l .s) (l .inv .2), omega (arith, l .inv .1))
 
 pub true-side-spec : {M : Type 1} → statement M
 true-side-spec =

@@ -1,0 +1,245 @@
+// What plain numbers say, and answers as plain numbers, in the forms that C has.
+ghost use mathlib.Core.Path.{_≡_};
+ghost use Prim.Native.Nat.{_<_};
+ghost use Rattle.rules.specs.Answers.{treeTold, forestTold, replyTold, errorTold, nodeTold};
+ghost use Rattle.rules.specs.Plain.{depthOf, splitterOf, triedFrom, settingsOf, treeSettingsOf, forestSettingsOf, scaleOf, treeNumbers, forestNumbers, errorNumbers, nodeNumbers};
+ghost use Rattle.c_types.specs.Plain.{noNode};
+ghost use Rattle.c_types.specs.Nodes.{trueChildOf, childOf};
+use rules::Depth;
+use rules::ErrorReply;
+use rules::ErrorTold;
+use rules::ForestAnswer;
+use rules::ForestSettings;
+use rules::ForestTold;
+use rules::Kind;
+use rules::Node;
+use rules::NodeReply;
+use rules::NodeTold;
+use rules::Reply;
+use rules::Scale;
+use rules::Settings;
+use rules::Splitter;
+use rules::TreeAnswer;
+use rules::TreeSettings;
+use rules::TreeTold;
+use rules::Tried;
+
+// ---- what is given
+
+pub fn depth_of(limited: bool, limit: u16) -> Depth
+    ensures { λ r. ⌜ r ≡ depthOf limited limit ⌝ }
+{
+    if limited {
+        return Depth::AtMost(limit);
+    }
+    Depth::Unlimited
+}
+
+pub fn splitter_of(random: bool) -> Splitter
+    ensures { λ r. ⌜ r ≡ splitterOf random ⌝ }
+{
+    if random {
+        return Splitter::Random;
+    }
+    Splitter::Best
+}
+
+pub fn tried_from(said: bool, tried: u32) -> Tried
+    ensures { λ r. ⌜ r ≡ triedFrom said tried ⌝ }
+{
+    if said {
+        return Tried::Number(tried);
+    }
+    Tried::Unsaid
+}
+
+fn settings_of(limited: bool, limit: u16, leaf: u32, split: u32, random: bool) -> Settings
+    ensures { λ r. ⌜ r ≡ settingsOf limited limit leaf split random ⌝ }
+{
+    let depth = depth_of(limited, limit);
+    let splitter = splitter_of(random);
+    Settings {
+        depth,
+        leaf,
+        split,
+        splitter,
+    }
+}
+
+pub fn tree_settings_of(plain: TreeSettings) -> Settings
+    ensures { λ r. ⌜ r ≡ treeSettingsOf plain ⌝ }
+{
+    settings_of(
+        plain.limited,
+        plain.limit,
+        plain.leaf,
+        plain.split,
+        plain.random,
+    )
+}
+
+pub fn forest_settings_of(plain: ForestSettings) -> Settings
+    ensures { λ r. ⌜ r ≡ forestSettingsOf plain ⌝ }
+{
+    settings_of(
+        plain.limited,
+        plain.limit,
+        plain.leaf,
+        plain.split,
+        plain.random,
+    )
+}
+
+pub fn scale_of(bymass: bool, mass: f64) -> Scale
+    ensures { λ r. ⌜ r ≡ scaleOf bymass mass ⌝ }
+{
+    if bymass {
+        return Scale::ByMass(mass);
+    }
+    Scale::Normalised
+}
+
+// ---- what is told
+
+pub fn tree_told_of(answer: TreeAnswer) -> TreeTold
+    ensures { λ r. ⌜ treeNumbers r ≡ treeTold answer ⌝ }
+{
+    match answer {
+        TreeAnswer::Refused(n) => TreeTold {
+            number: n,
+            tree: 0,
+            search: 0,
+            nodes: 0,
+            depth: 0,
+            mass: 0.0,
+            searches: 0,
+            words: 0,
+            thresholds: 0,
+        },
+        TreeAnswer::BadDraw(p) => TreeTold {
+            number: 7,
+            tree: p.tree,
+            search: p.search,
+            nodes: 0,
+            depth: 0,
+            mass: 0.0,
+            searches: 0,
+            words: 0,
+            thresholds: 0,
+        },
+        TreeAnswer::Grown(r) => TreeTold {
+            number: 0,
+            tree: 0,
+            search: 0,
+            nodes: r.nodes,
+            depth: r.depth,
+            mass: r.mass,
+            searches: r.searches,
+            words: r.words,
+            thresholds: r.thresholds,
+        },
+    }
+}
+
+pub fn forest_told_of(answer: ForestAnswer) -> ForestTold
+    ensures { λ r. ⌜ forestNumbers r ≡ forestTold answer ⌝ }
+{
+    match answer {
+        ForestAnswer::Refused(n) => ForestTold {
+            number: n,
+            tree: 0,
+            search: 0,
+        },
+        ForestAnswer::BadDraw(place) => ForestTold {
+            number: 7,
+            tree: place.tree,
+            search: place.search,
+        },
+        ForestAnswer::Grown => ForestTold {
+            number: 0,
+            tree: 0,
+            search: 0,
+        },
+    }
+}
+
+pub fn number_of(reply: Reply) -> u32
+    ensures { λ r. ⌜ r ≡ replyTold reply ⌝ }
+{
+    match reply {
+        Reply::Refused(n) => n,
+        Reply::Done => 0,
+    }
+}
+
+pub fn error_told_of(reply: ErrorReply) -> ErrorTold
+    ensures { λ r. ⌜ errorNumbers r ≡ errorTold reply ⌝ }
+{
+    match reply {
+        ErrorReply::Refused(n) => ErrorTold {
+            number: n,
+            error: 0.0,
+        },
+        ErrorReply::Error(e) => ErrorTold {
+            number: 0,
+            error: e,
+        },
+    }
+}
+
+fn no_node(number: u32) -> NodeTold
+    ensures { λ r. ⌜ nodeNumbers r ≡ noNode number ⌝ }
+{
+    NodeTold {
+        number,
+        there: false,
+        value: 0.0,
+        feature: 0,
+        threshold: 0.0,
+        score: 0.0,
+        truechild: 0,
+        falsechild: 0,
+    }
+}
+
+// The false child's number is the true child's and one: it must not wrap.
+fn node_read(node: Node) -> NodeTold
+    requires { ⌜ trueChildOf (node .kind) < 4294967295 ⌝ }
+    ensures { λ r. ⌜ nodeNumbers r ≡ nodeTold (NodeReply.Read node) ⌝ }
+{
+    let value = node.value;
+    let kind = node.kind;
+    match kind {
+        Kind::Leaf => NodeTold {
+            number: 0,
+            there: true,
+            value,
+            feature: 0,
+            threshold: 0.0,
+            score: 0.0,
+            truechild: 0,
+            falsechild: 0,
+        },
+        Kind::Split(fork) => NodeTold {
+            number: 0,
+            there: true,
+            value,
+            feature: fork.cut.feature,
+            threshold: fork.cut.threshold,
+            score: fork.score,
+            truechild: fork.children,
+            falsechild: fork.children + 1,
+        },
+    }
+}
+
+pub fn node_told_of(reply: NodeReply) -> NodeTold
+    requires { ⌜ childOf reply < 4294967295 ⌝ }
+    ensures { λ r. ⌜ nodeNumbers r ≡ nodeTold reply ⌝ }
+{
+    match reply {
+        NodeReply::Refused(n) => no_node(n),
+        NodeReply::Missing => no_node(0),
+        NodeReply::Read(node) => node_read(node),
+    }
+}

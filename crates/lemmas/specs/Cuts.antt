@@ -1,0 +1,330 @@
+-- What a search that finds a cut has seen to: the cut leaves rows on both sides, and the least leaf on both; and the two sides are good nodes again.
+-- Assumes nothing.
+use Prim.Native.Nat.{ℕ, _+_, _-_, _<_, _≤_, min}
+use native.Mathlib.Nat.{add-zero}
+use native.Mathlib.Omega.{arith}
+use mathlib.Core.Path.{_≡_, refl, sym, ap, _∙_, subst}
+use mathlib.Core.Bool.{Bool, true, false, not, _&&_, cond, false≢true}
+use mathlib.Core.List.{List, [], _∷_, _++_, append-assoc, append-nil}
+use lib.ListN.{getD, take}
+use lib.Dec.{T, ltb, nltb→le, lit<}
+use lib.Ieee.{Float, lt, le, eq}
+use lib.Ieee.Fits.{and-l, and-r}
+use Rattle.floats.specs.Order.{le-trans64}
+use Rattle.rules.specs.declared.Totals.{Totals}
+use Rattle.rules.specs.declared.Params.{Params}
+use Rattle.rules.specs.declared.Splitter.{Splitter}
+use Rattle.rules.specs.declared.Splitter.the-variants.{Best, Random}
+use Rattle.rules.specs.declared.Cut.{Cut}
+use Rattle.rules.specs.declared.Held.{Held}
+use Rattle.rules.specs.declared.Held.the-variants.{Nothing, Holds}
+use Rattle.rules.specs.declared.Sweep.{Sweep}
+use Rattle.rules.specs.Words.{putIf, keep, total, eachOnce}
+use Rattle.rules.specs.Totals.{empty, takeIn, less, proxy}
+use Rattle.rules.specs.Threshold.{thresholdBetween}
+use Rattle.rules.specs.Draws.{Source, Tapes, takeWords, takeThreshold, nextThreshold, tape}
+use Rattle.rules.specs.Search.{Element, Column, at, totalsOf, tally, NodeRows, goesTrue, trueSide, falseSide, better, judge, candidateAt, step, sweep, bestIn, final, drawn, Tries, drawIn, randomIn, tryOne, tryAll, Found, noCut, cutFound, found, search}
+use Rattle.rules.specs.Growth.{Waiting, child}
+use Rattle.lemmas.specs.Lists.{is-true, Every, every-imp, every-append, every-take, every-keep, keep-all, keep-none, keep-append, keep-keep, getD-keep, total-append, total-sides, Ordered, ordered-keep}
+use Rattle.lemmas.specs.Once.{once-below}
+use Rattle.lemmas.specs.Outs.{Then, then-then}
+use Rattle.lemmas.specs.Values.{Value, le-refl, eq-refl, le-eq, past, between}
+
+-- ---- good nodes and fine cuts
+
+abbrev pub Rising : ℕ → Column → Type 0
+Rising j es = Ordered (λ x y. T (le (at j x) (at j y))) es
+
+-- what is known of a column of a node that is searched
+pub record Sound (P : Params) (node : NodeRows) (j : ℕ) : Type 0 where
+  pub known : j < P .features
+  pub counted : node .count ≡ tally (getD (node .columns) j [])
+  pub some : Every (λ x. 1 ≤ x .count) (getD (node .columns) j [])
+  pub values : Every (λ x. Value (at j x)) (getD (node .columns) j [])
+  pub rising : Rising j (getD (node .columns) j [])
+
+-- the columns hold the same rows: by any weight, as much passes any test
+abbrev pub Level : Params → NodeRows → Type 0
+Level P node =
+    (i j : ℕ) → i < P .features → j < P .features → (f : Element → ℕ) (p : Element → Bool)
+    → total f (keep p (getD (node .columns) i [])) ≡ total f (keep p (getD (node .columns) j []))
+
+pub record Good (P : Params) (node : NodeRows) : Type 0 where
+  pub sound : (j : ℕ) → j < P .features → Sound P node j
+  pub level : Level P node
+
+-- a cut that leaves rows and the least leaf on both sides
+pub record Fine (P : Params) (node : NodeRows) (c : Cut) : Type 0 where
+  pub known : c .feature < P .features
+  pub someTrue : 0 < total (λ e. 1) (trueSide c (getD (node .columns) (c .feature) []))
+  pub someFalse : 0 < total (λ e. 1) (falseSide c (getD (node .columns) (c .feature) []))
+  pub leafTrue : P .leaf ≤ tally (trueSide c (getD (node .columns) (c .feature) []))
+  pub leafFalse : P .leaf ≤ tally (falseSide c (getD (node .columns) (c .feature) []))
+
+abbrev pub Suits : Params → NodeRows → Found → Type 0
+Suits P node noCut = Unit {0}
+Suits P node (cutFound c) = Fine P node c
+
+-- what is known of a node that waits
+pub record Ripe (P : Params) (w : Waiting) : Type 0 where
+  pub good : Good P (w .node)
+  pub fine : Fine P (w .node) (w .cut)
+
+-- ---- the candidate held is fine
+
+abbrev pub HeldFine : Params → NodeRows → Held → Type 0
+HeldFine P node Nothing = Unit {0}
+HeldFine P node (Holds c q) = Fine P node c
+
+better-fine : (P : Params) (node : NodeRows) (h : Held) (c : Cut) (q : Float) → HeldFine P node h → Fine P node c → HeldFine P node (better h c q)
+unfolding better
+better-fine P node Nothing c q g f = f
+better-fine P node (Holds b p) c q g f = go (lt p q)
+  where
+    go : (x : Bool) → HeldFine P node (cond x (Holds c q) (Holds b p))
+    go true = f
+    go false = g
+
+-- a candidate that is taken has passed both tests of the least leaf
+judge-fine : (P : Params) (node : NodeRows) (h : Held) (t : Totals) (k : ℕ) (c : Cut) → HeldFine P node h
+    → (P .leaf ≤ k → P .leaf ≤ node .count - k → Fine P node c) → HeldFine P node (judge P node h t k c)
+unfolding judge
+judge-fine P node h t k c g f = go (ltb k (P .leaf)) (ltb (node .count - k) (P .leaf)) (λ x. nltb→le k (P .leaf) x) (λ x. nltb→le (node .count - k) (P .leaf) x)
+  where
+    go : (a b : Bool) → (T (not a) → P .leaf ≤ k) → (T (not b) → P .leaf ≤ node .count - k)
+        → HeldFine P node (cond a h (cond b h (better h c (proxy t (less (node .totals) t)))))
+    go true b x y = g
+    go false true x y = g
+    go false false x y = better-fine P node h c _ g (f (x tt) (y tt))
+
+-- ---- the best splitter
+
+module _ (P : Params) (node : NodeRows) (j : ℕ) (known : j < P .features) (counted : node .count ≡ tally (getD (node .columns) j [])) where
+  -- a place in the column, pre before it and p the value of the run before it
+  cut-here : (pre : Column) (e : Element) (es : Column) (p : Float)
+      → pre ++ (e ∷ es) ≡ getD (node .columns) j [] → 0 < total (λ x. 1) pre → Value p → Value (at j e)
+      → Every (λ x. T (le (at j x) p)) pre → T (le p (at j e)) → Rising j (e ∷ es) → eq (at j e) p ≡ false
+      → P .leaf ≤ tally pre → P .leaf ≤ node .count - tally pre → Fine P node (record { feature = j; threshold = thresholdBetween p (at j e) })
+  unfolding goesTrue total
+  cut-here pre e es p hc some vp ve below step rise new l₁ l₂ =
+      record {
+        known = known;
+        someTrue = subst (λ r. 0 < total (λ x. 1) r) (sym ts) some;
+        someFalse = subst (λ r. 0 < total (λ x. 1) r) (sym fs) one-more;
+        leafTrue = subst (λ r. P .leaf ≤ tally r) (sym ts) l₁;
+        leafFalse = subst (λ r. P .leaf ≤ tally r) (sym fs) rest-leaf;
+      }
+    where
+      c : Cut
+      c = record { feature = j; threshold = thresholdBetween p (at j e) }
+
+      mid : T (le p (thresholdBetween p (at j e))) × T (lt (thresholdBetween p (at j e)) (at j e))
+      mid = between p (at j e) vp ve step new
+
+      before : Every (λ x. goesTrue c x ≡ true) pre
+      before = every-imp _ _ (λ x h. is-true _ (le-trans64 (at j x) p (thresholdBetween p (at j e)) h (mid .0))) pre below
+
+      after : Every (λ x. goesTrue c x ≡ false) (e ∷ es)
+      after = (past _ (at j e) (at j e) (mid .1) (le-refl (at j e) ve), every-imp _ _ (λ x h. past _ (at j e) (at j x) (mid .1) h) es (rise .0))
+
+      ts : trueSide c (getD (node .columns) j []) ≡ pre
+      ts = ap (trueSide c) (sym hc) ∙ keep-append _ pre (e ∷ es) ∙ (λ i. keep-all _ pre before i ++ keep-none _ (e ∷ es) after i) ∙ append-nil pre
+
+      fs : falseSide c (getD (node .columns) j []) ≡ e ∷ es
+      fs = ap (falseSide c) (sym hc) ∙ keep-append _ pre (e ∷ es)
+          ∙ (λ i. keep-none _ pre (every-imp _ _ (λ x h. ap not h) pre before) i ++ keep-all _ (e ∷ es) (every-imp _ _ (λ x h. ap not h) (e ∷ es) after) i)
+
+      one-more : 0 < 1 + total (λ x. 1) es
+      one-more = omega arith
+
+      rest-leaf : P .leaf ≤ tally (e ∷ es)
+      rest-leaf = omega (arith, l₂, counted, ap tally hc, total-append (λ x. x .count) pre (e ∷ es))
+
+  -- the sweep, from a place that is not the first
+  sweep-fine : (pre rest : Column) (w : Sweep) → pre ++ rest ≡ getD (node .columns) j []
+      → w .count ≡ tally pre → 0 < total (λ x. 1) pre → Value (w .last) → Every (λ x. Value (at j x)) rest
+      → Every (λ x. T (le (at j x) (w .last))) pre → Every (λ x. T (le (w .last) (at j x))) rest → Rising j rest
+      → HeldFine P node (w .best) → HeldFine P node (sweep P node j w rest .best)
+  unfolding sweep step candidateAt total
+  sweep-fine pre [] w hc hk some vl vs below above rise g = g
+  sweep-fine pre (e ∷ es) w hc hk some vl vs below above rise g =
+      go (eq (at j e) (w .last)) refl (λ w′ k v b a h. sweep-fine (pre ++ (e ∷ [])) es w′ (append-assoc pre (e ∷ []) es ∙ hc) k longer v (vs .1) b a (rise .1) h)
+    where
+      next : Bool → Sweep
+      next b =
+          record {
+            before = takeIn (w .before) (e .target) (e .mass);
+            count = w .count + e .count;
+            last = cond b (w .last) (at j e);
+            best = candidateAt (not b) P node j (at j e) w;
+          }
+
+      more : w .count + e .count ≡ tally (pre ++ (e ∷ []))
+      more = omega (arith, hk, total-append (λ x. x .count) pre (e ∷ []), add-zero (e .count))
+
+      longer : 0 < total (λ x. 1) (pre ++ (e ∷ []))
+      longer = omega (arith, some, total-append (λ x. 1) pre (e ∷ []))
+
+      go : (b : Bool) → eq (at j e) (w .last) ≡ b
+          → ((w′ : Sweep) → w′ .count ≡ tally (pre ++ (e ∷ [])) → Value (w′ .last) → Every (λ x. T (le (at j x) (w′ .last))) (pre ++ (e ∷ []))
+          → Every (λ x. T (le (w′ .last) (at j x))) es → HeldFine P node (w′ .best) → HeldFine P node (sweep P node j w′ es .best))
+          → HeldFine P node (sweep P node j (next b) es .best)
+      go true q ih =
+          ih (next true) more vl (every-append _ pre (e ∷ []) below (le-eq (at j e) (w .last) q, tt)) (above .1) g
+      go false q ih =
+          ih (next false) more (vs .0)
+          (every-append _ pre (e ∷ []) (every-imp _ _ (λ x h. le-trans64 (at j x) (w .last) (at j e) h (above .0)) pre below) (le-refl (at j e) (vs .0), tt))
+          (rise .0)
+          (judge-fine P node (w .best) (w .before) (w .count) _ g
+          (λ l₁ l₂. cut-here pre e es (w .last) hc some vl (vs .0) below (above .0) rise q
+          (subst (λ n. P .leaf ≤ n) hk l₁) (subst (λ n. P .leaf ≤ node .count - n) hk l₂)))
+
+  -- along the whole column
+  pub best-fine : (h : Held) → Every (λ x. Value (at j x)) (getD (node .columns) j []) → Rising j (getD (node .columns) j [])
+      → HeldFine P node h → HeldFine P node (bestIn P node j h (getD (node .columns) j []))
+  unfolding bestIn sweep step candidateAt total
+  best-fine h vs rise g = go (getD (node .columns) j []) refl vs rise
+    where
+      next : Element → Bool → Sweep
+      next e b =
+          record {
+            before = takeIn empty (e .target) (e .mass);
+            count = 0 + e .count;
+            last = cond b (at j e) (at j e);
+            best = candidateAt (not b) P node j (at j e) (record { before = empty; count = 0; last = at j e; best = h });
+          }
+
+      one : (e : Element) → 0 + e .count ≡ e .count + 0
+      one e = omega arith
+
+      go : (col : Column) → col ≡ getD (node .columns) j [] → Every (λ x. Value (at j x)) col → Rising j col → HeldFine P node (bestIn P node j h col)
+      go [] hc vs rise = g
+      go (e ∷ es) hc vs rise =
+          subst (λ b. HeldFine P node (sweep P node j (next e b) es .best)) (sym (eq-refl (at j e) (vs .0)))
+          (sweep-fine (e ∷ []) es (next e true) hc (one e) (lit< tt) (vs .0) (vs .1) (le-refl (at j e) (vs .0), tt) (rise .0) (rise .1) g)
+
+  -- ---- the random splitter
+
+  put-some : (b : Bool) (e : Element) (es : Column) → b ≡ true → 0 < total (λ x. 1) (putIf b e es)
+  unfolding putIf total
+  put-some true e es h = omega arith
+  put-some false e es h = absurd (false≢true h)
+
+  put-more : (b : Bool) (e : Element) (es : Column) → 0 < total (λ x. 1) es → 0 < total (λ x. 1) (putIf b e es)
+  unfolding putIf total
+  put-more true e es h = omega arith
+  put-more false e es h = h
+
+  keep-last : (p : Element → Bool) (e : Element) (es : Column) → p (final e es) ≡ true → 0 < total (λ x. 1) (keep p (e ∷ es))
+  unfolding keep final
+  keep-last p e [] h = put-some (p e) e [] h
+  keep-last p e (f ∷ fs) h = put-more (p e) e (keep p (f ∷ fs)) (keep-last p f fs h)
+
+  value-last : (e : Element) (es : Column) → Every (λ x. Value (at j x)) (e ∷ es) → Value (at j (final e es))
+  unfolding final
+  value-last e [] v = v .0
+  value-last e (f ∷ fs) v = value-last f fs (v .1)
+
+  drawn-fine : (h : Held) (e : Element) (es : Column) (t : Float) → (e ∷ es) ≡ getD (node .columns) j [] → Value (at j (final e es))
+      → T (le (at j e) t) → T (lt t (at j (final e es))) → HeldFine P node h → HeldFine P node (drawn P node j h (e ∷ es) t)
+  unfolding drawn goesTrue keep
+  drawn-fine h e es t hc v low high g =
+      judge-fine P node h (totalsOf empty (trueSide c (e ∷ es))) (tally (trueSide c (e ∷ es))) c g
+      (λ l₁ l₂. subst (λ col. 0 < total (λ x. 1) (trueSide c col) → 0 < total (λ x. 1) (falseSide c col) → P .leaf ≤ tally (trueSide c col) → P .leaf ≤ tally (falseSide c col) → Fine P node c) (sym hc)
+      (λ x y z u. record { known = known; someTrue = x; someFalse = y; leafTrue = z; leafFalse = u })
+      (put-some (le (at j e) t) e (keep (λ x. le (at j x) t) es) (is-true _ low))
+      (keep-last (λ x. not (le (at j x) t)) e es (ap not (past t (at j (final e es)) (at j (final e es)) high (le-refl _ v))))
+      l₁
+      (omega (arith, l₂, counted, ap tally hc, total-sides (λ x. x .count) (λ x. le (at j x) t) (e ∷ es))))
+    where
+      c : Cut
+      c = record { feature = j; threshold = t }
+
+-- ---- a search
+
+-- a source whose draws are what they should be: features in range, thresholds from the lowest up to below the highest
+pub record Fair (P : Params) {S : Type 0} (src : Source S) : Type 0 where
+  pub order : (s : S) → Then (src .shuffle s) (λ o. Every (λ j. j < P .features) (take (min (P .tried) (P .features)) (o .0)))
+  pub inside : (s : S) (lowest highest : Float) → Then (src .threshold s lowest highest) (λ m. T (le lowest (m .0)) × T (lt (m .0) highest))
+
+module _ (P : Params) {S : Type 0} (src : Source S) (fair : Fair P src) where
+  random-fine : (node : NodeRows) (j : ℕ) (r : Tries S) → Sound P node j → HeldFine P node (r .best)
+      → Then (randomIn src P node j r (getD (node .columns) j [])) (λ r′. HeldFine P node (r′ .best))
+  unfolding randomIn drawIn
+  random-fine node j r s g = start (getD (node .columns) j []) refl (s .values)
+    where
+      drawing : (e : Element) (es : Column) → (e ∷ es) ≡ getD (node .columns) j [] → Value (at j (final e es)) → (b : Bool)
+          → Then (drawIn src b P node j r e es) (λ r′. HeldFine P node (r′ .best))
+      drawing e es hc v false = g
+      drawing e es hc v true =
+          then-then (src .threshold (r .left) (at j e) (at j (final e es))) _ _ _ (fair .inside (r .left) (at j e) (at j (final e es)))
+          (λ m h. drawn-fine P node j (s .known) (s .counted) (r .best) e es (m .0) hc v (h .0) (h .1) g)
+
+      start : (col : Column) → col ≡ getD (node .columns) j [] → Every (λ x. Value (at j x)) col → Then (randomIn src P node j r col) (λ r′. HeldFine P node (r′ .best))
+      start [] hc v = g
+      start (e ∷ es) hc v = drawing e es hc (value-last P node j (s .known) (s .counted) e es v) (lt (at j e) (at j (final e es)))
+
+  try-fine : (b : Splitter) (node : NodeRows) (j : ℕ) (r : Tries S) → Sound P node j → HeldFine P node (r .best)
+      → Then (tryOne src b P node j r) (λ r′. HeldFine P node (r′ .best))
+  unfolding tryOne
+  try-fine Best node j r s g = best-fine P node j (s .known) (s .counted) (r .best) (s .values) (s .rising) g
+  try-fine Random node j r s g = random-fine node j r s g
+
+  tries-fine : (node : NodeRows) (js : List ℕ) (r : Tries S) → Good P node → Every (λ j. j < P .features) js → HeldFine P node (r .best)
+      → Then (tryAll src P node js r) (λ r′. HeldFine P node (r′ .best))
+  unfolding tryAll
+  tries-fine node [] r s b g = g
+  tries-fine node (j ∷ js) r s b g =
+      then-then (tryOne src _ P node j r) _ _ _ (try-fine _ node j r (s .sound j (b .0)) g) (λ r′ g′. tries-fine node js r′ s (b .1) g′)
+
+  found-fine : (node : NodeRows) (h : Held) → HeldFine P node h → Suits P node (found h)
+  found-fine node Nothing g = tt
+  found-fine node (Holds c q) g = g
+
+  pub search-fine : (s : S) (node : NodeRows) → Good P node → Then (search src P s node) (λ r. Suits P node (r .0))
+  unfolding search
+  search-fine s node g =
+      then-then (src .shuffle s) _ _ _ (fair .order s)
+      (λ o h. then-then (tryAll src P node (take (min (P .tried) (P .features)) (o .0)) (record { best = Nothing; left = o .1 })) _ _ _ (tries-fine node _ _ g h tt)
+      (λ r q. found-fine node (r .best) q))
+
+-- the tapes are fair
+pub tape-fair : (P : Params) → Fair P (tape (P .features))
+unfolding tape takeWords takeThreshold nextThreshold
+tape-fair P = record { order = λ d. words d (eachOnce (P .features) (take (P .features) (d .words))) (λ t. t); inside = λ d lo hi. thresholds d lo hi (d .thresholds) }
+  where
+    words : (d : Tapes) (b : Bool) → (T b → T (eachOnce (P .features) (take (P .features) (d .words))))
+        → Then (takeWords b (P .features) d) (λ o. Every (λ j. j < P .features) (take (min (P .tried) (P .features)) (o .0)))
+    words d false h = tt
+    words d true h = every-take _ (min (P .tried) (P .features)) _ (once-below (P .features) _ (h tt))
+
+    taken : (d : Tapes) (lo hi t : Float) (ts : List Float) (b : Bool) → (T b → T (le lo t && lt t hi)) → Then (takeThreshold b t ts d) (λ m. T (le lo (m .0)) × T (lt (m .0) hi))
+    taken d lo hi t ts false h = tt
+    taken d lo hi t ts true h = (and-l (le lo t) (lt t hi) (h tt), and-r (le lo t) (lt t hi) (h tt))
+
+    thresholds : (d : Tapes) (lo hi : Float) (l : List Float) → Then (nextThreshold l lo hi d) (λ m. T (le lo (m .0)) × T (lt (m .0) hi))
+    thresholds d lo hi [] = tt
+    thresholds d lo hi (t ∷ ts) = taken d lo hi t ts (le lo t && lt t hi) (λ x. x)
+
+-- ---- the sides of a fine cut are good
+
+pub side-good : (P : Params) (b : Bool → Bool) (w : Waiting) → Ripe P w → Good P (child b w)
+unfolding child
+side-good P b w h =
+    record {
+      sound = λ j hj.
+          record {
+            known = hj;
+            counted = h .good .level (w .cut .feature) j (h .fine .known) hj (λ e. e .count) p ∙ ap tally (sym (getD-keep p (w .node .columns) j));
+            some = subst (Every (λ x. 1 ≤ x .count)) (sym (getD-keep p (w .node .columns) j)) (every-keep _ p _ (h .good .sound j hj .some));
+            values = subst (Every (λ x. Value (at j x))) (sym (getD-keep p (w .node .columns) j)) (every-keep _ p _ (h .good .sound j hj .values));
+            rising = subst (Rising j) (sym (getD-keep p (w .node .columns) j)) (ordered-keep _ p _ (h .good .sound j hj .rising));
+          };
+      level = λ i j hi hj f q.
+          ap (λ c. total f (keep q c)) (getD-keep p (w .node .columns) i) ∙ ap (total f) (keep-keep q p (getD (w .node .columns) i []))
+          ∙ h .good .level i j hi hj f (λ e. p e && q e)
+          ∙ sym (ap (λ c. total f (keep q c)) (getD-keep p (w .node .columns) j) ∙ ap (total f) (keep-keep q p (getD (w .node .columns) j [])));
+    }
+  where
+    p : Element → Bool
+    p e = b (goesTrue (w .cut) e)

@@ -1,0 +1,56 @@
+-- `node_growth::push_found` meets its contract: what the search found decides: nothing changes, or one more waits at the end of the list. Assumes nothing.
+use borrow.Author.Needs.{needs}
+use Rattle.node_growth.specs.Steps.{push-none, push-uncut, push-cut}
+use Rattle.node_growth.proofs.push_found.Statement.{statement}
+use Rattle.node_growth.proofs.push_found.Tie as tie
+
+enum-known-r : tie.Need-enum-known-r
+enum-known-r c = search needs
+
+enum-told : tie.Need-enum-told
+enum-told c = search needs
+
+returns : tie.Need-returns
+returns c = let a = c .before .before .args in push-none (a .wholes .now) (a .reals .now) (a .n) (a .node) (a .level) (a .from) (a .to) (a .a) (a .d) (c .enum-told .given .1)
+
+enum-told-2 : tie.Need-enum-told-2
+enum-told-2 c = search needs
+
+enum-known-h : tie.Need-enum-known-h
+enum-known-h c = search needs
+
+push-requires : tie.Need-push-requires
+push-requires c κs = search needs
+
+add-t23 : tie.Need-add-t23
+add-t23 c = search needs
+
+returns-2 : tie.Need-returns-2
+returns-2 c = let a = c .before .before .before .before .before .args in push-uncut (a .wholes .now) (a .reals .now) (a .n) (a .node) (a .level) (a .from) (a .to) (a .a) (a .d) (c .before .before .before .r .given .1) (c .enum-told2 .given .1)
+
+same-length : tie.Need-same-length
+same-length c = search needs
+
+same-length-2 : tie.Need-same-length-2
+same-length-2 c = search needs
+
+returns-3 : tie.Need-returns-3
+returns-3 c =
+    let a = c .before .before .before .before .before .before .before .before .before .before .before .before .args in
+    push-cut (a .wholes .now) (a .reals .now) (a .n) (a .node) (a .level) (a .from) (a .to) (a .a) (a .d) (c .before .before .before .before .before .before .before .before .before .before .before .before .pre .0) (c .before .before .before .before .before .before .before .before .before .before .before .before .pre .1) (c .before .before .before .before .before .before .before .before .before .before .r .given .1) (c .before .before .before .before .before .before .before .h .given .1) (c .before .before .push .ensures .0) (c .before .before .push .ensures .1)
+
+pub push-found-spec : {M : Type 1} → statement M
+push-found-spec =
+    tie.close
+    (tie.spec
+    enum-known-r
+    enum-told
+    returns
+    enum-told-2
+    enum-known-h
+    push-requires
+    add-t23
+    returns-2
+    same-length
+    same-length-2
+    returns-3)

@@ -1,0 +1,178 @@
+-- A node in the work columns: its columns by its stretch, what a split leaves of them and of those below, and what a good node gives the code. Assumes nothing.
+use Prim.Native.Nat.{ℕ, zero, suc, _+_, _-_, _*_, _<_, _≤_}
+use native.Mathlib.Nat.{le-trans, zero-add}
+use native.Mathlib.Omega.{arith}
+use mathlib.Core.Path.{_≡_, refl, sym, ap, _∙_, subst}
+use mathlib.Core.Bool.{Bool, true, false, not}
+use mathlib.Core.List.{List, [], _∷_, _++_, map, map-map, append-assoc}
+use lib.ListN.{length, getD, set, length-set, length-append, length-take}
+use lib.Dec.{T}
+use lib.Ieee.{Float, le}
+use Rattle.floats.specs.Order.{stays-out}
+use Rattle.rules.specs.declared.Params.{Params}
+use Rattle.rules.specs.declared.Cut.{Cut}
+use Rattle.rules.specs.Fit.{elementIn}
+use Rattle.rules.specs.Search.{Element, Column, at, goesTrue, tally, totalsOf, sideOf}
+use Rattle.rules.specs.Growth.{TreeNode, child}
+use Rattle.rules.specs.Words.{keep, putIf, total, from}
+use Rattle.rules.specs.Totals.{empty}
+use Rattle.lemmas.specs.Lists.{is-false, Every, every-at, every-imp, map-same, keep-map, getD-from, from-below}
+use Rattle.lemmas.specs.Cuts.{Rising, Good}
+use Rattle.lemmas.specs.Work.{part, columnsAt}
+use Rattle.work_columns.specs.Columns.{Cleft}
+use Rattle.work_columns.specs.Split.{Alike, goes}
+use Rattle.work_columns.specs.Stretches.{part-every}
+use Rattle.criterion.specs.declared.Side.{Side}
+use Rattle.criterion.specs.Sides.{sideOn}
+use Rattle.search.specs.Flat.{Tables, Shaped, elementOf, NodeAsks}
+use Rattle.node_growth.specs.declared.WaitingNode.{WaitingNode}
+use Rattle.node_growth.specs.Rooms.{Ground, waitAt, cutOf, nodeTask, waitingOf, stackOf, Laid, BelowTo}
+use Rattle.node_growth.specs.Nodes.{columnOf, store-node, add-node}
+
+abbrev pub withCols : Ground → List ℕ → Ground
+withCols g order = record { rows = g .rows; features = g .features; tables = g .tables; order = order }
+
+-- ---- columns, one by one
+
+pub cols-alike : (el : ℕ → Element) (rows features : ℕ) (order′ order : List ℕ) (a e : ℕ) → ((k : ℕ) → k < features → part rows k a e order′ ≡ part rows k a e order)
+    → columnsAt el rows features a e order′ ≡ columnsAt el rows features a e order
+unfolding columnsAt
+cols-alike el rows features order′ order a e h =
+    map-same _ _ (from 0 features) (every-imp _ _ (λ k u. ap (map el) (h k (omega arith))) (from 0 features) (from-below 0 features))
+
+-- one side of every column, as rows and as elements
+side-columns : (el : ℕ → Element) (c : Cut) (b : Bool → Bool) (n : ℕ) (old new : ℕ → List ℕ) → ((k : ℕ) → k < n → new k ≡ keep (λ r. b (goesTrue c (el r))) (old k))
+    → map (λ k. map el (new k)) (from 0 n) ≡ map (sideOf b c) (map (λ k. map el (old k)) (from 0 n))
+side-columns el c b n old new h =
+    map-same _ _ (from 0 n) (every-imp _ _ (λ k u. ap (map el) (h k (omega arith)) ∙ sym (keep-map (λ e. b (goesTrue c e)) el (old k))) (from 0 n) (from-below 0 n))
+    ∙ sym (map-map (sideOf b c) (λ k. map el (old k)) (from 0 n))
+
+-- a node's column k
+pub column-at : (g : Ground) (a e k : ℕ) → k < g .features
+    → map (elementOf (g .features) (g .tables)) (part (g .rows) k a e (g .order)) ≡ getD (columnsAt (elementOf (g .features) (g .tables)) (g .rows) (g .features) a e (g .order)) k []
+unfolding columnsAt
+column-at g a e k h = sym (getD-from mine 0 (g .features) k [] h ∙ ap mine (zero-add k))
+  where
+    mine : ℕ → Column
+    mine j = map (elementOf (g .features) (g .tables)) (part (g .rows) j a e (g .order))
+
+-- a side of a split is the definition's child
+pub task-of : (g : Ground) (e : WaitingNode) (order′ : List ℕ) (b : Bool → Bool) (a′ e′ : ℕ) (h : Side) → e .feature < g .features
+    → ((k : ℕ) → k < g .features → part (g .rows) k a′ e′ order′ ≡ keep (λ r. b (goesTrue (cutOf e) (elementOf (g .features) (g .tables) r))) (part (g .rows) k (e .start) (e .end) (g .order)))
+    → h ≡ sideOn (sideOf b (cutOf e) (map (elementOf (g .features) (g .tables)) (part (g .rows) (e .feature) (e .start) (e .end) (g .order))))
+    → nodeTask (withCols g order′) a′ e′ h ≡ child b (waitingOf g e)
+unfolding child columnsAt
+task-of g e order′ b a′ e′ h hj hp eh = λ i.
+    record {
+      columns = side-columns el (cutOf e) b (g .features) (λ k. part (g .rows) k (e .start) (e .end) (g .order)) (λ k. part (g .rows) k a′ e′ order′) hp i;
+      totals = (ap (λ (z : Side). z .totals) eh ∙ ap (λ z. totalsOf empty (sideOf b (cutOf e) z)) mine) i;
+      count = (ap (λ (z : Side). z .count) eh ∙ ap (λ z. tally (sideOf b (cutOf e) z)) mine) i;
+    }
+  where
+    el : ℕ → Element
+    el = elementOf (g .features) (g .tables)
+
+    mine : map el (part (g .rows) (e .feature) (e .start) (e .end) (g .order)) ≡ getD (columnsAt el (g .rows) (g .features) (e .start) (e .end) (g .order)) (e .feature) []
+    mine = column-at g (e .start) (e .end) (e .feature) hj
+
+-- what lies below the split stretch is as it was
+pub frame : (g : Ground) (order′ : List ℕ) (a : ℕ) → ((k b f : ℕ) → b ≤ f → f ≤ a → part (g .rows) k b f order′ ≡ part (g .rows) k b f (g .order))
+    → (wholes : List (List ℕ)) (reals : List (List Float)) (high m : ℕ) → high ≤ a → Laid wholes reals high m → stackOf (withCols g order′) wholes reals m ≡ stackOf g wholes reals m
+frame g order′ a beside wholes reals high zero hh l = refl
+frame g order′ a beside wholes reals high (suc m) hh l =
+    ap (λ z. record { number = x .node; level = x .level; node = record { columns = z; totals = record { sum = x .sum; mass = x .mass }; count = x .count }; cut = cutOf x } ∷ stackOf (withCols g order′) wholes reals m)
+    (cols-alike (elementOf (g .features) (g .tables)) (g .rows) (g .features) order′ (g .order) (x .start) (x .end) (λ k u. beside k (x .start) (x .end) (l .1) (le-trans (l .2) hh)))
+    ∙ ap (λ z. waitingOf g x ∷ z) (frame g order′ a beside wholes reals (x .start) m (le-trans (l .1) (le-trans (l .2) hh)) (l .3))
+  where
+    x : WaitingNode
+    x = waitAt wholes reals m
+
+-- ---- what a good node gives the code
+
+level-sum : (f : ℕ) (t : Tables) (g : ℕ → ℕ) (l : List ℕ) → total (λ x. g (x .row)) (keep (λ x. true) (map (elementOf f t) l)) ≡ total g l
+unfolding total keep putIf elementIn
+level-sum f t g [] = refl
+level-sum f t g (x ∷ l) = ap (λ n. g x + n) (level-sum f t g l)
+
+-- where values never fall, no row goes true after one that does not
+rising-cleft : (el : ℕ → Element) (c : Cut) (l : List ℕ) → Rising (c .feature) (map el l) → Cleft (goes el c) l
+unfolding goesTrue
+rising-cleft el c [] r = tt
+rising-cleft el c (x ∷ l) r = (λ out. after l (subst (λ b. T (not b)) (sym out) tt) (r .0), rising-cleft el c l (r .1))
+  where
+    after : (l : List ℕ) → T (not (goes el c x)) → Every (λ y. T (le (at (c .feature) (el x)) (at (c .feature) y))) (map el l) → Every (λ k. goes el c k ≡ false) l
+    after [] out h = tt
+    after (y ∷ l) out h = (is-false _ (stays-out (at (c .feature) (el x)) _ _ out (h .0)), after l out (h .1))
+
+module _ (g : Ground) (P : Params) (sm : g .features ≡ P .features) (a e : ℕ) (q : Side) (gd : Good P (nodeTask g a e q)) where
+  pub good-alike : (i j : ℕ) → i < g .features → j < g .features → Alike (part (g .rows) i a e (g .order)) (part (g .rows) j a e (g .order))
+  good-alike i j hi hj f =
+      sym (level-sum (g .features) (g .tables) f (part (g .rows) i a e (g .order)))
+      ∙ ap (λ z. total (λ x. f (x .row)) (keep (λ x. true) z)) (column-at g a e i hi)
+      ∙ gd .level i j (subst (λ n. i < n) sm hi) (subst (λ n. j < n) sm hj) (λ x. f (x .row)) (λ x. true)
+      ∙ sym (ap (λ z. total (λ x. f (x .row)) (keep (λ x. true) z)) (column-at g a e j hj))
+      ∙ level-sum (g .features) (g .tables) f (part (g .rows) j a e (g .order))
+
+  pub good-room : (k : ℕ) → k < g .features → tally (map (elementOf (g .features) (g .tables)) (part (g .rows) k a e (g .order))) ≤ q .count
+  good-room k h = let n = ap tally (column-at g a e k h) in let c = gd .sound k (subst (λ n. k < n) sm h) .counted in omega (arith, n, c)
+
+  pub good-cleft : (c : Cut) → c .feature < g .features → Cleft (goes (elementOf (g .features) (g .tables)) c) (part (g .rows) (c .feature) a e (g .order))
+  good-cleft c h =
+      rising-cleft (elementOf (g .features) (g .tables)) c (part (g .rows) (c .feature) a e (g .order))
+      (subst (Rising (c .feature)) (sym (column-at g a e (c .feature) h)) (gd .sound (c .feature) (subst (λ n. c .feature < n) sm h) .rising))
+
+  pub good-asks : Shaped (g .rows) (g .features) (g .tables) → length (g .order) ≡ g .features * g .rows → (n : ℕ) → e ≤ n → BelowTo g n → a ≤ e → e ≤ g .rows
+      → NodeAsks (g .rows) (g .features) a e (g .tables) (g .order) (q .count)
+  good-asks sh lg n en bl h k =
+      record {
+        shape = sh;
+        long = lg;
+        ordered = h;
+        high = k;
+        below = λ j l i u. every-at (λ r. r < g .rows) (part (g .rows) j a e (g .order)) 0 i (part-every (λ r. r < g .rows) (g .rows) j 0 n a e (g .order) (omega arith) en h (bl j l)) u;
+        room = good-room;
+      }
+
+-- ---- the node columns
+
+module _ {A : Type 0} (f : TreeNode → A) where
+  pub three : (ns : List TreeNode) (old : List A) (d : A) (i : ℕ) (a b c : TreeNode) {x y z : A} → x ≡ f a → y ≡ f b → z ≡ f c → i < length ns → length ns + 2 ≤ length old
+      → set (set (set (columnOf f ns old) i x) (length ns) y) (length ns + 1) z ≡ columnOf f (set ns i a ++ (b ∷ c ∷ [])) old
+  three ns old d i a b c {x} {y} {z} ex ey ez hi ho =
+      ap (λ u. set (set (set (columnOf f ns old) i u) (length ns) y) (length ns + 1) z) ex
+      ∙ ap (λ u. set (set u (length ns) y) (length ns + 1) z) (store-node f ns old i a hi)
+      ∙ ap (λ u. set (set (columnOf f (set ns i a) old) (length ns) u) (length ns + 1) z) ey
+      ∙ ap (λ n. set (set (columnOf f (set ns i a) old) n (f b)) (length ns + 1) z) (sym (length-set ns i a))
+      ∙ ap (λ u. set u (length ns + 1) z) (add-node f (set ns i a) old d b (subst (λ n. n < length old) (sym (length-set ns i a)) (omega arith)))
+      ∙ ap (λ u. set (columnOf f (set ns i a ++ (b ∷ [])) old) (length ns + 1) u) ez
+      ∙ ap (λ n. set (columnOf f (set ns i a ++ (b ∷ [])) old) n (f c)) (sym more)
+      ∙ add-node f (set ns i a ++ (b ∷ [])) old d c (subst (λ n. n < length old) (sym more) (omega arith))
+      ∙ ap (λ u. columnOf f u old) (append-assoc (set ns i a) (b ∷ []) (c ∷ []))
+    where
+      more : length (set ns i a ++ (b ∷ [])) ≡ length ns + 1
+      more = length-append (set ns i a) (b ∷ []) ∙ ap (λ n. n + 1) (length-set ns i a)
+
+-- ---- rows of a stretch
+
+pub part-short : (rows : ℕ) (order : List ℕ) (a e k : ℕ) → length (part rows k a e order) ≤ e - a
+part-short rows order a e k = simp length-take (omega arith)
+
+pub ones-map : (el : ℕ → Element) (l : List ℕ) → total (λ x. 1) (map el l) ≡ length l
+unfolding total
+ones-map el [] = refl
+ones-map el (x ∷ l) = let h = ones-map el l in omega (arith, h)
+
+some-row : (el : ℕ → Element) (p : Element → Bool) (l : List ℕ) → 0 < total (λ x. 1) (keep p (map el l)) → 0 < length l
+unfolding keep total
+some-row el p [] h = h
+some-row el p (x ∷ l) h = omega arith
+
+-- a stretch from which something is kept has rows
+pub rows-of : (rows : ℕ) (order : List ℕ) (a e k : ℕ) (el : ℕ → Element) (p : Element → Bool) → 0 < total (λ x. 1) (keep p (map el (part rows k a e order))) → a < e
+rows-of rows order a e k el p h =
+    let s = some-of el p (part rows k a e order) h in
+    let q = part-short rows order a e k in
+    omega (arith, s, q)
+  where
+    some-of : (el : ℕ → Element) (p : Element → Bool) (l : List ℕ) → 0 < total (λ x. 1) (keep p (map el l)) → 0 < length l
+    some-of = some-row

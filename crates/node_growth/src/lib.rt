@@ -1,0 +1,366 @@
+// A node of a tree that grows: the waiting list in two slices of arrays, six node columns, and work columns that are split in place.
+ghost use mathlib.Core.Path.{_≡_};
+ghost use mathlib.Core.Bool.{_||_};
+ghost use Prim.Native.Nat.{_+_, _<_};
+ghost use lib.ListN.{length};
+ghost use Rattle.rules.specs.Lent.{Columns};
+ghost use Rattle.rules.specs.Growth.{searchable};
+ghost use Rattle.rules.specs.Fit.{elementIn};
+ghost use Rattle.work_columns.specs.Split.{SplitAsks, SplitDone};
+ghost use Rattle.search.specs.Flat.{bare};
+ghost use Rattle.node_growth.specs.Rooms.{LongAll, PushDone, ChildAsks, ChildDone, cutOf, wroteSides, BothAsks, BothDone, SidesAsks, SidesDone};
+use criterion::Side;
+use rules::Cut;
+use rules::Held;
+use rules::Params;
+use search::Drawn;
+use search::Search;
+use work_columns::Sides;
+
+pub mod nodes;
+
+// A node that waits: its number, where its rows lie, its level and count, its totals, and the cut that its search found.
+pub struct WaitingNode {
+    pub node: u32,
+    pub start: u32,
+    pub end: u32,
+    pub level: u32,
+    pub count: u32,
+    pub feature: u32,
+    pub sum: f64,
+    pub mass: f64,
+    pub cut: f64,
+}
+
+// A node as it stands in the six columns.
+pub struct Row {
+    pub value: f64,
+    pub feature: u32,
+    pub threshold: f64,
+    pub score: f64,
+    pub truechild: u32,
+    pub falsechild: u32,
+}
+
+// How many wait, and how far the tapes are used.
+pub struct Stand {
+    pub waiting: usize,
+    pub drawn: Drawn,
+}
+
+// A bad draw at a search, or how it stands.
+pub enum Step {
+    Refused(usize),
+    Goes(Stand),
+}
+
+// What a search of the node found joins the waiting list.
+pub fn push_found(
+    wholes: &mut [[u32; 6]],
+    reals: &mut [[f64; 3]],
+    n: usize,
+    node: u32,
+    level: u32,
+    from: u32,
+    to: u32,
+    a: Side,
+    d: Drawn,
+    r: Search,
+) -> Step
+    requires { ⌜ (n < length (now wholes)) × (n < length (now reals)) ⌝ }
+    ensures { λ s. ⌜ PushDone (now (wholes .entry)) (now (reals .entry)) (now (wholes .exit)) (now (reals .exit)) n node level from to a d r s ⌝ }
+{
+    let Search::Goes(h, e) = r else {
+        return Step::Refused(d.searches);
+    };
+    match h {
+        Held::Nothing => Step::Goes(Stand {
+            waiting: n,
+            drawn: e,
+        }),
+        Held::Holds(c, _) => {
+            let t = a.totals;
+            let w = WaitingNode {
+                node,
+                start: from,
+                end: to,
+                level,
+                count: a.count,
+                feature: c.feature,
+                sum: t.sum,
+                mass: t.mass,
+                cut: c.threshold,
+            };
+            crate::nodes::push(wholes, reals, n, w);
+            Step::Goes(Stand {
+                waiting: n + 1,
+                drawn: e,
+            })
+        }
+    }
+}
+
+// Whether a node is searched: its level is below the limit, and its count reaches the least split.
+fn is_searched(p: Params, level: u32, a: Side) -> bool
+    ensures { λ r. ⌜ r ≡ searchable p level (bare a) ⌝ }
+{
+    if level < p.limit {
+        return p.split <= a.count;
+    }
+    false
+}
+
+// What the search of a child finds joins the waiting list.
+pub fn search_child(
+    values: &[f64],
+    targets: &[f64],
+    weights: &[f64],
+    counts: &[u32],
+    order: &[u32],
+    words: &[u32],
+    thresholds: &[f64],
+    wholes: &mut [[u32; 6]],
+    reals: &mut [[f64; 3]],
+    rows: usize,
+    features: usize,
+    p: Params,
+    node: u32,
+    level: u32,
+    from: u32,
+    to: u32,
+    a: Side,
+    s: Stand,
+) -> Step
+    requires { ⌜ ChildAsks (record { rows = rows; features = features; tables = (record { values = now values; targets = now targets; weights = now weights; counts = now counts }); order = now order }) p (now words) from to a s (length (now wholes)) (length (now reals)) ⌝ }
+    ensures { λ r. ⌜ ChildDone (record { rows = rows; features = features; tables = (record { values = now (values .entry); targets = now (targets .entry); weights = now (weights .entry); counts = now (counts .entry) }); order = now (order .entry) }) p (now (words .entry)) (now (thresholds .entry)) (now (wholes .entry)) (now (reals .entry)) (now (wholes .exit)) (now (reals .exit)) node level from to a s r ⌝ }
+{
+    let d = s.drawn;
+    if is_searched(p, level, a) {
+        let r = search::search_node(
+            values,
+            targets,
+            weights,
+            counts,
+            order,
+            words,
+            thresholds,
+            rows,
+            features,
+            criterion::wide(from),
+            criterion::wide(to),
+            p,
+            a,
+            d,
+        );
+        return push_found(wholes, reals, s.waiting, node, level, from, to, a, d, r);
+    }
+    Step::Goes(s)
+}
+
+// A node's split: its rows get their flags, and the node and its children are written. The score takes totals that are added up afresh.
+pub fn split_node(
+    values: &[f64],
+    targets: &[f64],
+    weights: &[f64],
+    counts: &[u32],
+    order: &[u32],
+    flags: &mut [bool],
+    value: &mut [f64],
+    feature: &mut [u32],
+    threshold: &mut [f64],
+    score: &mut [f64],
+    truechild: &mut [u32],
+    falsechild: &mut [u32],
+    rows: usize,
+    features: usize,
+    w: WaitingNode,
+    n: u32,
+) -> Sides
+    requires { ⌜ SplitAsks rows features (w .start) (w .end) (now values) (now targets) (now weights) (now counts) (cutOf w) (now order) (length (now flags)) ⌝ }
+    requires { ⌜ LongAll (n + 2) (record { value = now (value); feature = now (feature); threshold = now (threshold); score = now (score); trueChild = now (truechild); falseChild = now (falsechild) }) × (w .node < n) × (n + 2 < 4294967296) ⌝ }
+    ensures { λ s. ⌜ SplitDone rows (w .start) (w .end) (elementIn features (now (values .entry)) (now (targets .entry)) (now (weights .entry)) (now (counts .entry))) (cutOf w) (now (order .entry)) (now (flags .exit)) s ⌝ }
+    ensures { λ s. ⌜ _≡_ {A = Columns} (record { value = now (value .exit); feature = now (feature .exit); threshold = now (threshold .exit); score = now (score .exit); trueChild = now (truechild .exit); falseChild = now (falsechild .exit) }) (wroteSides w s n (record { value = now (value .entry); feature = now (feature .entry); threshold = now (threshold .entry); score = now (score .entry); trueChild = now (truechild .entry); falseChild = now (falsechild .entry) })) ⌝ }
+{
+    let c = Cut {
+        feature: w.feature,
+        threshold: w.cut,
+    };
+    let s = work_columns::split_sides(
+        values,
+        targets,
+        weights,
+        counts,
+        order,
+        flags,
+        rows,
+        features,
+        criterion::wide(w.start),
+        criterion::wide(w.end),
+        c,
+    );
+    let a = s.trueside;
+    let b = s.falseside;
+    let all = s.all;
+    let t = a.totals;
+    let f = b.totals;
+    let q = criterion::score_of(t, f, all.mass);
+    crate::nodes::write_split(
+        value,
+        feature,
+        threshold,
+        score,
+        truechild,
+        falsechild,
+        w,
+        t,
+        f,
+        q,
+        n,
+    );
+    s
+}
+
+// Both children are searched, the true one first.
+pub fn search_both(
+    values: &[f64],
+    targets: &[f64],
+    weights: &[f64],
+    counts: &[u32],
+    order: &[u32],
+    words: &[u32],
+    thresholds: &[f64],
+    wholes: &mut [[u32; 6]],
+    reals: &mut [[f64; 3]],
+    rows: usize,
+    features: usize,
+    p: Params,
+    node: u32,
+    level: u32,
+    from: u32,
+    mid: u32,
+    to: u32,
+    a: Side,
+    b: Side,
+    s: Stand,
+) -> Step
+    requires { ⌜ BothAsks (record { rows = rows; features = features; tables = (record { values = now values; targets = now targets; weights = now weights; counts = now counts }); order = now order }) p (now words) node from mid to a b s (length (now wholes)) (length (now reals)) ⌝ }
+    ensures { λ r. ⌜ BothDone (record { rows = rows; features = features; tables = (record { values = now (values .entry); targets = now (targets .entry); weights = now (weights .entry); counts = now (counts .entry) }); order = now (order .entry) }) p (now (words .entry)) (now (thresholds .entry)) (now (wholes .entry)) (now (reals .entry)) (now (wholes .exit)) (now (reals .exit)) node level from mid to a b s r ⌝ }
+{
+    let r = search_child(
+        values,
+        targets,
+        weights,
+        counts,
+        order,
+        words,
+        thresholds,
+        wholes,
+        reals,
+        rows,
+        features,
+        p,
+        node,
+        level,
+        from,
+        mid,
+        a,
+        s,
+    );
+    match r {
+        Step::Refused(k) => Step::Refused(k),
+        Step::Goes(t) => search_child(
+            values,
+            targets,
+            weights,
+            counts,
+            order,
+            words,
+            thresholds,
+            wholes,
+            reals,
+            rows,
+            features,
+            p,
+            node + 1,
+            level,
+            mid,
+            to,
+            b,
+            t,
+        ),
+    }
+}
+
+fn either_searched(p: Params, level: u32, a: Side, b: Side) -> bool
+    ensures { λ r. ⌜ r ≡ (searchable p level (bare a) || searchable p level (bare b)) ⌝ }
+{
+    if is_searched(p, level, a) {
+        return true;
+    }
+    is_searched(p, level, b)
+}
+
+// The children of a node whose rows have their flags. Where neither is searched, nothing reads those rows again, and the columns stay as they are.
+pub fn search_sides(
+    values: &[f64],
+    targets: &[f64],
+    weights: &[f64],
+    counts: &[u32],
+    words: &[u32],
+    thresholds: &[f64],
+    flags: &[bool],
+    order: &mut [u32],
+    scratch: &mut [u32],
+    wholes: &mut [[u32; 6]],
+    reals: &mut [[f64; 3]],
+    rows: usize,
+    features: usize,
+    p: Params,
+    w: WaitingNode,
+    n: u32,
+    h: Sides,
+    s: Stand,
+) -> Step
+    requires { ⌜ SidesAsks (record { rows = rows; features = features; tables = (record { values = now values; targets = now targets; weights = now weights; counts = now counts }); order = now order }) p (now words) (length (now scratch)) (now flags) (now wholes) (now reals) w n h s ⌝ }
+    ensures { λ r. ⌜ SidesDone (record { rows = rows; features = features; tables = (record { values = now (values .entry); targets = now (targets .entry); weights = now (weights .entry); counts = now (counts .entry) }); order = now (order .entry) }) (record { rows = rows; features = features; tables = (record { values = now (values .entry); targets = now (targets .entry); weights = now (weights .entry); counts = now (counts .entry) }); order = now (order .exit) }) p (now (words .entry)) (now (thresholds .entry)) (now (wholes .entry)) (now (reals .entry)) (now (wholes .exit)) (now (reals .exit)) w n s r ⌝ }
+{
+    let l = w.level + 1;
+    let a = h.trueside;
+    let b = h.falseside;
+    if either_searched(p, l, a, b) {
+        work_columns::partition_columns(
+            order,
+            rows,
+            features,
+            criterion::wide(w.start),
+            criterion::wide(w.end),
+            scratch,
+            flags,
+            criterion::wide(w.feature),
+        );
+        let mid = w.start + h.rows;
+        return search_both(
+            values,
+            targets,
+            weights,
+            counts,
+            order,
+            words,
+            thresholds,
+            wholes,
+            reals,
+            rows,
+            features,
+            p,
+            n,
+            l,
+            w.start,
+            mid,
+            w.end,
+            a,
+            b,
+            s,
+        );
+    }
+    Step::Goes(s)
+}

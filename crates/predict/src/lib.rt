@@ -1,0 +1,187 @@
+// A row's walk through a tree, and the predictions of one tree.
+ghost use mathlib.Core.Path.{_≡_};
+ghost use mathlib.Core.Bool.{cond};
+ghost use Prim.Native.Nat.{suc};
+ghost use mathlib.Core.List.{List, map};
+ghost use lib.ListN.{length};
+ghost use lib.Ieee.{Float, le};
+ghost use Rattle.rules.specs.Words.{from};
+ghost use Rattle.rules.specs.Lent.{Outcome, entriesAt, columnsOf};
+ghost use Rattle.rules.specs.Checks.{firstFailed};
+ghost use Rattle.rules.specs.Reading.{predictTests, predictTree};
+ghost use Rattle.predict.specs.Walks.{Walkable, Readable, leafAt};
+use rules::Reply;
+use rules::Shape;
+
+// The false child comes next after the true one, and a NaN goes to it.
+fn child_of(x: f64, threshold: f64, truechild: u32) -> usize
+    ensures { λ r. ⌜ r ≡ cond (le x threshold) truechild (suc truechild) ⌝ }
+{
+    let y = truechild as usize;
+    if x <= threshold { y } else { y + 1 }
+}
+
+// What row i comes to in the tree of n nodes from place a on.
+pub fn row_value(
+    i: usize,
+    features: usize,
+    a: usize,
+    n: usize,
+    values: &[f64],
+    value: &[f64],
+    feature: &[u32],
+    threshold: &[f64],
+    score: &[f64],
+    truechild: &[u32],
+    falsechild: &[u32],
+) -> f64
+    requires { ⌜ Walkable features a n i (now values) (columnsOf (now value) (now feature) (now threshold) (now score) (now truechild) (now falsechild)) ⌝ }
+    ensures { λ r. ⌜ r ≡ leafAt features (now (values .entry)) (entriesAt (columnsOf (now (value .entry)) (now (feature .entry)) (now (threshold .entry)) (now (score .entry)) (now (truechild .entry)) (now (falsechild .entry))) a n) i ⌝ }
+{
+    let base = i * features;
+    let mut k: usize = 0;
+    while truechild[a + k] != 0 {
+        let at = a + k;
+        let j = base + feature[at] as usize;
+        k = child_of(values[j], threshold[at], truechild[at]);
+    }
+    value[a + k]
+}
+
+// ---- predictions of one tree
+
+fn predict_rows(
+    rows: usize,
+    features: usize,
+    n: usize,
+    values: &[f64],
+    value: &[f64],
+    feature: &[u32],
+    threshold: &[f64],
+    score: &[f64],
+    truechild: &[u32],
+    falsechild: &[u32],
+    out: &mut [f64],
+)
+    requires { ⌜ Readable rows features 0 n (now values) (columnsOf (now value) (now feature) (now threshold) (now score) (now truechild) (now falsechild)) (now out) ⌝ }
+    ensures { λ _. ⌜ now (out .exit) ≡ map (leafAt features (now (values .entry)) (entriesAt (columnsOf (now (value .entry)) (now (feature .entry)) (now (threshold .entry)) (now (score .entry)) (now (truechild .entry)) (now (falsechild .entry))) 0 n)) (from 0 rows) ⌝ }
+{
+    let mut i: usize = 0;
+    while i < rows {
+        out[i] = row_value(
+            i,
+            features,
+            0,
+            n,
+            values,
+            value,
+            feature,
+            threshold,
+            score,
+            truechild,
+            falsechild,
+        );
+        i += 1;
+    }
+}
+
+// For a result room of so many places.
+fn predict_verdict(
+    shape: Shape,
+    places: usize,
+    values: &[f64],
+    value: &[f64],
+    feature: &[u32],
+    threshold: &[f64],
+    score: &[f64],
+    truechild: &[u32],
+    falsechild: &[u32],
+) -> u32
+    ensures { λ r. ⌜ ((out : List Float) → length out ≡ places → r ≡ firstFailed (predictTests shape (now (values .entry)) (columnsOf (now (value .entry)) (now (feature .entry)) (now (threshold .entry)) (now (score .entry)) (now (truechild .entry)) (now (falsechild .entry))) out)) ⌝ }
+{
+    if !checks::shape_in(shape) {
+        return 1;
+    }
+    if !checks::values_long(shape, values) {
+        return 2;
+    }
+    if places != shape.rows {
+        return 6;
+    }
+    let n = checks::rooms::shortest_of(
+        value.len(),
+        feature.len(),
+        threshold.len(),
+        score.len(),
+        truechild.len(),
+        falsechild.len(),
+    );
+    if !tables::tree_good(
+        shape.features,
+        0,
+        n,
+        value,
+        feature,
+        threshold,
+        score,
+        truechild,
+        falsechild,
+    ) {
+        return 8;
+    }
+    0
+}
+
+// Each row's leaf value: refusals 1, 2, 6 and 8.
+pub fn predict_tree(
+    shape: Shape,
+    values: &[f64],
+    value: &[f64],
+    feature: &[u32],
+    threshold: &[f64],
+    score: &[f64],
+    truechild: &[u32],
+    falsechild: &[u32],
+    out: &mut [f64],
+) -> Reply
+    ensures { λ r. ⌜ _≡_ {A = Outcome Reply (List Float)} (record { answer = r; rooms = now (out .exit) })
+        (predictTree shape (now (values .entry)) (columnsOf (now (value .entry)) (now (feature .entry)) (now (threshold .entry)) (now (score .entry)) (now (truechild .entry)) (now (falsechild .entry))) (now (out .entry))) ⌝ }
+{
+    let places = out.len();
+    let number = predict_verdict(
+        shape,
+        places,
+        values,
+        value,
+        feature,
+        threshold,
+        score,
+        truechild,
+        falsechild,
+    );
+    if number != 0 {
+        return Reply::Refused(number);
+    }
+    let n = checks::rooms::shortest_of(
+        value.len(),
+        feature.len(),
+        threshold.len(),
+        score.len(),
+        truechild.len(),
+        falsechild.len(),
+    );
+    predict_rows(
+        shape.rows,
+        shape.features,
+        n,
+        values,
+        value,
+        feature,
+        threshold,
+        score,
+        truechild,
+        falsechild,
+        out,
+    );
+    Reply::Done
+}

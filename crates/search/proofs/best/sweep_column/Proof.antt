@@ -1,0 +1,100 @@
+-- `search::best::sweep_column` meets its contract: the loop's invariant: the sweep from here along the rest is the sweep of the whole. Assumes nothing.
+use native.Mathlib.Omega.{arith}
+use mathlib.Core.Path.{_≡_, refl, sym, ap, _∙_, subst}
+use Prim.Native.Nat.{ℕ, _+_, _-_, _≤_, _<_}
+use mathlib.Core.List.{map}
+use lib.ListN.{length, getD, drop}
+use Rattle.rules.specs.declared.Cut.{Cut}
+use Rattle.rules.specs.declared.Sweep.{Sweep}
+use Rattle.rules.specs.declared.Held.the-variants.{Nothing}
+use Rattle.rules.specs.Search.{sweep, tally}
+use Rattle.search.specs.Flat.{elementOf, bare, stepIn, sweepOf, earlierOf, valueIn, runAt, cutsIn}
+use Rattle.search.specs.Laws.{cell-here, turn-fits, turn-room, turn-sweep, turn-end}
+use Rattle.search.specs.Runs.{turn-cut, turn-run}
+use borrow.Author.Needs.{needs}
+use Rattle.search.proofs.best.sweep_column.Statement.{statement}
+use Rattle.search.proofs.best.sweep_column.Tie as tie
+
+abbrev Inv-loop : tie.InvT-loop
+Inv-loop values targets weights counts col rows features p j a v₀ i₀ v i =
+    (i ≤ length col)
+    × (v .count + tally (map (elementOf features (record { values = values; targets = targets; weights = weights; counts = counts })) (drop i col)) ≤ a .count)
+    × (v .spot .place ≤ i)
+    × (v .last ≡ runAt (valueIn features values j) col i)
+    × ((b : Cut) → sweep p (bare a) j (sweepOf (cutsIn features values j col b) v) (map (elementOf features (record { values = values; targets = targets; weights = weights; counts = counts })) (drop i col)) ≡ sweep p (bare a) j (sweepOf (cutsIn features values j col b) v₀) (map (elementOf features (record { values = values; targets = targets; weights = weights; counts = counts })) col))
+
+abbrev μ-loop : tie.MeasureT-loop
+μ-loop values targets weights counts col rows features p j a v₀ i₀ v i = length col - i
+
+loop-holds : tie.Need-loop-holds Inv-loop μ-loop
+loop-holds c = let p = c .before .before .before .before .before .pre in (omega arith, p .1 .1 .0, omega (arith, p .1 .1 .1 .0), p .1 .1 .1 .1, λ b. refl)
+
+wide-requires : tie.Need-wide-requires Inv-loop μ-loop
+wide-requires c κs = search needs
+
+mul-wide : tie.Need-mul-wide Inv-loop μ-loop
+mul-wide c = search needs
+
+shared-slice-read-wide : tie.Need-shared-slice-read-wide Inv-loop μ-loop
+shared-slice-read-wide c = search needs
+
+wide-requires-2 : tie.Need-wide-requires-2 Inv-loop μ-loop
+wide-requires-2 c κs = search needs
+
+cell-of-requires : tie.Need-cell-of-requires Inv-loop μ-loop
+cell-of-requires c κs =
+    let s = c .before .before .before .before .before .before .before .before .before .before .pre in
+    (s .1 .0 .0, subst (λ n. n < c .before .before .before .before .before .before .before .before .before .before .args .rows) (sym (c .wide2 .ensures)) (s .0 (c .before .before .before .before .loop .i) (c .before .before .before .loop-test .taken)), subst (λ n. n < c .before .before .before .before .before .before .before .before .before .before .args .features) (sym (c .before .before .wide .ensures)) (s .1 .0 .1))
+
+add-i : tie.Need-add-i Inv-loop μ-loop
+add-i c = omega (arith, c .before .before .before .before .loop-test .taken, c .before .before .before .before .before .before .before .before .before .before .before .good .1 .1 .1 .1 .0 .0)
+
+step-of-requires : tie.Need-step-of-requires Inv-loop μ-loop
+step-of-requires c κs =
+    let a = c .before .before .before .before .before .before .before .before .before .before .before .args in
+    let l = c .before .before .before .before .before .loop in
+    let e = cell-here (a .features) (record { values = a .values .now; targets = a .targets .now; weights = a .weights .now; counts = a .counts .now }) (a .j) (getD (a .col .now) (l .i) 0) (c .cell-of .ensures) (c .before .before .before .wide .ensures) (c .before .wide2 .ensures) in
+    (turn-fits (elementOf (a .features) (record { values = a .values .now; targets = a .targets .now; weights = a .weights .now; counts = a .counts .now })) (a .col .now) (l .i) (c .before .before .before .before .loop-test .taken) (a .j) (l .v .count) (a .a .count) e (l .inv .1), omega (arith, l .inv .2))
+
+loop-less : tie.Need-loop-less Inv-loop μ-loop
+loop-less c = omega (arith, c .before .before .before .before .before .loop-test .taken)
+
+loop-again : tie.Need-loop-again Inv-loop μ-loop
+unfolding stepIn
+loop-again c =
+    let a = c .before .before .before .before .before .before .before .before .before .before .before .before .args in
+    let l = c .before .before .before .before .before .before .loop in
+    let e = cell-here (a .features) (record { values = a .values .now; targets = a .targets .now; weights = a .weights .now; counts = a .counts .now }) (a .j) (getD (a .col .now) (l .i) 0) (c .before .cell-of .ensures) (c .before .before .before .before .wide .ensures) (c .before .before .wide2 .ensures) in
+    let h = c .before .before .before .before .before .before .before .before .before .before .before .before .pre .1 .0 .1 in
+    let k : Cut → ℕ → Cut = cutsIn (a .features) (a .values .now) (a .j) (a .col .now) in
+    let s : (b : Cut) → sweepOf (k b) (c .step-of .result) ≡ stepIn (a .p) (a .a) (a .j) (sweepOf (k b) (l .v)) (c .before .cell-of .result) = λ b. c .step-of .ensures .1 (a .j) (k b) (turn-cut (a .features) (record { values = a .values .now; targets = a .targets .now; weights = a .weights .now; counts = a .counts .now }) (a .j) (a .col .now) (l .i) h e (l .inv .3) b) in (
+      omega (arith, c .before .before .before .before .before .loop-test .taken),
+      turn-room (elementOf (a .features) (record { values = a .values .now; targets = a .targets .now; weights = a .weights .now; counts = a .counts .now })) (a .col .now) (l .i) (c .before .before .before .before .before .loop-test .taken) (a .p) (a .a) (a .j) (sweepOf (k (earlierOf Nothing)) (l .v)) (a .a .count) e (s (earlierOf Nothing)) (l .inv .1),
+      c .step-of .ensures .0,
+      turn-run (a .features) (record { values = a .values .now; targets = a .targets .now; weights = a .weights .now; counts = a .counts .now }) (a .j) (a .col .now) (l .i) h e (l .inv .3) (ap (λ (w : Sweep). w .last) (s (earlierOf Nothing))),
+      λ b. turn-sweep (elementOf (a .features) (record { values = a .values .now; targets = a .targets .now; weights = a .weights .now; counts = a .counts .now })) (a .col .now) (l .i) (c .before .before .before .before .before .loop-test .taken) (a .p) (a .a) (a .j) (sweepOf (k b) (l .v)) e (s b) ∙ l .inv .4 b,
+    )
+
+returns : tie.Need-returns Inv-loop μ-loop
+returns c =
+    let a = c .before .before .before .before .before .before .before .args in
+    let l = c .before .loop in
+    (omega (arith, l .inv .0, l .inv .2), λ b. sym (turn-end (elementOf (a .features) (record { values = a .values .now; targets = a .targets .now; weights = a .weights .now; counts = a .counts .now })) (a .col .now) (l .i) (c .loop-test .left) (a .p) (a .a) (a .j) (sweepOf (cutsIn (a .features) (a .values .now) (a .j) (a .col .now) b) (l .v))) ∙ l .inv .4 b)
+
+pub sweep-column-spec : {M : Type 1} → statement M
+sweep-column-spec =
+    tie.close
+    (tie.spec
+    Inv-loop
+    μ-loop
+    loop-holds
+    wide-requires
+    mul-wide
+    shared-slice-read-wide
+    wide-requires-2
+    cell-of-requires
+    add-i
+    step-of-requires
+    loop-less
+    loop-again
+    returns)

@@ -1,0 +1,23 @@
+-- `tree_growth::start_tree` meets its contract: the root is searched as a child is, if something is kept. Assumes nothing.
+use borrow.Author.Needs.{needs}
+use Rattle.tree_growth.specs.Tree.{start-asks, start-some, start-none}
+use Rattle.tree_growth.proofs.start_tree.Statement.{statement}
+use Rattle.tree_growth.proofs.start_tree.Tie as tie
+
+search-child-requires : tie.Need-search-child-requires
+search-child-requires c κs = start-asks _ _ _ _ _ _ _ (c .before .before .before .before .before .before .before .before .before .before .before .pre) (c .before .before .before .before .before .before .before .before .before .before .before .args .words .now)
+
+same-length : tie.Need-same-length
+same-length c = search needs
+
+same-length-2 : tie.Need-same-length-2
+same-length-2 c = search needs
+
+returns : tie.Need-returns
+returns c = start-some _ _ _ _ _ _ _ _ _ _ _ (c .before .before .before .before .before .if1 .taken) (c .before .before .search-child .ensures)
+
+returns-2 : tie.Need-returns-2
+returns-2 c = start-none _ _ _ _ _ _ _ _ (c .if1 .left)
+
+pub start-tree-spec : {M : Type 1} → statement M
+start-tree-spec = tie.close (tie.spec search-child-requires same-length same-length-2 returns returns-2)

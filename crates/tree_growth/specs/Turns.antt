@@ -1,0 +1,190 @@
+-- A turn put together: one step of the definition's stack. Assumes nothing.
+use Prim.Native.Nat.{ℕ, suc, _+_, _-_, _<_, _≤_, max}
+use native.Mathlib.Numerals.{add-one}
+use mathlib.Core.Path.{_≡_, refl, sym, ap, _∙_, subst}
+use mathlib.Core.Bool.{Bool, not}
+use mathlib.Core.List.{List, [], _∷_, _++_}
+use lib.ListN.{length, getD, set}
+use lib.Ieee.{Float, nan}
+use Rattle.rules.specs.declared.Params.{Params}
+use Rattle.rules.specs.Lent.{Columns}
+use Rattle.rules.specs.Search.{search, onTrue, onFalse, totalsOf}
+use Rattle.rules.specs.Growth.{Waiting, TreeNode, State, searchable, searchIf, child, leafOf, splitOf, splitting, withChildren, expand}
+use Rattle.rules.specs.Draws.{Out, bad, ok, bind, Tapes, tape}
+use Rattle.rules.specs.Totals.{valueOf, empty, score}
+use Rattle.work_columns.specs.declared.Sides.{Sides}
+use Rattle.work_columns.specs.Split.{SplitAsks, SplitDone}
+use Rattle.criterion.specs.declared.Side.{Side}
+use Rattle.search.specs.Flat.{elementOf, drawsAt}
+use Rattle.node_growth.specs.declared.WaitingNode.{WaitingNode}
+use Rattle.node_growth.specs.declared.Stand.{Stand}
+use Rattle.node_growth.specs.declared.Step.{Step}
+use Rattle.node_growth.specs.declared.Step.the-variants.{Refused, Goes}
+use Rattle.node_growth.specs.Rooms.{Ground, waitAt, cutOf, waitingOf, stackOf, meantStep, LaidStep, FairStep, LongAll, putRow, wroteSplit, wroteSides, rowFor, NodesIn, searchTwo, Taken, SidesAsks, SidesDone}
+use Rattle.node_growth.specs.Nodes.{columnOf}
+use Rattle.node_growth.specs.Both.{onto, chain}
+use Rattle.node_growth.specs.Frames.{three}
+use Rattle.node_growth.specs.Sides.{mine, taken-room, taken-splits, yes-child, no-child}
+use Rattle.tree_growth.specs.declared.At.{At}
+use Rattle.tree_growth.specs.declared.Turned.the-variants as U
+use Rattle.tree_growth.specs.Places.{TurnAsks, stateAt, TurnDone}
+
+-- ---- answers put together
+
+abbrev fin : {D S : Type 0} → (D → S) → List Waiting × D → Out (List Waiting × S)
+fin mk o = ok (o .0, mk (o .1))
+
+abbrev chainTo : {D S : Type 0} → (D → S) → (D → Out (List Waiting × D)) → List Waiting × D → Out (List Waiting × S)
+chainTo mk k t = bind (k (t .1)) (λ f. ok (f .0 ++ t .0, mk (f .1)))
+
+fin-end : {D S : Type 0} (m : Out (List Waiting × D)) (mk : D → S) (xs : List Waiting) → bind m (λ f. ok (f .0 ++ xs, mk (f .1))) ≡ bind (bind m (onto xs)) (fin mk)
+unfolding bind
+fin-end (bad n) mk xs = refl
+fin-end (ok f) mk xs = refl
+
+fin-two : {D S : Type 0} (m : Out (List Waiting × D)) (k : D → Out (List Waiting × D)) (mk : D → S) → bind m (chainTo mk k) ≡ bind (bind m (chain k)) (fin mk)
+unfolding bind
+fin-two (bad n) k mk = refl
+fin-two (ok t) k mk = fin-end (k (t .1)) mk (t .0)
+
+fin-onto : {D S : Type 0} (m : Out (List Waiting × D)) (mk : D → S) (ws : List Waiting) → bind (bind m (fin mk)) (onto ws) ≡ bind (bind m (onto ws)) (fin mk)
+unfolding bind
+fin-onto (bad n) mk ws = refl
+fin-onto (ok t) mk ws = refl
+
+-- of flags that the split left
+module _ (g : Ground) (P : Params) (W : List ℕ) (sc : ℕ) (flags : List Bool) (c : Columns) (wholes : List (List ℕ)) (reals : List (List Float)) (at : At) (q : TurnAsks g P W sc (length flags) c wholes reals at) where
+  abbrev m : ℕ
+  m = at .waiting - 1
+
+  abbrev e : WaitingNode
+  e = waitAt wholes reals m
+
+  abbrev w : Waiting
+  w = waitingOf g e
+
+  abbrev rest : Stand
+  rest = record { waiting = m; drawn = at .drawn }
+
+  module _ (h : Sides) (d : SplitDone (g .rows) (e .start) (e .end) (elementOf (g .features) (g .tables)) (cutOf e) (g .order) flags h) (c′ : Columns) (wr : c′ ≡ wroteSides e h (at .nodes) c) where
+    yes-totals : h .trueside .totals ≡ child onTrue w .totals
+    yes-totals = ap (λ (z : Side). z .totals) (yes-child g P W sc flags wholes reals e (at .nodes) rest (q .taken) h d)
+
+    no-totals : h .falseside .totals ≡ child onFalse w .totals
+    no-totals = ap (λ (z : Side). z .totals) (no-child g P W sc flags wholes reals e (at .nodes) rest (q .taken) h d)
+
+    turn-nodes : (old : Columns) (ns : List TreeNode) → length ns ≡ at .nodes → LongAll (at .nodes + 2) old → NodesIn old ns c → NodesIn old (withChildren w ns) c′
+    unfolding wroteSplit putRow withChildren splitOf splitting leafOf
+    turn-nodes old ns en lo i =
+        record {
+          value = ap (λ (z : Columns). z .value) wr ∙ col (λ z. z .value) (λ n. rowFor n .value) (i .value) (lo .value) nan refl (ap valueOf yes-totals) (ap valueOf no-totals);
+          feature = ap (λ (z : Columns). z .feature) wr ∙ col (λ z. z .feature) (λ n. rowFor n .feature) (i .feature) (lo .feature) 0 refl refl refl;
+          threshold = ap (λ (z : Columns). z .threshold) wr ∙ col (λ z. z .threshold) (λ n. rowFor n .threshold) (i .threshold) (lo .threshold) nan refl refl refl;
+          score = ap (λ (z : Columns). z .score) wr ∙ col (λ z. z .score) (λ n. rowFor n .score) (i .score) (lo .score) nan scored refl refl;
+          truechild = ap (λ (z : Columns). z .trueChild) wr ∙ col (λ z. z .trueChild) (λ n. rowFor n .trueChild) (i .truechild) (lo .truechild) 0 (sym en) refl refl;
+          falsechild = ap (λ (z : Columns). z .falseChild) wr ∙ col (λ z. z .falseChild) (λ n. rowFor n .falseChild) (i .falsechild) (lo .falsechild) 0 (add-one (at .nodes) ∙ ap suc (sym en)) refl refl;
+        }
+      where
+        inside : e .node < length ns
+        inside = subst (λ n. e .node < n) (sym en) (q .number)
+
+        all-totals : h .all ≡ totalsOf empty (getD (w .node .columns) (e .feature) [])
+        all-totals = ap (λ (z : Sides). z .all) (d .sides) ∙ ap (totalsOf empty) (mine g P W sc flags wholes reals e (at .nodes) rest (q .taken))
+
+        scored : score (h .trueside .totals) (h .falseside .totals) (h .all .mass) ≡ rowFor (splitOf w (length ns)) .score
+        scored = λ i. score (yes-totals i) (no-totals i) (all-totals i .mass)
+
+        col : {A : Type 0} (get : Columns → List A) (f : TreeNode → A) {x y z : A} → get c ≡ columnOf f ns (get old) → at .nodes + 2 ≤ length (get old) → A → x ≡ f (splitOf w (length ns)) → y ≡ f (leafOf (child onTrue w)) → z ≡ f (leafOf (child onFalse w))
+            → set (set (set (get c) (e .node) x) (at .nodes) y) (at .nodes + 1) z ≡ columnOf f (set ns (e .node) (splitOf w (length ns)) ++ (leafOf (child onTrue w) ∷ leafOf (child onFalse w) ∷ [])) (get old)
+        col get f {x} {y} {z} ec hl dflt ex ey ez =
+            ap (λ u. set (set (set u (e .node) x) (at .nodes) y) (at .nodes + 1) z) ec
+            ∙ ap (λ n. set (set (set (columnOf f ns (get old)) (e .node) x) n y) (n + 1) z) (sym en)
+            ∙ three f ns (get old) dflt (e .node) (splitOf w (length ns)) (leafOf (child onTrue w)) (leafOf (child onFalse w)) ex ey ez inside (subst (λ n. n + 2 ≤ length (get old)) (sym en) hl)
+
+    module _ (g′ : Ground) (M : List Float) (wholes′ : List (List ℕ)) (reals′ : List (List Float)) (step : Step) (b : SidesDone g g′ P W M wholes reals wholes′ reals′ e (at .nodes) rest step) where
+      abbrev twoOf : ℕ → ℕ → Out (List Waiting × Tapes)
+      twoOf n l = searchTwo P n l (child onTrue w) (child onFalse w) (drawsAt W M (at .drawn))
+
+      abbrev made : List TreeNode → Tapes → State Tapes
+      made ns d′ = record { nodes = withChildren w ns; depth = max (at .depth) (suc (e .level)); left = d′ }
+
+      stepped : (ns : List TreeNode) → length ns ≡ at .nodes
+          → bind (expand P (search (tape (P .features)) P) w (stateAt W M ns at)) (onto (stackOf g wholes reals m)) ≡ bind (meantStep g′ W M wholes′ reals′ step) (fin (made ns))
+      unfolding expand
+      stepped ns en =
+          ap (λ z. bind z (onto (stackOf g wholes reals m))) (fin-two (searchIf P (search (tape (P .features)) P) (searchable P (suc (e .level)) (child onTrue w)) (length ns) (suc (e .level)) (child onTrue w) (drawsAt W M (at .drawn)))
+          (λ d′. searchIf P (search (tape (P .features)) P) (searchable P (suc (e .level)) (child onFalse w)) (suc (length ns)) (suc (e .level)) (child onFalse w) d′) (made ns))
+          ∙ fin-onto (twoOf (length ns) (suc (e .level))) (made ns) (stackOf g wholes reals m)
+          ∙ (λ i. bind (bind (twoOf (en i) (sym (add-one (e .level)) i)) (onto (stackOf g wholes reals m))) (fin (made ns)))
+          ∙ ap (λ z. bind z (fin (made ns))) (b .same)
+
+      turn-stop : (k : ℕ) → step ≡ Refused k → TurnDone g g′ P W M c c′ wholes reals wholes′ reals′ at (U.Refused k)
+      unfolding bind
+      turn-stop k es =
+          record {
+            same = λ ns en. stepped ns en ∙ ap (λ z. bind (meantStep g′ W M wholes′ reals′ z) (fin (made ns))) es;
+            nodes = turn-nodes;
+            long = b .long;
+            below = b .below;
+            keeps = tt;
+          }
+
+      turn-goes : (s : Stand) → step ≡ Goes s → (deep : ℕ) → deep ≡ max (at .depth) (e .level + 1)
+          → TurnDone g g′ P W M c c′ wholes reals wholes′ reals′ at (U.Goes (record { nodes = at .nodes + 2; depth = deep; waiting = s .waiting; drawn = s .drawn }))
+      unfolding bind
+      turn-goes s es deep ed =
+          record {
+            same = λ ns en. stepped ns en ∙ ap (λ z. bind (meantStep g′ W M wholes′ reals′ z) (fin (made ns))) es
+                ∙ ap (λ n. ok (stackOf g′ wholes′ reals′ (s .waiting), record { nodes = withChildren w ns; depth = n; left = drawsAt W M (s .drawn) })) (ap (max (at .depth)) (sym (add-one (e .level))) ∙ sym ed);
+            nodes = turn-nodes;
+            long = b .long;
+            below = b .below;
+            keeps = (subst (LaidStep wholes′ reals′ (e .end)) es (b .laid), subst (FairStep W) es (b .fair), refl);
+          }
+
+-- ---- the same by what the code read: the top is z, and the flags are as long as they were
+
+module _ (g : Ground) (P : Params) (W : List ℕ) (sc : ℕ) (flags : List Bool) (c : Columns) (wholes : List (List ℕ)) (reals : List (List Float)) (at : At) (q : TurnAsks g P W sc (length flags) c wholes reals at) where
+  abbrev topWait : WaitingNode
+  topWait = waitAt wholes reals (at .waiting - 1)
+
+  abbrev left : Stand
+  left = record { waiting = at .waiting - 1; drawn = at .drawn }
+
+  pub top-room : (at .waiting - 1 < length wholes) × (at .waiting - 1 < length reals)
+  top-room = taken-room g P W sc flags wholes reals topWait (at .nodes) left (q .taken)
+
+  pub code-taken : {z : WaitingNode} → z ≡ topWait → Taken g P W sc (length flags) wholes reals z (at .nodes) left
+  code-taken ez = subst (λ z. Taken g P W sc (length flags) wholes reals z (at .nodes) left) (sym ez) (q .taken)
+
+  pub code-split : {z : WaitingNode} → z ≡ topWait → z .count < 4294967296
+      → SplitAsks (g .rows) (g .features) (z .start) (z .end) (g .tables .values) (g .tables .targets) (g .tables .weights) (g .tables .counts) (cutOf z) (g .order) (length flags)
+      × (LongAll (at .nodes + 2) c × (z .node < at .nodes) × (at .nodes + 2 < 4294967296))
+  code-split {z} ez m =
+      (taken-splits g P W sc flags wholes reals z (at .nodes) left (code-taken ez) m, (q .node-room, subst (λ (z : WaitingNode). z .node < at .nodes) (sym ez) (q .number), q .node-small))
+
+  module _ (flags′ : List Bool) (lf : length flags′ ≡ length flags) where
+    abbrev DoneAt : Sides → WaitingNode → Type 0
+    DoneAt h z = SplitDone (g .rows) (z .start) (z .end) (elementOf (g .features) (g .tables)) (cutOf z) (g .order) flags′ h
+
+    pub code-sides : {z : WaitingNode} → z ≡ topWait → (h : Sides) → DoneAt h z → SidesAsks g P W sc flags′ wholes reals z (at .nodes) h left
+    code-sides {z} ez h d = record { taken = subst (λ n. Taken g P W sc n wholes reals z (at .nodes) left) (sym lf) (code-taken ez); split = d }
+
+    q′ : TurnAsks g P W sc (length flags′) c wholes reals at
+    q′ = subst (λ n. TurnAsks g P W sc n c wholes reals at) (sym lf) q
+
+    pub code-stop : {z : WaitingNode} → z ≡ topWait → (h : Sides) → DoneAt h z → (c′ : Columns) → c′ ≡ wroteSides z h (at .nodes) c
+        → (g′ : Ground) (M : List Float) (wholes′ : List (List ℕ)) (reals′ : List (List Float)) (step : Step) → SidesDone g g′ P W M wholes reals wholes′ reals′ z (at .nodes) left step → (k : ℕ) → step ≡ Refused k
+        → TurnDone g g′ P W M c c′ wholes reals wholes′ reals′ at (U.Refused k)
+    code-stop ez h d c′ wr g′ M wholes′ reals′ step b k es =
+        subst (λ (z : WaitingNode). DoneAt h z → c′ ≡ wroteSides z h (at .nodes) c → SidesDone g g′ P W M wholes reals wholes′ reals′ z (at .nodes) left step → TurnDone g g′ P W M c c′ wholes reals wholes′ reals′ at (U.Refused k)) (sym ez)
+        (λ d wr b. turn-stop g P W sc flags′ c wholes reals at q′ h d c′ wr g′ M wholes′ reals′ step b k es) d wr b
+
+    pub code-goes : {z : WaitingNode} → z ≡ topWait → (h : Sides) → DoneAt h z → (c′ : Columns) → c′ ≡ wroteSides z h (at .nodes) c
+        → (g′ : Ground) (M : List Float) (wholes′ : List (List ℕ)) (reals′ : List (List Float)) (step : Step) → SidesDone g g′ P W M wholes reals wholes′ reals′ z (at .nodes) left step → (s : Stand) → step ≡ Goes s
+        → (deep : ℕ) → deep ≡ max (at .depth) (z .level + 1)
+        → TurnDone g g′ P W M c c′ wholes reals wholes′ reals′ at (U.Goes (record { nodes = at .nodes + 2; depth = deep; waiting = s .waiting; drawn = s .drawn }))
+    code-goes ez h d c′ wr g′ M wholes′ reals′ step b s es deep ed =
+        subst (λ (z : WaitingNode). DoneAt h z → c′ ≡ wroteSides z h (at .nodes) c → SidesDone g g′ P W M wholes reals wholes′ reals′ z (at .nodes) left step → deep ≡ max (at .depth) (z .level + 1)
+        → TurnDone g g′ P W M c c′ wholes reals wholes′ reals′ at (U.Goes (record { nodes = at .nodes + 2; depth = deep; waiting = s .waiting; drawn = s .drawn }))) (sym ez)
+        (λ d wr b ed. turn-goes g P W sc flags′ c wholes reals at q′ h d c′ wr g′ M wholes′ reals′ step b s es deep ed) d wr b ed

@@ -1,0 +1,339 @@
+// A tree grown from its root: the last node to wait is split, and its children are searched, until none waits.
+ghost use mathlib.Core.Path.{_≡_};
+ghost use Prim.Native.Nat.{_≤_, max};
+ghost use lib.ListN.{length};
+ghost use Rattle.node_growth.specs.Rooms.{LongAll};
+ghost use Rattle.tree_growth.specs.Places.{TurnAsks, TurnDone};
+ghost use Rattle.tree_growth.specs.Loop.{GrowAsks, GrowDone};
+ghost use Rattle.tree_growth.specs.Tree.{TreeAsks, StartDone, TreeDone};
+use criterion::Side;
+use node_growth::Stand;
+use node_growth::Step;
+use rules::Params;
+use search::Drawn;
+
+// A tree that grows: how many nodes it has, its depth so far, how many nodes wait, and how far the tapes are used.
+pub struct At {
+    pub nodes: u32,
+    pub depth: u32,
+    pub waiting: usize,
+    pub drawn: Drawn,
+}
+
+pub enum Turned {
+    Refused(usize),
+    Goes(At),
+}
+
+pub fn greater(a: u32, b: u32) -> u32
+    ensures { λ r. ⌜ r ≡ max a b ⌝ }
+{
+    if a <= b {
+        return b;
+    }
+    a
+}
+
+// One turn: the last to join is split, and its children are searched.
+pub fn turn(
+    values: &[f64],
+    targets: &[f64],
+    weights: &[f64],
+    counts: &[u32],
+    words: &[u32],
+    thresholds: &[f64],
+    order: &mut [u32],
+    scratch: &mut [u32],
+    flags: &mut [bool],
+    value: &mut [f64],
+    feature: &mut [u32],
+    threshold: &mut [f64],
+    score: &mut [f64],
+    truechild: &mut [u32],
+    falsechild: &mut [u32],
+    wholes: &mut [[u32; 6]],
+    reals: &mut [[f64; 3]],
+    rows: usize,
+    features: usize,
+    p: Params,
+    at: At,
+) -> Turned
+    requires { ⌜ TurnAsks (record { rows = rows; features = features; tables = (record { values = now values; targets = now targets; weights = now weights; counts = now counts }); order = now order }) p (now words) (length (now scratch)) (length (now flags)) (record { value = now (value); feature = now (feature); threshold = now (threshold); score = now (score); trueChild = now (truechild); falseChild = now (falsechild) }) (now wholes) (now reals) at ⌝ }
+    ensures { λ r. ⌜ TurnDone (record { rows = rows; features = features; tables = (record { values = now (values .entry); targets = now (targets .entry); weights = now (weights .entry); counts = now (counts .entry) }); order = now (order .entry) }) (record { rows = rows; features = features; tables = (record { values = now (values .entry); targets = now (targets .entry); weights = now (weights .entry); counts = now (counts .entry) }); order = now (order .exit) }) p (now (words .entry)) (now (thresholds .entry)) (record { value = now (value .entry); feature = now (feature .entry); threshold = now (threshold .entry); score = now (score .entry); trueChild = now (truechild .entry); falseChild = now (falsechild .entry) }) (record { value = now (value .exit); feature = now (feature .exit); threshold = now (threshold .exit); score = now (score .exit); trueChild = now (truechild .exit); falseChild = now (falsechild .exit) }) (now (wholes .entry)) (now (reals .entry)) (now (wholes .exit)) (now (reals .exit)) at r ⌝ }
+{
+    let m = at.waiting - 1;
+    let n = at.nodes;
+    let d = at.drawn;
+    let w = node_growth::nodes::top(wholes, reals, m);
+    let h = node_growth::split_node(
+        values,
+        targets,
+        weights,
+        counts,
+        order,
+        flags,
+        value,
+        feature,
+        threshold,
+        score,
+        truechild,
+        falsechild,
+        rows,
+        features,
+        w,
+        n,
+    );
+    let r = node_growth::search_sides(
+        values,
+        targets,
+        weights,
+        counts,
+        words,
+        thresholds,
+        flags,
+        order,
+        scratch,
+        wholes,
+        reals,
+        rows,
+        features,
+        p,
+        w,
+        n,
+        h,
+        Stand {
+            waiting: m,
+            drawn: d,
+        },
+    );
+    match r {
+        Step::Refused(k) => Turned::Refused(k),
+        Step::Goes(s) => {
+            let l = w.level + 1;
+            let deep = greater(at.depth, l);
+            let e = s.drawn;
+            let nodes = n + 2;
+            Turned::Goes(At {
+                nodes,
+                depth: deep,
+                waiting: s.waiting,
+                drawn: e,
+            })
+        }
+    }
+}
+
+// The growth: turns until nothing waits. `most` is how many nodes there may be.
+pub fn grow(
+    values: &[f64],
+    targets: &[f64],
+    weights: &[f64],
+    counts: &[u32],
+    words: &[u32],
+    thresholds: &[f64],
+    order: &mut [u32],
+    scratch: &mut [u32],
+    flags: &mut [bool],
+    value: &mut [f64],
+    feature: &mut [u32],
+    threshold: &mut [f64],
+    score: &mut [f64],
+    truechild: &mut [u32],
+    falsechild: &mut [u32],
+    wholes: &mut [[u32; 6]],
+    reals: &mut [[f64; 3]],
+    rows: usize,
+    features: usize,
+    most: usize,
+    p: Params,
+    start: At,
+) -> Turned
+    requires { ⌜ GrowAsks (record { rows = rows; features = features; tables = (record { values = now values; targets = now targets; weights = now weights; counts = now counts }); order = now order }) p (now words) most (length (now scratch)) (length (now flags)) (record { value = now (value); feature = now (feature); threshold = now (threshold); score = now (score); trueChild = now (truechild); falseChild = now (falsechild) }) (now wholes) (now reals) start ⌝ }
+    ensures { λ r. ⌜ GrowDone (record { rows = rows; features = features; tables = (record { values = now (values .entry); targets = now (targets .entry); weights = now (weights .entry); counts = now (counts .entry) }); order = now (order .entry) }) p (now (words .entry)) (now (thresholds .entry)) most (record { value = now (value .entry); feature = now (feature .entry); threshold = now (threshold .entry); score = now (score .entry); trueChild = now (truechild .entry); falseChild = now (falsechild .entry) }) (record { value = now (value .exit); feature = now (feature .exit); threshold = now (threshold .exit); score = now (score .exit); trueChild = now (truechild .exit); falseChild = now (falsechild .exit) }) (now (wholes .entry)) (now (reals .entry)) start r ⌝ }
+{
+    let mut at = start;
+    while 0 < at.waiting {
+        let r = turn(
+            values,
+            targets,
+            weights,
+            counts,
+            words,
+            thresholds,
+            order,
+            scratch,
+            flags,
+            value,
+            feature,
+            threshold,
+            score,
+            truechild,
+            falsechild,
+            wholes,
+            reals,
+            rows,
+            features,
+            p,
+            at,
+        );
+        match r {
+            Turned::Refused(k) => {
+                return Turned::Refused(k);
+            }
+            Turned::Goes(next) => {
+                at = next;
+            }
+        }
+    }
+    Turned::Goes(at)
+}
+
+// The root is searched if something is kept, the limit is above 1 and its count reaches the least split.
+pub fn start_tree(
+    values: &[f64],
+    targets: &[f64],
+    weights: &[f64],
+    counts: &[u32],
+    order: &[u32],
+    words: &[u32],
+    thresholds: &[f64],
+    wholes: &mut [[u32; 6]],
+    reals: &mut [[f64; 3]],
+    rows: usize,
+    features: usize,
+    most: usize,
+    p: Params,
+    kept: u32,
+    root: Side,
+) -> Step
+    requires { ⌜ TreeAsks (record { rows = rows; features = features; tables = (record { values = now values; targets = now targets; weights = now weights; counts = now counts }); order = now order }) p most kept root (length (now wholes)) (length (now reals)) ⌝ }
+    ensures { λ r. ⌜ StartDone (record { rows = rows; features = features; tables = (record { values = now (values .entry); targets = now (targets .entry); weights = now (weights .entry); counts = now (counts .entry) }); order = now (order .entry) }) p (now (words .entry)) (now (thresholds .entry)) (now (wholes .exit)) (now (reals .exit)) kept root r ⌝ }
+{
+    let s = Stand {
+        waiting: 0,
+        drawn: Drawn {
+            words: 0,
+            thresholds: 0,
+            searches: 0,
+        },
+    };
+    if 0 < root.count {
+        return node_growth::search_child(
+            values,
+            targets,
+            weights,
+            counts,
+            order,
+            words,
+            thresholds,
+            wholes,
+            reals,
+            rows,
+            features,
+            p,
+            0,
+            1,
+            0,
+            kept,
+            root,
+            s,
+        );
+    }
+    Step::Goes(s)
+}
+
+// The growth of a tree whose kept rows lie in the work columns from 0 to `kept`.
+pub fn grow_tree(
+    values: &[f64],
+    targets: &[f64],
+    weights: &[f64],
+    counts: &[u32],
+    words: &[u32],
+    thresholds: &[f64],
+    order: &mut [u32],
+    scratch: &mut [u32],
+    flags: &mut [bool],
+    value: &mut [f64],
+    feature: &mut [u32],
+    threshold: &mut [f64],
+    score: &mut [f64],
+    truechild: &mut [u32],
+    falsechild: &mut [u32],
+    wholes: &mut [[u32; 6]],
+    reals: &mut [[f64; 3]],
+    rows: usize,
+    features: usize,
+    most: usize,
+    p: Params,
+    kept: u32,
+    root: Side,
+) -> Turned
+    requires { ⌜ TreeAsks (record { rows = rows; features = features; tables = (record { values = now values; targets = now targets; weights = now weights; counts = now counts }); order = now order }) p most kept root (length (now wholes)) (length (now reals)) ⌝ }
+    requires { ⌜ (rows ≤ length (now scratch)) × (rows ≤ length (now flags)) × LongAll most (record { value = now (value); feature = now (feature); threshold = now (threshold); score = now (score); trueChild = now (truechild); falseChild = now (falsechild) }) ⌝ }
+    ensures { λ r. ⌜ TreeDone (record { rows = rows; features = features; tables = (record { values = now (values .entry); targets = now (targets .entry); weights = now (weights .entry); counts = now (counts .entry) }); order = now (order .entry) }) p (now (words .entry)) (now (thresholds .entry)) (record { value = now (value .entry); feature = now (feature .entry); threshold = now (threshold .entry); score = now (score .entry); trueChild = now (truechild .entry); falseChild = now (falsechild .entry) }) (record { value = now (value .exit); feature = now (feature .exit); threshold = now (threshold .exit); score = now (score .exit); trueChild = now (truechild .exit); falseChild = now (falsechild .exit) }) kept root r ⌝ }
+{
+    let t = root.totals;
+    node_growth::nodes::put_leaf(
+        value,
+        feature,
+        threshold,
+        score,
+        truechild,
+        falsechild,
+        0,
+        t,
+    );
+    let r = start_tree(
+        values,
+        targets,
+        weights,
+        counts,
+        order,
+        words,
+        thresholds,
+        wholes,
+        reals,
+        rows,
+        features,
+        most,
+        p,
+        kept,
+        root,
+    );
+    match r {
+        Step::Refused(k) => Turned::Refused(k),
+        Step::Goes(s) => {
+            let d = s.drawn;
+            let at = At {
+                nodes: 1,
+                depth: 0,
+                waiting: s.waiting,
+                drawn: d,
+            };
+            grow(
+                values,
+                targets,
+                weights,
+                counts,
+                words,
+                thresholds,
+                order,
+                scratch,
+                flags,
+                value,
+                feature,
+                threshold,
+                score,
+                truechild,
+                falsechild,
+                wholes,
+                reals,
+                rows,
+                features,
+                most,
+                p,
+                at,
+            )
+        }
+    }
+}

@@ -1,0 +1,374 @@
+// What set-up and split do with the work room.
+ghost use mathlib.Core.Path.{_≡_};
+ghost use Prim.Native.Nat.{_+_, _≤_, _<_};
+ghost use mathlib.Core.Bool.{false};
+ghost use mathlib.Core.List.{map};
+ghost use lib.ListN.{length, replicate};
+ghost use lib.Seq.{paste};
+ghost use Rattle.rules.specs.Words.{nought, from, keep, total, filled};
+ghost use Rattle.rules.specs.Lent.{countIn, keptIn, cell};
+ghost use Rattle.rules.specs.Totals.{empty};
+ghost use Rattle.rules.specs.Search.{totalsOf};
+ghost use Rattle.rules.specs.Fit.{elementIn};
+ghost use Rattle.lemmas.specs.Work.{part};
+ghost use Rattle.work_columns.specs.Columns.{bare, RootAsks, CountAsks, KeptTo, KeepAsks, KeptAll, KeepAllAsks, flagged, parted, partedColumns, Swept, Parted, PartAsks, ColumnsAsk};
+ghost use Rattle.work_columns.specs.Split.{CellAsks, tested, FrontAsks, FrontDone, GatherAsks, GatherDone, PassAsks, PassDone, SplitAsks, SplitDone};
+use criterion::Side;
+use rules::Cut;
+use rules::Totals;
+
+// The true side and the false one, the whole node's totals, and how many rows the true side has.
+pub struct Sides {
+    pub trueside: Side,
+    pub falseside: Side,
+    pub all: Totals,
+    pub rows: u32,
+}
+
+// A side, and what the whole is with it.
+pub struct Gathered {
+    pub side: Side,
+    pub all: Totals,
+}
+
+// ---- rooms filled with zero, the whole of each
+
+pub fn zero_f64(s: &mut [f64])
+    ensures { λ _. ⌜ now (s .exit) ≡ filled nought (now (s .entry)) ⌝ }
+{
+    let mut i: usize = 0;
+    while i < s.len() {
+        s[i] = 0.0;
+        i += 1;
+    }
+}
+
+pub fn zero_u32(s: &mut [u32])
+    ensures { λ _. ⌜ now (s .exit) ≡ filled 0 (now (s .entry)) ⌝ }
+{
+    let mut i: usize = 0;
+    while i < s.len() {
+        s[i] = 0;
+        i += 1;
+    }
+}
+
+pub fn zero_bool(s: &mut [bool])
+    ensures { λ _. ⌜ now (s .exit) ≡ filled false (now (s .entry)) ⌝ }
+{
+    let mut i: usize = 0;
+    while i < s.len() {
+        s[i] = false;
+        i += 1;
+    }
+}
+
+pub fn zero_wholes(s: &mut [[u32; 6]])
+    ensures { λ _. ⌜ now (s .exit) ≡ filled (replicate 6 0) (now (s .entry)) ⌝ }
+{
+    let mut i: usize = 0;
+    while i < s.len() {
+        s[i] = [0; 6];
+        i += 1;
+    }
+}
+
+pub fn zero_reals(s: &mut [[f64; 3]])
+    ensures { λ _. ⌜ now (s .exit) ≡ filled (replicate 3 nought) (now (s .entry)) ⌝ }
+{
+    let mut i: usize = 0;
+    while i < s.len() {
+        s[i] = [0.0; 3];
+        i += 1;
+    }
+}
+
+// ---- set-up
+
+// Over every row, kept or not, from row 0 on.
+pub fn root_totals(targets: &[f64], weights: &[f64], counts: &[u32], rows: usize) -> Totals
+    requires { ⌜ RootAsks rows (now targets) (now weights) (now counts) ⌝ }
+    ensures { λ r. ⌜ r ≡ totalsOf empty (map (bare (now (targets .entry)) (now (weights .entry)) (now (counts .entry))) (from 0 rows)) ⌝ }
+{
+    let mut t = criterion::no_rows();
+    let mut i: usize = 0;
+    while i < rows {
+        let m = criterion::mass_of(weights, counts, i);
+        t = criterion::take_in(t, targets[i], m);
+        i += 1;
+    }
+    t
+}
+
+// The root's count.
+pub fn kept_count(weights: &[f64], counts: &[u32], rows: usize) -> u32
+    requires { ⌜ CountAsks rows (now weights) (now counts) ⌝ }
+    ensures { λ r. ⌜ r ≡ total (countIn (now (counts .entry))) (keep (keptIn (now (weights .entry)) (now (counts .entry))) (from 0 rows)) ⌝ }
+{
+    let mut n: u32 = 0;
+    let mut i: usize = 0;
+    while i < rows {
+        if criterion::is_kept(weights, counts, i) {
+            n += counts[i];
+        }
+        i += 1;
+    }
+    n
+}
+
+// The kept rows of a listing, in its order, at the front of a column. Answers how many.
+// Every row is written and the place moves on where it is kept: no branch depends on the bag.
+pub fn kept_column(listing: &[u32], weights: &[f64], counts: &[u32], column: &mut [u32]) -> usize
+    requires { ⌜ KeepAsks (now listing) (now weights) (now counts) (length (now column)) ⌝ }
+    ensures { λ r. ⌜ KeptTo (keptIn (now (weights .entry)) (now (counts .entry))) (now (listing .entry)) (now (column .exit)) r ⌝ }
+{
+    let mut n: usize = 0;
+    let mut i: usize = 0;
+    while i < listing.len() {
+        let e = listing[i];
+        let row = e as usize;
+        column[n] = e;
+        if criterion::is_kept(weights, counts, row) {
+            n += 1;
+        }
+        i += 1;
+    }
+    n
+}
+
+// Every feature's listing. Each has every row once, so each column gets as many.
+pub fn kept_columns(
+    listings: &[u32],
+    weights: &[f64],
+    counts: &[u32],
+    order: &mut [u32],
+    rows: usize,
+    features: usize,
+) -> usize
+    requires { ⌜ KeepAllAsks rows features (now listings) (now weights) (now counts) (length (now order)) ⌝ }
+    ensures { λ r. ⌜ KeptAll (keptIn (now (weights .entry)) (now (counts .entry))) rows features (now (listings .entry)) (now (order .exit)) r ⌝ }
+{
+    let mut n: usize = 0;
+    let mut k: usize = 0;
+    while k < features {
+        let base = k * rows;
+        let end = base + rows;
+        n = kept_column(&listings[base..end], weights, counts, &mut order[base..end]);
+        k += 1;
+    }
+    n
+}
+
+// ---- partition
+
+// One pass: the flagged rows to the front of the stretch, the others to the front of the scratch. Each row is written to both.
+fn sweep(col: &mut [u32], scratch: &mut [u32], flags: &[bool]) -> usize
+    requires { ⌜ PartAsks (now col) (length (now scratch)) (length (now flags)) ⌝ }
+    ensures { λ r. ⌜ Swept (flagged (now (flags .entry))) (now (col .entry)) (now (col .exit)) (now (scratch .exit)) r ⌝ }
+{
+    let mut w: usize = 0;
+    let mut i: usize = 0;
+    while i < col.len() {
+        let e = col[i];
+        let row = e as usize;
+        let t = flags[row];
+        let f = i - w;
+        col[w] = e;
+        scratch[f] = e;
+        if t {
+            w += 1;
+        }
+        i += 1;
+    }
+    w
+}
+
+// The first n of src, copied over dst from `at` on.
+fn copy_in(dst: &mut [u32], at: usize, src: &[u32], n: usize)
+    requires { ⌜ (at + n ≤ length (now dst)) × (n ≤ length (now src)) ⌝ }
+    ensures { λ _. ⌜ now (dst .exit) ≡ paste (now (dst .entry)) at (now (src .entry)) n ⌝ }
+{
+    let mut j: usize = 0;
+    while j < n {
+        dst[at + j] = src[j];
+        j += 1;
+    }
+}
+
+// The flagged rows of a stretch first, then the others, each in their order. Answers how many are flagged.
+pub fn stable_partition(col: &mut [u32], scratch: &mut [u32], flags: &[bool]) -> usize
+    requires { ⌜ PartAsks (now col) (length (now scratch)) (length (now flags)) ⌝ }
+    ensures { λ r. ⌜ Parted (flagged (now (flags .entry))) (now (col .entry)) (now (col .exit)) r ⌝ }
+{
+    let n = col.len();
+    let w = sweep(col, scratch, flags);
+    copy_in(col, w, scratch, n - w);
+    w
+}
+
+// The rows from `start` to `end` of every column partitioned. Those of the column `but` are parted as they stand, and are left so.
+pub fn partition_columns(
+    order: &mut [u32],
+    rows: usize,
+    features: usize,
+    start: usize,
+    end: usize,
+    scratch: &mut [u32],
+    flags: &[bool],
+    but: usize,
+)
+    requires { ⌜ ColumnsAsk rows features start end (now order) (length (now scratch)) (length (now flags)) ⌝ }
+    requires { ⌜ parted (flagged (now flags)) (part rows but start end (now order)) ≡ part rows but start end (now order) ⌝ }
+    ensures { λ _. ⌜ now (order .exit) ≡ partedColumns rows start end (flagged (now (flags .entry))) features (now (order .entry)) ⌝ }
+{
+    let mut k: usize = 0;
+    while k < features {
+        if k != but {
+            let base = k * rows;
+            let low = base + start;
+            let high = base + end;
+            stable_partition(&mut order[low..high], scratch, flags);
+        }
+        k += 1;
+    }
+}
+
+// ---- the split pass
+
+// Row i's value of feature j.
+pub fn value_at(values: &[f64], rows: usize, features: usize, j: usize, i: usize) -> f64
+    requires { ⌜ CellAsks rows features (now values) j i ⌝ }
+    ensures { λ r. ⌜ r ≡ cell features (now (values .entry)) j i ⌝ }
+{
+    let base = i * features;
+    values[base + j]
+}
+
+// How many rows at the front of a column go to the true side.
+fn true_rows(values: &[f64], col: &[u32], rows: usize, features: usize, cut: Cut) -> usize
+    requires { ⌜ FrontAsks rows features (now values) cut (now col) ⌝ }
+    ensures { λ r. ⌜ FrontDone (tested features (now (values .entry)) cut) (now (col .entry)) r ⌝ }
+{
+    let j = criterion::wide(cut.feature);
+    let mut i: usize = 0;
+    while i < col.len() {
+        let x = value_at(values, rows, features, j, criterion::wide(col[i]));
+        if x <= cut.threshold {
+            i += 1;
+        } else {
+            return i;
+        }
+    }
+    i
+}
+
+// The rows of a column on one side, all flagged t; and the whole, which had `start`, with them.
+fn gather(
+    targets: &[f64],
+    weights: &[f64],
+    counts: &[u32],
+    col: &[u32],
+    flags: &mut [bool],
+    rows: usize,
+    t: bool,
+    start: Totals,
+) -> Gathered
+    requires { ⌜ GatherAsks rows (now targets) (now weights) (now counts) (now col) (length (now flags)) ⌝ }
+    ensures { λ r. ⌜ GatherDone (bare (now (targets .entry)) (now (weights .entry)) (now (counts .entry))) t start (now (col .entry)) (now (flags .entry)) (now (flags .exit)) r ⌝ }
+{
+    let mut side = criterion::no_side();
+    let mut all = start;
+    let mut i: usize = 0;
+    while i < col.len() {
+        let row = criterion::wide(col[i]);
+        let m = criterion::mass_of(weights, counts, row);
+        side = criterion::join(side, targets[row], m, counts[row]);
+        all = criterion::take_in(all, targets[row], m);
+        flags[row] = t;
+        i += 1;
+    }
+    Gathered { side, all }
+}
+
+// Along the split column's stretch, in which the true side stands first: each row gets its flag, and its side and the whole take it in.
+pub fn split_pass(
+    values: &[f64],
+    targets: &[f64],
+    weights: &[f64],
+    counts: &[u32],
+    col: &[u32],
+    flags: &mut [bool],
+    rows: usize,
+    features: usize,
+    cut: Cut,
+) -> Sides
+    requires { ⌜ PassAsks rows features (now values) (now targets) (now weights) (now counts) cut (now col) (length (now flags)) ⌝ }
+    ensures { λ r. ⌜ PassDone (elementIn features (now (values .entry)) (now (targets .entry)) (now (weights .entry)) (now (counts .entry))) cut (now (col .entry)) (now (flags .entry)) (now (flags .exit)) r ⌝ }
+{
+    let n = true_rows(values, col, rows, features, cut);
+    let none = criterion::no_rows();
+    let front = gather(
+        targets,
+        weights,
+        counts,
+        &col[0..n],
+        flags,
+        rows,
+        true,
+        none,
+    );
+    let trueside = front.side;
+    let t = front.all;
+    let rest = gather(
+        targets,
+        weights,
+        counts,
+        &col[n..col.len()],
+        flags,
+        rows,
+        false,
+        t,
+    );
+    let falseside = rest.side;
+    let all = rest.all;
+    Sides {
+        trueside,
+        falseside,
+        all,
+        rows: n as u32,
+    }
+}
+
+// The pass of a node whose rows lie from `start` to `end` of every column.
+pub fn split_sides(
+    values: &[f64],
+    targets: &[f64],
+    weights: &[f64],
+    counts: &[u32],
+    order: &[u32],
+    flags: &mut [bool],
+    rows: usize,
+    features: usize,
+    start: usize,
+    end: usize,
+    cut: Cut,
+) -> Sides
+    requires { ⌜ SplitAsks rows features start end (now values) (now targets) (now weights) (now counts) cut (now order) (length (now flags)) ⌝ }
+    ensures { λ r. ⌜ SplitDone rows start end (elementIn features (now (values .entry)) (now (targets .entry)) (now (weights .entry)) (now (counts .entry))) cut (now (order .entry)) (now (flags .exit)) r ⌝ }
+{
+    let j = criterion::wide(cut.feature);
+    let base = j * rows;
+    let low = base + start;
+    let high = base + end;
+    split_pass(
+        values,
+        targets,
+        weights,
+        counts,
+        &order[low..high],
+        flags,
+        rows,
+        features,
+        cut,
+    )
+}
