@@ -61,6 +61,6 @@ errs (suc n) e = ErrorReply.Refused (suc n)
 unfoldable pub errorTests : ℕ → List Float → List Float → List Test
 errorTests rows ys ms = test 1 (rowsIn rows) ∷ test 2 (eqb (length ys) rows && eqb (length ms) rows) ∷ []
 
--- R14.5: and are counted all the same
+-- R14.5: rows without a mean are counted all the same
 unfoldable pub outOfBagError : ℕ → List Float → List Float → ErrorReply
 outOfBagError rows ys ms = errs (firstFailed (errorTests rows ys ms)) (div binary64 (addSquares nought ys ms) (float rows))
