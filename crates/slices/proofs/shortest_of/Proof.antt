@@ -1,7 +1,7 @@
--- `checks::rooms::shortest_of` meets its contract: the lesser of two, five times. Assumes nothing.
+-- `slices::shortest_of` meets its contract: the lesser of two, five times. Assumes nothing.
 use borrow.Author.Needs.{needs}
-use Rattle.checks.proofs.rooms.shortest_of.Statement.{statement}
-use Rattle.checks.proofs.rooms.shortest_of.Tie as tie
+use Rattle.slices.proofs.shortest_of.Statement.{statement}
+use Rattle.slices.proofs.shortest_of.Tie as tie
 
 least-requires : tie.Need-least-requires
 least-requires c κs = search needs

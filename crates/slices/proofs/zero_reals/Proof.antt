@@ -1,20 +1,21 @@
--- `work_columns::zero_wholes` meets its contract: after i turns the first i places hold the value. Assumes nothing.
+-- `slices::zero_reals` meets its contract: after i turns the first i places hold the value. Assumes nothing.
 use borrow.Author.Needs.{needs}
 use native.Mathlib.Omega.{arith}
 use Prim.Native.Nat.{_-_}
 use lib.ListN.{length, replicate}
-use Rattle.work_columns.specs.Filling.{Filling, fill-start, fill-turn, fill-done}
-use Rattle.work_columns.proofs.zero_wholes.Statement.{statement}
-use Rattle.work_columns.proofs.zero_wholes.Tie as tie
+use Rattle.rules.specs.Words.{nought}
+use Rattle.slices.specs.Filling.{Filling, fill-start, fill-turn, fill-done}
+use Rattle.slices.proofs.zero_reals.Statement.{statement}
+use Rattle.slices.proofs.zero_reals.Tie as tie
 
 abbrev Inv-loop : tie.InvT-loop
-Inv-loop s₀ i₀ s i = Filling (replicate 6 0) s₀ s i
+Inv-loop s₀ i₀ s i = Filling (replicate 3 nought) s₀ s i
 
 abbrev μ-loop : tie.MeasureT-loop
 μ-loop s₀ i₀ s i = length s₀ - i
 
 loop-holds : tie.Need-loop-holds Inv-loop μ-loop
-loop-holds c = fill-start (replicate 6 0) _
+loop-holds c = fill-start (replicate 3 nought) _
 
 mul-t3 : tie.Need-mul-t3 Inv-loop μ-loop
 mul-t3 c = search needs
@@ -29,16 +30,16 @@ loop-less : tie.Need-loop-less Inv-loop μ-loop
 loop-less c = search needs
 
 loop-again : tie.Need-loop-again Inv-loop μ-loop
-loop-again c = fill-turn (replicate 6 0) _ _ _ (c .before .loop .inv) (omega arith)
+loop-again c = fill-turn (replicate 3 nought) _ _ _ (c .before .loop .inv) (omega arith)
 
 same-length : tie.Need-same-length Inv-loop μ-loop
 same-length c = c .before .loop .inv .long
 
 returns : tie.Need-returns Inv-loop μ-loop
-returns c = fill-done (replicate 6 0) _ _ _ (c .before .loop .inv) (omega arith)
+returns c = fill-done (replicate 3 nought) _ _ _ (c .before .loop .inv) (omega arith)
 
-pub zero-wholes-spec : {M : Type 1} → statement M
-zero-wholes-spec =
+pub zero-reals-spec : {M : Type 1} → statement M
+zero-reals-spec =
     tie.close
     (tie.spec
     Inv-loop
