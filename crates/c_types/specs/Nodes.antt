@@ -22,7 +22,7 @@ use Rattle.rules.specs.Answers.{nodeTold}
 use Rattle.lemmas.specs.Lists.{getD-from}
 use Rattle.lemmas.specs.Passed.{past}
 use Rattle.lemmas.specs.Tables.{node-good}
-use Rattle.tables.specs.Table.{entryIs}
+use Rattle.entries.specs.Entries.{entryIs}
 use Rattle.tables.specs.Laws.{entries-long}
 
 -- ---- the true child's number

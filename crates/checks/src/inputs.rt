@@ -132,12 +132,17 @@ pub fn numbers_good(values: &[f64], targets: &[f64], weights: &[f64]) -> bool
 
 // ---- counts
 
-pub fn counts_low(counts: &[u32]) -> bool
-    ensures { λ r. ⌜ r ≡ every (λ k. leb k 65535) (now (counts .entry)) ⌝ }
+// Does every count lie in a range?
+fn counts_within(counts: &[u32], least: u32, most: u32) -> bool
+    ensures { λ r. ⌜ r ≡ every (λ k. leb least k && leb k most) (now (counts .entry)) ⌝ }
 {
     let mut i: usize = 0;
     while i < counts.len() {
-        if 65535 < counts[i] {
+        let k = counts[i];
+        if k < least {
+            return false;
+        }
+        if most < k {
             return false;
         }
         i += 1;
@@ -145,17 +150,10 @@ pub fn counts_low(counts: &[u32]) -> bool
     true
 }
 
-fn all_one(counts: &[u32]) -> bool
-    ensures { λ r. ⌜ r ≡ every (λ k. eqb k 1) (now (counts .entry)) ⌝ }
+pub fn counts_low(counts: &[u32]) -> bool
+    ensures { λ r. ⌜ r ≡ every (λ k. leb k 65535) (now (counts .entry)) ⌝ }
 {
-    let mut i: usize = 0;
-    while i < counts.len() {
-        if counts[i] != 1 {
-            return false;
-        }
-        i += 1;
-    }
-    true
+    counts_within(counts, 0, 65535)
 }
 
 // In a forest with weights every count is 1.
@@ -165,5 +163,5 @@ pub fn counts_one(weights: &[f64], counts: &[u32]) -> bool
     if weights.len() == 0 {
         return true;
     }
-    all_one(counts)
+    counts_within(counts, 1, 1)
 }

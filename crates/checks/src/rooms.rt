@@ -1,7 +1,7 @@
 // The rooms that a fit asks: node room by kept rows, work room by shape, report columns by trees.
 ghost use mathlib.Core.Path.{_≡_};
 ghost use mathlib.Core.Bool.{true, _&&_};
-ghost use Prim.Native.Nat.{suc, min, max};
+ghost use Prim.Native.Nat.{suc, max};
 ghost use lib.Dec.{leb};
 ghost use Rattle.rules.specs.Lent.{Work, Reports, WaitingRoom, waitingRoom};
 ghost use Rattle.rules.specs.Checks.{shapeIn, workEnough, reportsExact};

@@ -3,7 +3,6 @@ ghost use mathlib.Core.Path.{_≡_};
 ghost use mathlib.Core.List.{[]};
 ghost use Prim.Native.Nat.{_+_, _<_, _≤_};
 ghost use lib.Ieee.Scale.{finite};
-ghost use Rattle.rules.specs.Words.{float};
 ghost use Rattle.rules.specs.Lent.{massIn, keptIn};
 ghost use Rattle.rules.specs.Checks.{goodWeight};
 ghost use Rattle.rules.specs.Totals.{empty, takeIn, less, valueOf, proxy, score};
@@ -138,19 +137,12 @@ pub fn weight_good(w: f64) -> bool
     if is_finite(w) { !(w < 0.0) } else { false }
 }
 
-// A count or a size as a float: up to 65,535 it is one exactly.
-pub fn float_of(n: u32) -> f64
-    ensures { λ r. ⌜ r ≡ float n ⌝ }
-{
-    n as f64
-}
-
 // The mass of row i; no weights at all is an empty slice.
 pub fn mass_of(weights: &[f64], counts: &[u32], i: usize) -> f64
     requires { ⌜ Weighed i (now weights) (now counts) ⌝ }
     ensures { λ r. ⌜ r ≡ massIn (now (weights .entry)) (now (counts .entry)) i ⌝ }
 {
-    let m = float_of(counts[i]);
+    let m = slices::float_of(counts[i]);
     if weights.len() == 0 {
         return m;
     }

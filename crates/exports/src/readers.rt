@@ -120,7 +120,7 @@ pub extern "C" fn tailboardy_out_of_bag_error(
 ) -> ErrorTold
     ensures { λ r. ⌜ errorNumbers r ≡ errorTold (outOfBagError rows (now (targets .entry)) (now (means .entry))) ⌝ }
 {
-    let reply = means::errors::out_of_bag_error(rows, targets, means);
+    let reply = errors::out_of_bag_error(rows, targets, means);
     c_types::error_told_of(reply)
 }
 

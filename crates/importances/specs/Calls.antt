@@ -1,37 +1,24 @@
 -- The two calls: what is known once their checks have passed, and what they leave. Assumes nothing.
-use Prim.Native.Nat.{ℕ, zero, suc, _≤_}
-use native.Mathlib.Omega.{arith}
-use mathlib.Core.Path.{_≡_, refl, sym, ap, _∙_, subst}
+use Prim.Native.Nat.{ℕ, suc, _≤_}
+use mathlib.Core.Path.{_≡_, sym, ap, _∙_, subst}
 use mathlib.Core.Bool.{true, _&&_}
 use mathlib.Core.List.{List}
 use lib.ListN.{length, take, replicate, length-map, length-replicate}
 use lib.Seq.{length-take-le}
-use lib.Dec.{T, eqb, leb→le, le→leb, eqb→eq}
-use lib.IntN.{pos}
-use lib.Ieee.{Float, binary64, inFloat}
+use lib.Dec.{eqb, leb→le, eqb→eq}
+use lib.Ieee.{Float}
 use Rattle.rules.specs.declared.Scale.{Scale}
 use Rattle.rules.specs.declared.Reply.{Reply}
 use Rattle.rules.specs.Words.{nought, float, every, filled}
 use Rattle.rules.specs.Lent.{Columns, Outcome, shortest, entriesAt}
 use Rattle.rules.specs.Checks.{firstFailed, featuresIn, treesIn}
 use Rattle.rules.specs.Table.{goodTree, treeIn, ForestTable, startsGood, treesOf, goodForest, startsEnough}
-use Rattle.rules.specs.Reading.{reads, scoresOf, normalised, scaled, addImportances, treeImportanceTests, forestImportanceTests, treeImportances, forestImportances}
+use Rattle.rules.specs.Reading.{scoresOf, normalised, scaled, addImportances, treeImportanceTests, forestImportanceTests, treeImportances, forestImportances}
 use Rattle.lemmas.specs.Lists.{is-true}
 use Rattle.lemmas.specs.Passed.{past, and2}
-use Rattle.lemmas.specs.Tests.{within-top}
-use Rattle.importances.specs.Lists.{dividedBy, filled-is}
-use Rattle.importances.specs.Scores.{TreesLie}
-
--- ---- a reader's outcome by the number of its verdict
-
-reads-done : {n m : ℕ} {new told : List Float} (old : List Float) → n ≡ m → n ≡ 0 → told ≡ new → record { answer = Reply.Done; rooms = told } ≡ reads m new old
-unfolding reads
-reads-done old e h t = λ i. reads ((sym h ∙ e) i) (t i) old
-
-reads-refused : (n : ℕ) {m : ℕ} (new old : List Float) → n ≡ m → (n ≡ 0 → ⊥) → record { answer = Reply.Refused n; rooms = old } ≡ reads m new old
-unfolding reads
-reads-refused zero new old e h = absurd (h refl)
-reads-refused (suc n) new old e h = ap (λ m. reads m new old) e
+use Rattle.lemmas.specs.Tests.{within-top, reads-done, reads-refused}
+use Rattle.scores.specs.Lists.{dividedBy, filled-is}
+use Rattle.tables.specs.Table.{TreesLie}
 
 -- ---- one tree
 
@@ -92,11 +79,11 @@ module _ (features : ℕ) (F : ForestTable) (out : List Float) {number : ℕ} (v
               };
         }
 
-    pub forest-told : {u v w x : List Float} → u ≡ filled nought out → v ≡ addImportances (length u) u (treesOf F) → w ≡ dividedBy (float (F .trees)) v → x ≡ normalised w
-        → _≡_ {A = Outcome Reply (List Float)} (record { answer = Reply.Done; rooms = x }) (forestImportances features F out)
+    pub forest-told : {count : Float} {u v w x : List Float} → u ≡ filled nought out → v ≡ addImportances (length u) u (treesOf F) → count ≡ float (F .trees)
+        → w ≡ dividedBy count v → x ≡ normalised w → _≡_ {A = Outcome Reply (List Float)} (record { answer = Reply.Done; rooms = x }) (forestImportances features F out)
     unfolding forestImportances
-    forest-told {u} p q r s =
-        reads-done out verdict h (s ∙ ap normalised (r ∙ ap (dividedBy (float (F .trees))) (q ∙ (λ i. addImportances (wide i) (blank i) (treesOf F)))))
+    forest-told {count} {u} p q g r s =
+        reads-done out verdict h (s ∙ ap normalised (r ∙ (λ k. dividedBy (g k) ((q ∙ (λ i. addImportances (wide i) (blank i) (treesOf F))) k))))
       where
         blank : u ≡ replicate features nought
         blank = p ∙ filled-is nought out ∙ ap (λ k. replicate k nought) (forest-passed .long)
@@ -104,11 +91,6 @@ module _ (features : ℕ) (F : ForestTable) (out : List Float) {number : ℕ} (v
         wide : length u ≡ features
         wide = ap length p ∙ length-map out (λ _. nought) ∙ forest-passed .long
 
--- so few trees are a float exactly
-pub few-float : (n : ℕ) → n ≤ 1024 → T (inFloat binary64 (pos n))
-unfolding inFloat
-few-float n h = le→leb n _ (omega arith)
-
--- and so many features are the front of an array
+-- so many features are the front of an array
 pub front-long : (n : ℕ) → n ≤ 1024 → length (take n (replicate 1024 nought)) ≡ n
 front-long n h = length-take-le n _ (subst (λ m. n ≤ m) (sym (length-replicate 1024 nought)) h)

@@ -1,6 +1,5 @@
 // Importances: how much of the scores of a tree's splits, or of a forest's, falls to each feature.
 ghost use mathlib.Core.Path.{_≡_};
-ghost use mathlib.Core.Bool.{false, not};
 ghost use mathlib.Core.List.{List};
 ghost use Prim.Native.Nat.{_<_};
 ghost use lib.ListN.{length};
@@ -8,37 +7,13 @@ ghost use lib.Ieee.{Float};
 ghost use Rattle.rules.specs.declared.Reply.{Reply};
 ghost use Rattle.rules.specs.Lent.{Outcome, entriesAt, columnsOf};
 ghost use Rattle.rules.specs.Checks.{firstFailed};
-ghost use Rattle.rules.specs.Table.{isLeaf, treesOf, tableOf};
-ghost use Rattle.rules.specs.Reading.{scored, addScores, scoresOf, normalised, addEach, addImportances, treeImportanceTests, forestImportanceTests, treeImportances, forestImportances};
-ghost use Rattle.importances.specs.Scores.{noChild, marked, TreeLies, TreesLie};
+ghost use Rattle.rules.specs.Table.{treesOf, tableOf};
+ghost use Rattle.rules.specs.Reading.{addScores, scoresOf, normalised, addEach, addImportances, treeImportanceTests, forestImportanceTests, treeImportances, forestImportances};
+ghost use Rattle.tables.specs.Table.{TreeLies, TreesLie};
 use rules::Reply;
 use rules::Scale;
 
-pub mod lists;
-
 // ---- one tree
-
-fn is_leaf(truechild: u32, falsechild: u32) -> bool
-    ensures { λ r. ⌜ r ≡ noChild truechild falsechild ⌝ }
-{
-    if truechild == 0 {
-        falsechild == 0
-    } else {
-        false
-    }
-}
-
-// A node's score is added to its feature's, unless it is a leaf.
-fn add_score(feature: u32, score: f64, truechild: u32, falsechild: u32, v: &mut [f64])
-    requires { ⌜ (noChild truechild falsechild ≡ false → feature < length (now v)) ⌝ }
-    ensures { λ _. ⌜ now (v .exit) ≡ scored (not (isLeaf (marked feature score truechild falsechild))) (marked feature score truechild falsechild) (now (v .entry)) ⌝ }
-{
-    if is_leaf(truechild, falsechild) {
-        return;
-    }
-    let j = slices::wide(feature);
-    v[j] = v[j] + score;
-}
 
 // The scores of the n entries from place a on.
 fn add_scores(
@@ -52,13 +27,13 @@ fn add_scores(
     falsechild: &[u32],
     v: &mut [f64],
 )
-    requires { ⌜ TreeLies (length (now v)) (columnsOf (now value) (now feature) (now threshold) (now score) (now truechild) (now falsechild)) a n ⌝ }
+    requires { ⌜ TreeLies (length (now v)) a n (columnsOf (now value) (now feature) (now threshold) (now score) (now truechild) (now falsechild)) ⌝ }
     ensures { λ _. ⌜ now (v .exit) ≡ addScores (now (v .entry)) (entriesAt (columnsOf (now (value .entry)) (now (feature .entry)) (now (threshold .entry)) (now (score .entry)) (now (truechild .entry)) (now (falsechild .entry))) a n) ⌝ }
 {
     let mut k: usize = 0;
     while k < n {
         let at = a + k;
-        add_score(feature[at], score[at], truechild[at], falsechild[at], v);
+        scores::add_score(feature[at], score[at], truechild[at], falsechild[at], v);
         k += 1;
     }
 }
@@ -74,7 +49,7 @@ fn score_tree(
     falsechild: &[u32],
     v: &mut [f64],
 )
-    requires { ⌜ TreeLies (length (now v)) (columnsOf (now value) (now feature) (now threshold) (now score) (now truechild) (now falsechild)) a n ⌝ }
+    requires { ⌜ TreeLies (length (now v)) a n (columnsOf (now value) (now feature) (now threshold) (now score) (now truechild) (now falsechild)) ⌝ }
     ensures { λ _. ⌜ now (v .exit) ≡ scoresOf (length (now (v .entry))) (entriesAt (columnsOf (now (value .entry)) (now (feature .entry)) (now (threshold .entry)) (now (score .entry)) (now (truechild .entry)) (now (falsechild .entry))) a n) ⌝ }
 {
     slices::zero_f64(v);
@@ -180,7 +155,7 @@ pub fn tree_importances(
         falsechild,
         out,
     );
-    lists::scale(by, out);
+    scores::scale(by, out);
     Reply::Done
 }
 
@@ -199,7 +174,7 @@ fn add_tree(
     v: &mut [f64],
     own: &mut [f64],
 )
-    requires { ⌜ TreeLies (length (now v)) (columnsOf (now value) (now feature) (now threshold) (now score) (now truechild) (now falsechild)) a n × (length (now own) ≡ length (now v)) ⌝ }
+    requires { ⌜ TreeLies (length (now v)) a n (columnsOf (now value) (now feature) (now threshold) (now score) (now truechild) (now falsechild)) × (length (now own) ≡ length (now v)) ⌝ }
     ensures { λ _. ⌜ now (v .exit) ≡ addEach (now (v .entry)) (normalised (scoresOf (length (now (v .entry))) (entriesAt (columnsOf (now (value .entry)) (now (feature .entry)) (now (threshold .entry)) (now (score .entry)) (now (truechild .entry)) (now (falsechild .entry))) a n))) ⌝ }
 {
     score_tree(
@@ -213,8 +188,7 @@ fn add_tree(
         falsechild,
         own,
     );
-    lists::normalise(own);
-    lists::add_each(v, own);
+    scores::add_tree(v, own);
 }
 
 fn add_trees(
@@ -341,7 +315,8 @@ pub fn forest_importances(
         out,
         &mut own[..features],
     );
-    lists::divide(out, trees as f64);
-    lists::normalise(out);
+    let count = slices::float_of(trees as u32);
+    scores::divide(out, count);
+    scores::normalise(out);
     Reply::Done
 }

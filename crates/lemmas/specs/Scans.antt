@@ -25,6 +25,9 @@ module _ {ℓ} {A : Type ℓ} where
 
   -- ---- every entry
 
+  pub every-same : (p q : A → Bool) → ((x : A) → p x ≡ q x) → (l : List A) → every p l ≡ every q l
+  every-same p q h l = λ i. every (λ x. h x i) l
+
   module _ (p : A → Bool) (l : List A) (i : ℕ) where
     pub every-next : (d : A) → i < length l → every p (drop i l) ≡ (p (getD l i d) && every p (drop (i + 1) l))
     unfolding every

@@ -1,20 +1,11 @@
 -- What the checks of a listing ask of their callers.
-use Prim.Native.Nat.{ℕ, _+_, _*_, _<_, _≤_}
-use mathlib.Core.Path.{_≡_, sym, subst}
+use Prim.Native.Nat.{ℕ, _*_, _<_, _≤_}
+use mathlib.Core.Path.{_≡_}
 use mathlib.Core.List.{List}
 use lib.ListN.{length}
 use lib.Ieee.{Float}
 use Rattle.rules.specs.declared.Shape.{Shape}
 use Rattle.lemmas.specs.Lists.{Every}
-use Rattle.lemmas.specs.Cells.{cell-within}
-
--- row i's value of feature j is among the values
-pub record Inside (features i j : ℕ) (xs : List Float) : Type 0 where
-  pub known : j < features
-  pub within : i * features + j < length xs
-
-pub cell-inside : (rows features i j : ℕ) (xs : List Float) → length xs ≡ rows * features → i < rows → j < features → Inside features i j xs
-cell-inside rows features i j xs long h k = record { known = k; within = subst (λ n. i * features + j < n) (sym long) (cell-within i rows features j h k) }
 
 -- a list of rows, to be walked along feature j
 pub record Walkable (rows features j : ℕ) (xs : List Float) (l : List ℕ) : Type 0 where

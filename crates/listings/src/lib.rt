@@ -4,7 +4,7 @@ ghost use Prim.Native.Nat.{_≤_};
 ghost use Rattle.rules.specs.Words.{eachOnce};
 ghost use Rattle.rules.specs.Lent.{cell};
 ghost use Rattle.rules.specs.Listing.{neverFalls, goodListing, listingsGood};
-ghost use Rattle.listings.specs.Asks.{Inside, Walkable, Listed, Laid};
+ghost use Rattle.listings.specs.Asks.{Walkable, Listed, Laid};
 use rules::Shape;
 
 // Does the listing have each row once? The marks are a local array, since lent flags may be too short and must stay as they were.
@@ -31,14 +31,6 @@ fn each_once(listing: &[u32], rows: usize) -> bool
     true
 }
 
-// The value of row i in feature j. The values lie row after row.
-pub fn cell_at(values: &[f64], features: usize, i: usize, j: usize) -> f64
-    requires { ⌜ Inside features i j (now values) ⌝ }
-    ensures { λ r. ⌜ r ≡ cell features (now (values .entry)) j i ⌝ }
-{
-    values[i * features + j]
-}
-
 // Does the value in feature j never fall along the listing?
 fn never_falls(listing: &[u32], values: &[f64], rows: usize, features: usize, j: usize) -> bool
     requires { ⌜ Walkable rows features j (now values) (now listing) ⌝ }
@@ -48,11 +40,11 @@ fn never_falls(listing: &[u32], values: &[f64], rows: usize, features: usize, j:
         return true;
     }
     let first = listing[0] as usize;
-    let mut last = cell_at(values, features, first, j);
+    let mut last = slices::cell_at(values, features, first, j);
     let mut i: usize = 1;
     while i < listing.len() {
         let row = listing[i] as usize;
-        let next = cell_at(values, features, row, j);
+        let next = slices::cell_at(values, features, row, j);
         if next < last {
             return false;
         }

@@ -2,5 +2,3 @@
 pub mod Sums
 -- the checks of the calls that take means
 pub mod Means
--- the error of the means
-pub mod Errors

@@ -43,8 +43,8 @@ module _ (S : Shape) (xs : List Float) (F : ForestTable) (out : List Float) wher
       let (o, s) = and2 (eqb (length out) (S .rows)) (startsEnough F) b in
       let (x, y) = and2 (startsGood F) (every (goodTree (S .features)) (treesOf F)) g in
       record {
-        lying = record { started = record { few = r .few; long = leb→le (suc (F .trees)) (length (F .starts)) s }; good = is-true _ x };
-        good = is-true _ y;
+        trees =
+            record { lying = record { started = record { few = r .few; long = leb→le (suc (F .trees)) (length (F .starts)) s }; good = is-true _ x }; good = is-true _ y };
         few = rows-low S (r .shape);
         long = eqb-true _ _ (is-true _ l);
         room = eqb-true _ _ (is-true _ o);

@@ -16,7 +16,6 @@ ghost use Rattle.means.specs.Means.{tableTests};
 use rules::Reply;
 use rules::Shape;
 
-pub mod errors;
 pub mod sums;
 
 // ---- checks

@@ -6,27 +6,17 @@ ghost use mathlib.Core.List.{map};
 ghost use Prim.Native.Nat.{_≤_};
 ghost use lib.ListN.{length};
 ghost use lib.Ieee.{binary64, add, div};
-ghost use Rattle.rules.specs.Words.{nought, float, from};
+ghost use Rattle.rules.specs.Words.{float, from};
 ghost use Rattle.rules.specs.Lent.{entriesAt, columnsOf};
 ghost use Rattle.rules.specs.Table.{treesOf, tableOf};
 ghost use Rattle.rules.specs.OutOfBag.{outOfBagMean};
 ghost use Rattle.predict.specs.Walks.{Walkable, Readable, leafAt};
 ghost use Rattle.predict.specs.Rows.{rewritten};
-ghost use Rattle.means.specs.Sums.{isOut, withTree, summed, outNumber, Countable, Numberable, OutNumbered, ForestReadable};
+ghost use Rattle.bags.specs.Bags.{isOut, outNumber};
+ghost use Rattle.means.specs.Sums.{withTree, summed, Countable, ForestReadable};
 use rules::Shape;
 
 // ---- the sums
-
-// Without counts every row is out of every bag.
-fn is_out(counts: &[u32], at: usize) -> bool
-    ensures { λ r. ⌜ r ≡ isOut (now (counts .entry)) at ⌝ }
-{
-    if at < counts.len() {
-        counts[at] == 0
-    } else {
-        true
-    }
-}
 
 // A row's sum once the tree of n nodes from place a on is taken in.
 fn sum_with(
@@ -48,7 +38,7 @@ fn sum_with(
     requires { ⌜ Walkable features a n i (now values) (columnsOf (now value) (now feature) (now threshold) (now score) (now truechild) (now falsechild)) ⌝ }
     ensures { λ r. ⌜ r ≡ cond (isOut (now (counts .entry)) at) (add binary64 x (leafAt features (now (values .entry)) (entriesAt (columnsOf (now (value .entry)) (now (feature .entry)) (now (threshold .entry)) (now (score .entry)) (now (truechild .entry)) (now (falsechild .entry))) a n) i)) x ⌝ }
 {
-    if is_out(counts, at) {
+    if bags::is_out(counts, at) {
         let v = predict::row_value(
             i,
             features,
@@ -157,59 +147,14 @@ fn add_trees(
     }
 }
 
-fn clear(rows: usize, out: &mut [f64])
-    requires { ⌜ length (now out) ≡ rows ⌝ }
-    ensures { λ _. ⌜ now (out .exit) ≡ rewritten (λ k x. nought) 0 rows (now (out .entry)) ⌝ }
-{
-    let mut i: usize = 0;
-    while i < rows {
-        out[i] = 0.0;
-        i += 1;
-    }
-}
-
-// ---- the numbers of trees
-
-fn out_mark(counts: &[u32], at: usize) -> usize
-    ensures { λ r. ⌜ r ≡ cond (isOut (now (counts .entry)) at) 1 0 ⌝ }
-{
-    if is_out(counts, at) { 1 } else { 0 }
-}
-
-// Of how many trees' bags row i is out.
-fn out_number(rows: usize, trees: usize, counts: &[u32], i: usize) -> usize
-    requires { ⌜ Numberable rows trees i ⌝ }
-    ensures { λ r. ⌜ OutNumbered rows trees (now (counts .entry)) i r ⌝ }
-{
-    if counts.len() == 0 {
-        return trees;
-    }
-    let mut number: usize = 0;
-    let mut t: usize = 0;
-    while t < trees {
-        let at = t * rows + i;
-        number += out_mark(counts, at);
-        t += 1;
-    }
-    number
-}
-
-// A number of rows or of trees as a float: it is one exactly.
-pub fn float_of(n: usize) -> f64
-    requires { ⌜ n ≤ 65535 ⌝ }
-    ensures { λ r. ⌜ r ≡ float n ⌝ }
-{
-    n as f64
-}
-
 fn divide(rows: usize, trees: usize, counts: &[u32], out: &mut [f64])
     requires { ⌜ (rows ≤ 65535) × (trees ≤ 1024) × (length (now out) ≡ rows) ⌝ }
     ensures { λ _. ⌜ now (out .exit) ≡ rewritten (λ k x. div binary64 x (float (outNumber rows trees (now (counts .entry)) k))) 0 rows (now (out .entry)) ⌝ }
 {
     let mut i: usize = 0;
     while i < rows {
-        let number = out_number(rows, trees, counts, i);
-        let d = float_of(number);
+        let number = bags::out_number(rows, trees, counts, i);
+        let d = slices::float_of(number);
         out[i] = out[i] / d;
         i += 1;
     }
@@ -236,7 +181,7 @@ pub fn means(
 {
     let rows = shape.rows;
     let features = shape.features;
-    clear(rows, out);
+    slices::zero_f64(out);
     add_trees(
         rows,
         features,

@@ -2,5 +2,5 @@
 pub mod Walks
 -- a result room rewritten from its front on
 pub mod Rows
--- how a reader ends
-pub mod Ends
+-- what passed tests say
+pub mod Passed

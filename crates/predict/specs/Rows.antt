@@ -7,7 +7,7 @@ use mathlib.Core.Path.{_≡_, refl, sym, ap, _∙_}
 use mathlib.Core.List.{List, [], _∷_, map}
 use lib.ListN.{length, getD, set}
 use lib.Ieee.{Float, nan}
-use Rattle.rules.specs.Words.{from}
+use Rattle.rules.specs.Words.{from, filled}
 
 -- the n places from row a on
 unfoldable pub rewritten : (ℕ → Float → Float) → ℕ → ℕ → List Float → List Float
@@ -95,6 +95,19 @@ rewritten-all f a (suc n) [] h = absurd (no n h)
     no : (n : ℕ) → 0 ≡ suc n → ⊥
     no n h = omega arith
 rewritten-all f a (suc n) (x ∷ l) h = ap (λ r. f a ∷ r) (rewritten-all f (suc a) n l (same (length l) n h))
+  where
+    same : (m n : ℕ) → suc m ≡ suc n → m ≡ n
+    same m n h = omega arith
+
+-- one value at every place
+pub rewritten-filled : (y : Float) (a n : ℕ) (l : List Float) → length l ≡ n → rewritten (λ k x. y) a n l ≡ filled y l
+unfolding rewritten
+rewritten-filled y a n [] h = refl
+rewritten-filled y a zero (x ∷ l) h = absurd (no (length l) h)
+  where
+    no : (n : ℕ) → suc n ≡ 0 → ⊥
+    no n h = omega arith
+rewritten-filled y a (suc n) (x ∷ l) h = ap (λ r. y ∷ r) (rewritten-filled y (suc a) n l (same (length l) n h))
   where
     same : (m n : ℕ) → suc m ≡ suc n → m ≡ n
     same m n h = omega arith

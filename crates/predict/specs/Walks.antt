@@ -9,20 +9,16 @@ use lib.Dec.{T, ltb, eqb, ltb→lt}
 use lib.Ieee.{Float, nan, le}
 use lib.Ieee.Fits.{and-l}
 use borrow.Author.Tests.{ne-eqb}
-use Rattle.rules.specs.Lent.{Columns, Entry, valuesAt, shortest, entryAt, entriesAt}
+use Rattle.rules.specs.Lent.{Columns, Entry, valuesAt, entryAt, entriesAt}
 use Rattle.rules.specs.Table.{isLeaf, goodFrom, goodTree}
 use Rattle.rules.specs.Reading.{noEntry, onto, walked, leafValue}
 use Rattle.lemmas.specs.Lists.{getD-from}
 use Rattle.lemmas.specs.Tables.{Onward, node-good, leaf-stays}
 use Rattle.lemmas.specs.Cells.{stretch-within}
+use Rattle.tables.specs.Table.{TreeLies}
 use Rattle.tables.specs.Laws.{entries-long}
 
--- a good tree of n nodes from place a on
-pub record TreeLies (features a n : ℕ) (c : Columns) : Type 0 where
-  pub inside : a + n ≤ shortest c
-  pub good : goodTree features (entriesAt c a n) ≡ true
-
--- and the values of row i
+-- a good tree, and the values of row i
 pub record Walkable (features a n i : ℕ) (xs : List Float) (c : Columns) : Type 0 where
   pub tree : TreeLies features a n c
   pub row : i * features + features ≤ length xs

@@ -1,10 +1,8 @@
 // A row's walk through a tree, and the predictions of one tree.
 ghost use mathlib.Core.Path.{_≡_};
-ghost use mathlib.Core.Bool.{cond};
-ghost use Prim.Native.Nat.{suc};
 ghost use mathlib.Core.List.{List, map};
 ghost use lib.ListN.{length};
-ghost use lib.Ieee.{Float, le};
+ghost use lib.Ieee.{Float};
 ghost use Rattle.rules.specs.Words.{from};
 ghost use Rattle.rules.specs.Lent.{Outcome, entriesAt, columnsOf};
 ghost use Rattle.rules.specs.Checks.{firstFailed};
@@ -12,14 +10,6 @@ ghost use Rattle.rules.specs.Reading.{predictTests, predictTree};
 ghost use Rattle.predict.specs.Walks.{Walkable, Readable, leafAt};
 use rules::Reply;
 use rules::Shape;
-
-// The false child comes next after the true one, and a NaN goes to it.
-fn child_of(x: f64, threshold: f64, truechild: u32) -> usize
-    ensures { λ r. ⌜ r ≡ cond (le x threshold) truechild (suc truechild) ⌝ }
-{
-    let y = truechild as usize;
-    if x <= threshold { y } else { y + 1 }
-}
 
 // What row i comes to in the tree of n nodes from place a on.
 pub fn row_value(
@@ -43,7 +33,7 @@ pub fn row_value(
     while truechild[a + k] != 0 {
         let at = a + k;
         let j = base + feature[at] as usize;
-        k = child_of(values[j], threshold[at], truechild[at]);
+        k = entries::child_of(values[j], threshold[at], truechild[at]);
     }
     value[a + k]
 }

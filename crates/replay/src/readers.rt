@@ -221,7 +221,7 @@ pub fn replay_error(call: &[usize], reals: &[f64], answer: &[usize]) -> Verdict 
     if lengths.len() != 1 {
         return Verdict::Malformed;
     }
-    let r = means::errors::out_of_bag_error(
+    let r = errors::out_of_bag_error(
         calls::number(call, 0),
         calls::reals(reals, p.targets, p.means),
         calls::reals(reals, p.means, p.room),

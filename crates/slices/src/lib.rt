@@ -1,9 +1,11 @@
-// What several crates do with numbers and slices: lengths compared, numbers widened, rooms filled with zero.
+// What several crates do with numbers and slices: lengths compared, numbers widened, a value read, rooms filled with zero.
 ghost use mathlib.Core.Path.{_≡_};
 ghost use mathlib.Core.Bool.{false};
 ghost use Prim.Native.Nat.{min};
 ghost use lib.ListN.{replicate};
-ghost use Rattle.rules.specs.Words.{nought, filled};
+ghost use Rattle.rules.specs.Words.{nought, float, filled};
+ghost use Rattle.rules.specs.Lent.{cell};
+ghost use Rattle.slices.specs.Cells.{Inside};
 
 // ---- numbers and lengths
 
@@ -12,6 +14,13 @@ pub fn wide(x: u32) -> usize
     ensures { λ r. ⌜ r ≡ x ⌝ }
 {
     x as usize
+}
+
+// A whole number as a float: exactly that number.
+pub fn float_of(n: u32) -> f64
+    ensures { λ r. ⌜ r ≡ float n ⌝ }
+{
+    n as f64
 }
 
 pub fn least(a: usize, b: usize) -> usize
@@ -36,6 +45,16 @@ pub fn shortest_of(
     let cut = least(threshold, scored);
     let known = least(feature, cut);
     least(value, known)
+}
+
+// ---- values
+
+// The value of row i in feature j. The values lie row after row.
+pub fn cell_at(values: &[f64], features: usize, i: usize, j: usize) -> f64
+    requires { ⌜ Inside features i j (now values) ⌝ }
+    ensures { λ r. ⌜ r ≡ cell features (now (values .entry)) j i ⌝ }
+{
+    values[i * features + j]
 }
 
 // ---- rooms filled with zero, the whole of each

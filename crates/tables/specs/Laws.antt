@@ -1,48 +1,24 @@
--- Laws of the table check: node by node from place k on, tree by tree, and starts that rise. Assumes nothing.
+-- Laws of the table check: node by node from place k on, starts that rise, tree by tree, and a node read out. Assumes nothing.
 use Prim.Native.Nat.{ℕ, zero, suc, _+_, _-_, _<_, _≤_}
-use native.Mathlib.Nat.{add-zero}
+use native.Mathlib.Nat.{add-zero, zero-add}
 use native.Mathlib.Numerals.{add-one}
 use native.Mathlib.Decide.{ℕ-discrete}
 use native.Mathlib.Omega.{arith}
 use mathlib.Core.Path.{_≡_, refl, sym, ap, _∙_, subst}
-use mathlib.Core.Bool.{Bool, true, false, _&&_, _||_, cond}
+use mathlib.Core.Bool.{Bool, true, false, _&&_, cond}
 use mathlib.Core.List.{List, [], _∷_, map}
 use lib.ListN.{length, getD, take, length-map}
 use lib.Seq.{getD-take, length-take-le}
 use lib.Dec.{T, leb, ltb, eqb, ltb→lt}
-use borrow.Author.Tests.{lt-ltb, le-ltb, eq-eqb, ne-eqb, leb-true}
-use lib.Ieee.{Float}
-use Rattle.rules.specs.declared.Kind.the-variants.{Leaf, Split}
-use Rattle.rules.specs.declared.Node.{Node}
+use borrow.Author.Tests.{lt-ltb, le-ltb, leb-true}
 use Rattle.rules.specs.declared.NodeReply.{NodeReply}
 use Rattle.rules.specs.Words.{from, every, along}
 use Rattle.rules.specs.Lent.{Columns, Entry, shortest, entryAt, entriesAt}
-use Rattle.rules.specs.Table.{isLeaf, goodEntry, goodFrom, goodTree, ForestTable, startsGood, nodeOf, nodeRead}
-use Rattle.lemmas.specs.Lists.{every-all, same-default, ordered-along, ordered-at, length-from}
+use Rattle.rules.specs.Table.{goodEntry, goodFrom, goodTree, ForestTable, startsGood, treeAt, treesOf, nodeOf, nodeRead}
+use Rattle.lemmas.specs.Lists.{is-true, each, every-all, every-from, same-default, ordered-along, ordered-at, length-from}
+use Rattle.lemmas.specs.Scans.{range-next, range-end}
 use Rattle.lemmas.specs.Tests.{and-both}
-use Rattle.tables.specs.Table.{entryIs, bare, Lying}
-
--- ---- one entry
-
-abbrev pub goodSplit : ℕ → ℕ → ℕ → ℕ → ℕ → ℕ → Bool
-goodSplit features n k j y o = ltb k y && (eqb o (suc y) && (ltb o n && ltb j features))
-
-module _ (features n k j y o : ℕ) where
-  -- a leaf, or exactly one child is 0
-  pub entry-none : y ≡ 0 → eqb o 0 ≡ goodEntry features n k (bare j y o)
-  unfolding goodEntry isLeaf
-  entry-none h = alone (eqb o 0) ∙ sym (λ i. (eq-eqb y 0 h i && eqb o 0) || (le-ltb k y (low k y h) i && (eqb o (suc y) && (ltb o n && ltb j features))))
-    where
-      low : (k y : ℕ) → y ≡ 0 → y ≤ k
-      low k y h = omega arith
-
-      alone : (b : Bool) → b ≡ (b || false)
-      alone true = refl
-      alone false = refl
-
-  pub entry-split : (y ≡ 0 → ⊥) → goodSplit features n k j y o ≡ goodEntry features n k (bare j y o)
-  unfolding goodEntry isLeaf
-  entry-split h = sym (λ i. (ne-eqb y 0 h i && eqb o 0) || goodSplit features n k j y o)
+use Rattle.tables.specs.Table.{Lying, TreeLies, TreesLie}
 
 -- ---- node by node
 
@@ -69,14 +45,11 @@ module _ (features : ℕ) (c : Columns) (a n : ℕ) where
   tree-none h = sym (ap (λ b. b && goodFrom features (length (entriesAt c a n)) 0 (entriesAt c a n)) (le-ltb 0 (length (entriesAt c a n)) (omega (arith, entries-long c a n))))
 
   tree-next : (k : ℕ) → k < n → goodOn k ≡ (goodEntry features n k (entryAt c (a + k)) && goodOn (k + 1))
-  unfolding entriesAt from goodFrom
+  unfolding entriesAt goodFrom
   tree-next k h =
-      ap (λ m. goodFrom features n k (map (entryAt c) (from (a + k) m))) (more n k h)
+      ap (λ l. goodFrom features n k (map (entryAt c) l)) (range-next (a + k) k n h)
       ∙ (λ i. goodEntry features n k (entryAt c (a + k)) && goodFrom features n (sym (add-one k) i) (map (entryAt c) (from (up a k i) (n - (k + 1)))))
     where
-      more : (n k : ℕ) → k < n → n - k ≡ suc (n - (k + 1))
-      more n k h = omega arith
-
       up : (a k : ℕ) → suc (a + k) ≡ a + (k + 1)
       up a k = omega arith
 
@@ -87,16 +60,8 @@ module _ (features : ℕ) (c : Columns) (a n : ℕ) where
   tree-stops k h so t = sym (so ∙ tree-next k h ∙ ap (λ b. b && goodOn (k + 1)) t)
 
   pub tree-ends : (k : ℕ) {whole : Bool} → n ≤ k → whole ≡ goodOn k → true ≡ whole
-  unfolding entriesAt from goodFrom
-  tree-ends k h so = sym (so ∙ ap (λ m. goodFrom features n k (map (entryAt c) (from (a + k) m))) (none n k h))
-    where
-      none : (n k : ℕ) → n ≤ k → n - k ≡ 0
-      none n k h = omega arith
-
--- an entry is good by what is looked at
-pub bare-same : (features n k : ℕ) (e : Entry) → goodEntry features n k (bare (e .feature) (e .trueChild) (e .falseChild)) ≡ goodEntry features n k e
-unfolding goodEntry isLeaf
-bare-same features n k e = refl
+  unfolding entriesAt goodFrom
+  tree-ends k h so = sym (so ∙ ap (λ l. goodFrom features n k (map (entryAt c) l)) (range-end (a + k) k n h))
 
 -- ---- starts that rise
 
@@ -150,28 +115,27 @@ module _ (F : ForestTable) (h : Lying F) where
       go (yes e) = subst (λ x. getD (F .starts) x 0 ≤ high) (sym e) end
       go (no d) = omega (arith, end, above (suc t) (F .trees) (omega (arith, d)) (omega arith))
 
+-- tree t of good ones, by its two starts
+pub tree-lies : (features : ℕ) (F : ForestTable) → TreesLie features F → (t : ℕ) → t < F .trees → {a e : ℕ} → a ≡ getD (F .starts) t 0 → e ≡ getD (F .starts) (suc t) 0
+    → TreeLies features a (e - a) (F .nodes)
+unfolding treesOf treeAt
+tree-lies features F h t b {a} {e} p q =
+    record {
+      inside = fits a e _ _ _ p q (start-below F (h .lying) t b) (start-inside F (h .lying) t b);
+      good = (λ i. goodTree features (entriesAt (F .nodes) (p i) (q i - p i)))
+          ∙ is-true (goodTree features (tree t)) (subst (λ k. T (goodTree features (tree k))) (zero-add t) (every-from _ 0 (F .trees) (each _ (from 0 (F .trees)) all) t b));
+    }
+  where
+    tree : ℕ → List Entry
+    tree = treeAt (F .nodes) (F .starts)
+
+    fits : (a e x y n : ℕ) → a ≡ x → e ≡ y → x < y → y ≤ n → a + (e - a) ≤ n
+    fits a e x y n p q h g = omega arith
+
+    all : T (every (λ k. goodTree features (tree k)) (from 0 (F .trees)))
+    all = subst T (sym (sym (every-mapped (goodTree features) tree (from 0 (F .trees))) ∙ h .good)) tt
+
 -- ---- a node read out
-
-module _ (v : Float) (j : ℕ) (t s : Float) (y o : ℕ) where
-  node-by : (b : Bool) → isLeaf (entryIs v j t s y o) ≡ b
-      → record { value = v; kind = cond b Leaf (Split (record { cut = record { feature = j; threshold = t }; score = s; children = y })) } ≡ nodeOf (entryIs v j t s y o)
-  unfolding nodeOf
-  node-by b h = λ i. record { value = v; kind = cond (sym h i) Leaf (Split (record { cut = record { feature = j; threshold = t }; score = s; children = y })) }
-
-  pub node-leaf : y ≡ 0 → o ≡ 0 → record { value = v; kind = Leaf } ≡ nodeOf (entryIs v j t s y o)
-  unfolding isLeaf
-  node-leaf h g = node-by true (λ i. eq-eqb y 0 h i && eq-eqb o 0 g i)
-
-  abbrev pub splitNode : Node
-  splitNode = record { value = v; kind = Split (record { cut = record { feature = j; threshold = t }; score = s; children = y }) }
-
-  pub node-half : y ≡ 0 → (o ≡ 0 → ⊥) → splitNode ≡ nodeOf (entryIs v j t s y o)
-  unfolding isLeaf
-  node-half h g = node-by false (λ i. eq-eqb y 0 h i && ne-eqb o 0 g i)
-
-  pub node-split : (y ≡ 0 → ⊥) → splitNode ≡ nodeOf (entryIs v j t s y o)
-  unfolding isLeaf
-  node-split h = node-by false (λ i. ne-eqb y 0 h i && eqb o 0)
 
 module _ (c : Columns) (k n : ℕ) where
   pub read-refused : (n ≡ 0 → ⊥) → NodeReply.Refused n ≡ nodeRead n c k

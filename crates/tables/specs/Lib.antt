@@ -1,4 +1,4 @@
--- six columns as one, and what the table check asks
+-- what the checks of a table ask, and what they settle
 pub mod Table
--- laws of the table check
+-- laws of the table check, of starts that rise, and of a node read out
 pub mod Laws

@@ -1,69 +1,14 @@
 // The table check: refusal 8, the calls that make it alone, and a node read out.
 ghost use mathlib.Core.Path.{_≡_};
 ghost use mathlib.Core.Bool.{_&&_};
-ghost use Prim.Native.Nat.{_≤_};
 ghost use lib.Dec.{ltb};
 ghost use Rattle.rules.specs.Words.{every, along};
 ghost use Rattle.rules.specs.Lent.{Columns, shortest, entriesAt, columnsOf};
 ghost use Rattle.rules.specs.Checks.{firstFailed, featuresIn, treesIn};
-ghost use Rattle.rules.specs.Table.{goodEntry, goodTree, startsGood, treesOf, goodForest, treeTableTests, forestTableTests, checkTree, checkForest, nodeOf, readNode, tableOf};
-ghost use Rattle.tables.specs.Laws.{goodSplit};
-ghost use Rattle.tables.specs.Table.{entryIs, bare, Within, Started, Lying};
-use rules::Cut;
-use rules::Fork;
-use rules::Kind;
-use rules::Node;
+ghost use Rattle.rules.specs.Table.{goodTree, startsGood, treesOf, goodForest, treeTableTests, forestTableTests, checkTree, checkForest, readNode, tableOf};
+ghost use Rattle.tables.specs.Table.{Within, Started, Lying};
 use rules::NodeReply;
 use rules::Reply;
-
-fn wide(n: u32) -> usize
-    ensures { λ r. ⌜ (r ≡ n) × (r ≤ 4294967295) ⌝ }
-{
-    n as usize
-}
-
-// A split at node k of a tree of n nodes. Its children are widened first: one more than the largest u32 must not wrap.
-fn split_good(
-    features: usize,
-    n: usize,
-    k: usize,
-    feature: u32,
-    truechild: u32,
-    falsechild: u32,
-) -> bool
-    ensures { λ r. ⌜ r ≡ goodSplit features n k feature truechild falsechild ⌝ }
-{
-    let y = wide(truechild);
-    let o = wide(falsechild);
-    let j = wide(feature);
-    if y <= k {
-        return false;
-    }
-    if o != y + 1 {
-        return false;
-    }
-    if n <= o {
-        return false;
-    }
-    j < features
-}
-
-// Node k of a tree of n nodes, by its feature, its true child and its false child.
-pub fn entry_good(
-    features: usize,
-    n: usize,
-    k: usize,
-    feature: u32,
-    truechild: u32,
-    falsechild: u32,
-) -> bool
-    ensures { λ r. ⌜ r ≡ goodEntry features n k (bare feature truechild falsechild) ⌝ }
-{
-    if truechild == 0 {
-        return falsechild == 0;
-    }
-    split_good(features, n, k, feature, truechild, falsechild)
-}
 
 // The n entries from place a on, as a tree.
 pub fn tree_good(
@@ -86,7 +31,7 @@ pub fn tree_good(
     let mut k: usize = 0;
     while k < n {
         let at = a + k;
-        if !entry_good(features, n, k, feature[at], truechild[at], falsechild[at]) {
+        if !entries::entry_good(features, n, k, feature[at], truechild[at], falsechild[at]) {
             return false;
         }
         k += 1;
@@ -127,7 +72,7 @@ pub fn starts_good(trees: usize, starts: &[u32], n: usize) -> bool
     if !starts_rise(&starts[..end]) {
         return false;
     }
-    wide(starts[trees]) <= n
+    slices::wide(starts[trees]) <= n
 }
 
 // Each tree between its two starts.
@@ -148,8 +93,8 @@ pub fn trees_good(
     let mut t: usize = 0;
     while t < trees {
         let next = t + 1;
-        let a = wide(starts[t]);
-        let e = wide(starts[next]);
+        let a = slices::wide(starts[t]);
+        let e = slices::wide(starts[next]);
         let n = e - a;
         if !tree_good(
             features,
@@ -348,32 +293,6 @@ pub fn check_forest(
 
 // ---- a node read out
 
-pub fn node_of(
-    value: f64,
-    feature: u32,
-    threshold: f64,
-    score: f64,
-    truechild: u32,
-    falsechild: u32,
-) -> Node
-    ensures { λ r. ⌜ r ≡ nodeOf (entryIs value feature threshold score truechild falsechild) ⌝ }
-{
-    if truechild == 0 {
-        if falsechild == 0 {
-            let kind = Kind::Leaf;
-            return Node { value, kind };
-        }
-    }
-    let cut = Cut { feature, threshold };
-    let fork = Fork {
-        cut,
-        score,
-        children: truechild,
-    };
-    let kind = Kind::Split(fork);
-    Node { value, kind }
-}
-
 // Node k of a good tree, if it has one: refusals 1 and 8.
 pub fn read_node(
     features: usize,
@@ -410,7 +329,7 @@ pub fn read_node(
     if n <= k {
         return NodeReply::Missing;
     }
-    let node = node_of(
+    let node = entries::node_of(
         value[k],
         feature[k],
         threshold[k],

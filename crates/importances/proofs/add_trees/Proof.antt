@@ -9,8 +9,9 @@ use lib.ListN.{length, getD}
 use Rattle.rules.specs.Lent.{Columns, entriesAt, columnsOf}
 use Rattle.rules.specs.Table.{ForestTable, treeAt, tableOf}
 use Rattle.rules.specs.Reading.{scoresOf, normalised, addEach}
-use Rattle.tables.specs.Laws.{start-below}
-use Rattle.importances.specs.Scores.{TreeLies, Gathering, gather-start, gather-turn, gather-done, tree-lies}
+use Rattle.tables.specs.Table.{TreeLies}
+use Rattle.tables.specs.Laws.{start-below, tree-lies}
+use Rattle.importances.specs.Scores.{Gathering, gather-start, gather-turn, gather-done}
 use Rattle.importances.proofs.add_trees.Statement.{statement}
 use Rattle.importances.proofs.add_trees.Tie as tie
 
@@ -73,8 +74,8 @@ add-tree-requires : tie.Need-add-tree-requires Inv-loop μ-loop
 add-tree-requires c κs =
     let b = c .before .before in
     let i = b .before .before .before .before .before .loop .inv in (
-      subst (λ m. TreeLies m (columns (start b)) (b .before .before .wide .result) (b .wide2 .result - b .before .before .wide .result)) (sym (i .long))
-          (tree-lies (table (start b)) _ (start b .pre .0) (turn b) (b .before .before .before .before .loop-test .taken) (starts-at b) (ends-at b)),
+      subst (λ m. TreeLies m (b .before .before .wide .result) (b .wide2 .result - b .before .before .wide .result) (columns (start b))) (sym (i .long))
+          (tree-lies _ (table (start b)) (start b .pre .0) (turn b) (b .before .before .before .before .loop-test .taken) (starts-at b) (ends-at b)),
       i .side ∙ sym (i .long),
     )
 

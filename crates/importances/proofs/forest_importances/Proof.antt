@@ -5,8 +5,8 @@ use mathlib.Core.Path.{refl, sym, _∙_, subst}
 use denote.Ref.{now}
 use Rattle.rules.specs.Lent.{Columns, columnsOf}
 use Rattle.rules.specs.Table.{ForestTable, tableOf}
-use Rattle.importances.specs.Scores.{TreesLie}
-use Rattle.importances.specs.Calls.{few-float, front-long, Passes, forest-refused, forest-passed, forest-told}
+use Rattle.tables.specs.Table.{TreesLie}
+use Rattle.importances.specs.Calls.{front-long, Passes, forest-refused, forest-passed, forest-told}
 use Rattle.importances.proofs.forest_importances.Statement.{statement}
 use Rattle.importances.proofs.forest_importances.Tie as tie
 
@@ -45,8 +45,11 @@ add-trees-requires c κs =
       front-long _ (p .few) ∙ sym (p .long) ∙ sym k,
     )
 
-int-to-float-divide : tie.Need-int-to-float-divide
-int-to-float-divide c = let p = passed (c .before .before .before .before .before .before .before .before .before .before .before .before) in few-float _ (omega arith)
+cast-float-of : tie.Need-cast-float-of
+cast-float-of c = omega (arith, passed (c .before .before .before .before .before .before .before .before .before .before) .trees .lying .started .few)
+
+float-of-requires : tie.Need-float-of-requires
+float-of-requires c κs = search needs
 
 divide-requires : tie.Need-divide-requires
 divide-requires c κs = search needs
@@ -62,7 +65,8 @@ returns-2 c =
     let b = c .before .before .before .before .before .before .before .before .before .before .before .before .before .before .before .before .before .before .before in
     let s = start b in
     forest-told (s .args .features) (table s) (now (s .args .out)) (b .before .forest-verdict .ensures _ refl) (b .if1 .left)
-    (c .before .before .before .before .before .before .before .before .before .before .before .before .before .before .before .before .before .zero-f64 .ensures) (c .before .before .before .before .before .before .before .before .before .before .before .before .add-trees .ensures) (c .before .before .before .before .before .before .divide .ensures) (c .before .before .normalise .ensures)
+    (c .before .before .before .before .before .before .before .before .before .before .before .before .before .before .before .before .before .zero-f64 .ensures) (c .before .before .before .before .before .before .before .before .before .before .before .before .add-trees .ensures)
+    (c .before .before .before .before .before .before .before .before .float-of .ensures) (c .before .before .before .before .before .before .divide .ensures) (c .before .before .normalise .ensures)
 
 pub forest-importances-spec : {M : Type 1} → statement M
 forest-importances-spec =
@@ -74,7 +78,8 @@ forest-importances-spec =
     array-borrow-prefix-own
     slice-aggregate-add-trees
     add-trees-requires
-    int-to-float-divide
+    cast-float-of
+    float-of-requires
     divide-requires
     normalise-requires
     same-length

@@ -5,8 +5,8 @@ use denote.Ref.{now}
 use Rattle.rules.specs.Words.{nought}
 use Rattle.rules.specs.Lent.{Columns, entriesAt, columnsOf}
 use Rattle.rules.specs.Reading.{addScores, scoresOf}
-use Rattle.importances.specs.Lists.{filled-is}
-use Rattle.importances.specs.Scores.{TreeLies}
+use Rattle.scores.specs.Lists.{filled-is}
+use Rattle.tables.specs.Table.{TreeLies}
 use Rattle.importances.proofs.score_tree.Statement.{statement}
 use Rattle.importances.proofs.score_tree.Tie as tie
 
@@ -17,7 +17,7 @@ zero-f64-requires : tie.Need-zero-f64-requires
 zero-f64-requires c κs = search needs
 
 add-scores-requires : tie.Need-add-scores-requires
-add-scores-requires c κs = let s = c .before .before .before .before .before .before .before .before .before .before .before .before in subst (λ m. TreeLies m (columns s) (s .args .a) (s .args .n)) (sym (c .before .before .before .zero-f64 .kept .0)) (s .pre)
+add-scores-requires c κs = let s = c .before .before .before .before .before .before .before .before .before .before .before .before in subst (λ m. TreeLies m (s .args .a) (s .args .n) (columns s)) (sym (c .before .before .before .zero-f64 .kept .0)) (s .pre)
 
 same-length : tie.Need-same-length
 same-length c = search needs

@@ -13,7 +13,7 @@ use Rattle.rules.specs.Lent.{cell}
 use Rattle.rules.specs.Listing.{neverFalls}
 use Rattle.lemmas.specs.Lists.{every-at}
 use Rattle.lemmas.specs.Scans.{along-none, along-starts, along-goes, along-stops, along-ends}
-use Rattle.listings.specs.Asks.{cell-inside}
+use Rattle.slices.specs.Cells.{cell-inside}
 use Rattle.listings.proofs.never_falls.Statement.{statement}
 use Rattle.listings.proofs.never_falls.Tie as tie
 

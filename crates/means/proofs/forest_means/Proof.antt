@@ -1,6 +1,6 @@
 -- `means::forest_means` meets its contract: refused as the verdict is, else each row's mean, out of bag by no counts. Assumes nothing.
 use borrow.Author.Needs.{needs}
-use mathlib.Core.Path.{_≡_, refl, sym, ap, _∙_}
+use mathlib.Core.Path.{_≡_, refl, sym, _∙_}
 use mathlib.Core.List.{List, map}
 use denote.Ref.{now}
 use lib.Ieee.{Float}
@@ -8,8 +8,8 @@ use Rattle.rules.specs.Words.{from}
 use Rattle.rules.specs.Lent.{valuesAt, columnsOf}
 use Rattle.rules.specs.Checks.{firstFailed}
 use Rattle.rules.specs.Table.{ForestTable, treesOf, tableOf}
-use Rattle.rules.specs.Reading.{reads, meanOf, meanTests, forestMeans}
-use Rattle.predict.specs.Ends.{reads-refused, reads-done}
+use Rattle.rules.specs.Reading.{meanOf, meanTests, forestMeans}
+use Rattle.lemmas.specs.Tests.{reads-refused, reads-done}
 use Rattle.means.specs.Means.{mean-passed, all-means}
 use Rattle.means.proofs.forest_means.Statement.{statement}
 use Rattle.means.proofs.forest_means.Tie as tie
@@ -28,7 +28,7 @@ mean-verdict-requires c κs = search needs
 
 returns : tie.Need-returns
 unfolding forestMeans
-returns c = let s = c .before .before .before .before .before .before .before .before .before .before .before in reads-refused _ (meant s) (now (s .args .out)) (c .if1 .taken) ∙ ap (λ n. reads n (meant s) (now (s .args .out))) (told (c .before))
+returns c = let s = c .before .before .before .before .before .before .before .before .before .before .before in reads-refused _ (meant s) (now (s .args .out)) (told (c .before)) (c .if1 .taken)
 
 sub-means : tie.Need-sub-means
 sub-means c = search needs
@@ -49,8 +49,8 @@ returns-2 : tie.Need-returns-2
 unfolding forestMeans
 returns-2 c =
     let s = c .before .before .before .before .before .before .before .before .before .before .before .before .before .before .before .before in
-    reads-done _ (meant s) (now (s .args .out)) (c .before .before .before .before .before .if1 .left) (c .before .before .means .ensures ∙ all-means (s .args .shape) (now (s .args .values)) (table s))
-    ∙ ap (λ n. reads n (meant s) (now (s .args .out))) (told (c .before .before .before .before .before .before))
+    reads-done (now (s .args .out)) (told (c .before .before .before .before .before .before)) (c .before .before .before .before .before .if1 .left)
+    (c .before .before .means .ensures ∙ all-means (s .args .shape) (now (s .args .values)) (table s))
 
 pub forest-means-spec : {M : Type 1} → statement M
 forest-means-spec =

@@ -9,9 +9,10 @@ use Rattle.rules.specs.Words.{from}
 use Rattle.rules.specs.Lent.{Columns, shortest, entriesAt, columnsOf}
 use Rattle.rules.specs.Checks.{firstFailed}
 use Rattle.rules.specs.Table.{treeIn}
-use Rattle.rules.specs.Reading.{reads, predictTests, predictTree}
+use Rattle.rules.specs.Reading.{predictTests, predictTree}
+use Rattle.lemmas.specs.Tests.{reads-refused, reads-done}
 use Rattle.predict.specs.Walks.{Readable, leafAt}
-use Rattle.predict.specs.Ends.{reads-refused, reads-done, predict-passed}
+use Rattle.predict.specs.Passed.{predict-passed}
 use Rattle.predict.proofs.predict_tree.Statement.{statement}
 use Rattle.predict.proofs.predict_tree.Tie as tie
 
@@ -29,7 +30,7 @@ predict-verdict-requires c κs = search needs
 
 returns : tie.Need-returns
 unfolding predictTree treeIn
-returns c = let s = c .before .before .before .before .before .before .before .before .before .before in reads-refused _ (predictions s (shortest (columns s))) (now (s .args .out)) (c .if1 .taken) ∙ ap (λ n. reads n (predictions s (shortest (columns s))) (now (s .args .out))) (told (c .before))
+returns c = let s = c .before .before .before .before .before .before .before .before .before .before in reads-refused _ (predictions s (shortest (columns s))) (now (s .args .out)) (told (c .before)) (c .if1 .taken)
 
 shortest-of-requires : tie.Need-shortest-of-requires
 shortest-of-requires c κs = search needs
@@ -47,8 +48,8 @@ returns-2 : tie.Need-returns-2
 unfolding predictTree treeIn
 returns-2 c =
     let s = c .before .before .before .before .before .before .before .before .before .before .before .before .before .before .before in
-    reads-done _ (predictions s (shortest (columns s))) (now (s .args .out)) (c .before .before .before .before .before .if1 .left) (c .before .before .predict-rows .ensures ∙ ap (predictions s) (c .before .before .before .before .shortest-of .ensures))
-    ∙ ap (λ n. reads n (predictions s (shortest (columns s))) (now (s .args .out))) (told (c .before .before .before .before .before .before))
+    reads-done (now (s .args .out)) (told (c .before .before .before .before .before .before)) (c .before .before .before .before .before .if1 .left)
+    (c .before .before .predict-rows .ensures ∙ ap (predictions s) (c .before .before .before .before .shortest-of .ensures))
 
 pub predict-tree-spec : {M : Type 1} → statement M
 predict-tree-spec =

@@ -55,7 +55,7 @@ returns-3 c =
     λ cs e.
     let s = c .before .before .before .before .before .before .before .before in
     and-on _ _ (eq-eqb _ _ (same-default (now (c .before .before .before .before .before .before .before .before .args .starts)) 0 1 0 (some (c .before .before .before .before .before .before .before .before)) ∙ c .before .before .before .before .before .if1 .left)) (and-on _ _ (ap (λ m. along ltb (take m (now (c .before .before .before .before .before .before .before .before .args .starts)))) (sym (add-one (c .before .before .before .before .before .before .before .before .args .trees))) ∙ sym (c .before .before .before .starts-rise .ensures) ∙ not-false _ (c .before .before .if2 .left))
-    (λ i. leb ((c .wide .ensures .0 ∙ same-default (now (s .args .starts)) (s .args .trees) 0 (suc (shortest cs)) (s .pre .long)) i) (sym e i)))
+    (λ i. leb ((c .wide .ensures ∙ same-default (now (s .args .starts)) (s .args .trees) 0 (suc (shortest cs)) (s .pre .long)) i) (sym e i)))
 
 pub starts-good-spec : {M : Type 1} → statement M
 starts-good-spec =

@@ -7,7 +7,8 @@ use Prim.Native.Nat.{_≤_, _-_, _+_}
 use denote.Ref.{now}
 use Rattle.rules.specs.Table.{goodTree}
 use Rattle.rules.specs.Lent.{Columns, entryAt, entriesAt, columnsOf}
-use Rattle.tables.specs.Laws.{goodOn, tree-starts, tree-none, tree-goes, tree-stops, tree-ends, bare-same}
+use Rattle.entries.specs.Entries.{bare-same}
+use Rattle.tables.specs.Laws.{goodOn, tree-starts, tree-none, tree-goes, tree-stops, tree-ends}
 use Rattle.tables.proofs.tree_good.Statement.{statement}
 use Rattle.tables.proofs.tree_good.Tie as tie
 

@@ -40,10 +40,10 @@ good s = goodAt (s .args .features) (columns s) (now (s .args .starts))
 
 -- where tree t starts, and where the next does
 starts-at : (c : tie.After-wide2 Inv-loop μ-loop) → c .before .before .wide .result ≡ getD (now (c .before .before .before .before .before .before .before .before .before .before .before .before .before .args .starts)) (c .before .before .before .before .before .loop .t) 0
-starts-at c = c .before .before .wide .ensures .0
+starts-at c = c .before .before .wide .ensures
 
 ends-at : (c : tie.After-wide2 Inv-loop μ-loop) → c .wide2 .result ≡ getD (now (c .before .before .before .before .before .before .before .before .before .before .before .before .before .args .starts)) (suc (c .before .before .before .before .before .loop .t)) 0
-ends-at c = c .wide2 .ensures .0 ∙ ap (λ k. getD (now (c .before .before .before .before .before .before .before .before .before .before .before .before .before .args .starts)) k 0) (add-one (c .before .before .before .before .before .loop .t))
+ends-at c = c .wide2 .ensures ∙ ap (λ k. getD (now (c .before .before .before .before .before .before .before .before .before .before .before .before .before .args .starts)) k 0) (add-one (c .before .before .before .before .before .loop .t))
 
 looked : (c : tie.After-tree-good Inv-loop μ-loop) → c .tree-good .result ≡ good (c .before .before .before .before .before .before .before .before .before .before .before .before .before .before) (c .before .before .before .before .before .before .loop .t)
 unfolding treeAt

@@ -1,62 +1,21 @@
--- `checks::inputs::counts_low` meets its contract: what is left to ask is asked from place i on. Assumes nothing.
+-- `checks::inputs::counts_low` meets its contract: no count is below 0. Assumes nothing.
 use borrow.Author.Needs.{needs}
-use borrow.Author.Tests.{le-leb, lt-leb}
-use native.Mathlib.Omega.{arith}
-use mathlib.Core.Path.{_≡_, refl}
-use Prim.Native.Nat.{_≤_, _-_}
-use denote.Ref.{now}
-use lib.ListN.{length, drop}
-use lib.Dec.{leb}
-use Rattle.rules.specs.Words.{every}
-use Rattle.lemmas.specs.Scans.{every-goes, every-stops, every-ends}
+use mathlib.Core.Path.{_≡_, ap, _∙_}
+use mathlib.Core.Bool.{_&&_}
+use Prim.Native.Nat.{ℕ}
+use lib.Dec.{leb, leb·zero}
+use Rattle.lemmas.specs.Scans.{every-same}
 use Rattle.checks.proofs.inputs.counts_low.Statement.{statement}
 use Rattle.checks.proofs.inputs.counts_low.Tie as tie
 
-abbrev Inv-loop : tie.InvT-loop
-Inv-loop counts i₀ i = (i ≤ length counts) × (every (λ k. leb k 65535) counts ≡ every (λ k. leb k 65535) (drop i counts))
+low : (k : ℕ) → (leb 0 k && leb k 65535) ≡ leb k 65535
+low k = ap (λ b. b && leb k 65535) (leb·zero k)
 
-abbrev μ-loop : tie.MeasureT-loop
-μ-loop counts i₀ i = length counts - i
+counts-within-requires : tie.Need-counts-within-requires
+counts-within-requires c κs = search needs
 
-loop-holds : tie.Need-loop-holds Inv-loop μ-loop
-loop-holds c = (omega arith, refl)
-
-mul-if1 : tie.Need-mul-if1 Inv-loop μ-loop
-mul-if1 c = search needs
-
-shared-slice-read-if1 : tie.Need-shared-slice-read-if1 Inv-loop μ-loop
-shared-slice-read-if1 c = search needs
-
-returns : tie.Need-returns Inv-loop μ-loop
-returns c =
-    let at = c .before .before .before in
-    every-stops (λ k. leb k 65535) (now (at .before .args .counts)) (at .loop .i) _ (omega arith) (at .loop .inv .1) (lt-leb _ _ (c .if1 .taken))
-
-add-i : tie.Need-add-i Inv-loop μ-loop
-add-i c = search needs
-
-loop-less : tie.Need-loop-less Inv-loop μ-loop
-loop-less c = search needs
-
-loop-again : tie.Need-loop-again Inv-loop μ-loop
-loop-again c =
-    let at = c .before .before .before in
-    (omega arith, every-goes (λ k. leb k 65535) (now (at .before .args .counts)) (at .loop .i) _ (omega arith) (at .loop .inv .1) (le-leb _ _ (c .if1 .left)))
-
-returns-2 : tie.Need-returns-2 Inv-loop μ-loop
-returns-2 c = every-ends (λ k. leb k 65535) (now (c .before .before .args .counts)) (c .before .loop .i) (omega arith) (c .before .loop .inv .1)
+returns : tie.Need-returns
+returns c = c .counts-within .ensures ∙ every-same _ _ low _
 
 pub counts-low-spec : {M : Type 1} → statement M
-counts-low-spec =
-    tie.close
-    (tie.spec
-    Inv-loop
-    μ-loop
-    loop-holds
-    mul-if1
-    shared-slice-read-if1
-    returns
-    add-i
-    loop-less
-    loop-again
-    returns-2)
+counts-low-spec = tie.close (tie.spec counts-within-requires returns)

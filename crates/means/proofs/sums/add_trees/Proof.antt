@@ -12,7 +12,7 @@ use Rattle.rules.specs.Table.{ForestTable, treeAt, tableOf}
 use Rattle.tables.specs.Laws.{start-below}
 use Rattle.predict.specs.Walks.{leafAt}
 use Rattle.predict.specs.Rows.{rewritten}
-use Rattle.means.specs.Sums.{withTree, Adding, tree-first, tree-next, tree-last, tree-lies}
+use Rattle.means.specs.Sums.{withTree, Adding, tree-first, tree-next, tree-last, tree-at}
 use Rattle.means.proofs.sums.add_trees.Statement.{statement}
 use Rattle.means.proofs.sums.add_trees.Tie as tie
 
@@ -30,10 +30,10 @@ table s = tableOf (s .args .trees) (now (s .args .starts)) (columnsOf (now (s .a
 below : (c : tie.In-loop Inv-loop μ-loop) → getD (now (c .before .before .before .before .before .before .before .before .before .before .before .before .args .starts)) (c .before .loop .t) 0 < getD (now (c .before .before .before .before .before .before .before .before .before .before .before .before .args .starts)) (c .before .loop .t + 1) 0
 below c =
     subst (λ m. getD (now (c .before .before .before .before .before .before .before .before .before .before .before .before .args .starts)) (c .before .loop .t) 0 < getD (now (c .before .before .before .before .before .before .before .before .before .before .before .before .args .starts)) m 0) (sym (add-one (c .before .loop .t)))
-    (start-below (table (c .before .before .before .before .before .before .before .before .before .before .before .before)) (c .before .before .before .before .before .before .before .before .before .before .before .before .pre .lying) (c .before .loop .t) (c .loop-test .taken))
+    (start-below (table (c .before .before .before .before .before .before .before .before .before .before .before .before)) (c .before .before .before .before .before .before .before .before .before .before .before .before .pre .trees .lying) (c .before .loop .t) (c .loop-test .taken))
 
 base-low : (c : tie.In-loop Inv-loop μ-loop) → c .before .loop .t * c .before .before .before .before .before .before .before .before .before .before .before .before .args .rows ≤ 67107840
-base-low c = within (c .before .loop .t) (c .before .before .before .before .before .before .before .before .before .before .before .before .args .rows) (omega (arith, c .loop-test .taken, c .before .before .before .before .before .before .before .before .before .before .before .before .pre .lying .started .few)) (c .before .before .before .before .before .before .before .before .before .before .before .before .pre .few)
+base-low c = within (c .before .loop .t) (c .before .before .before .before .before .before .before .before .before .before .before .before .args .rows) (omega (arith, c .loop-test .taken, c .before .before .before .before .before .before .before .before .before .before .before .before .pre .trees .lying .started .few)) (c .before .before .before .before .before .before .before .before .before .before .before .before .pre .few)
   where
     within : (t rows : ℕ) → t ≤ 1024 → rows ≤ 65535 → t * rows ≤ 67107840
     within t rows h g = mul-le-mul h g
@@ -42,22 +42,22 @@ loop-holds : tie.Need-loop-holds Inv-loop μ-loop
 loop-holds c = let s = c .before .before .before .before .before .before .before .before .before .before in tree-first (s .args .rows) (s .args .features) (now (s .args .values)) (now (s .args .counts)) (table s) (now (s .args .out))
 
 add-next : tie.Need-add-next Inv-loop μ-loop
-add-next c = omega (arith, c .loop-test .taken, c .before .before .before .before .before .before .before .before .before .before .before .before .pre .lying .started .few)
+add-next c = omega (arith, c .loop-test .taken, c .before .before .before .before .before .before .before .before .before .before .before .before .pre .trees .lying .started .few)
 
 mul-a : tie.Need-mul-a Inv-loop μ-loop
-mul-a c = omega (arith, c .loop-test .taken, c .before .before .before .before .before .before .before .before .before .before .before .before .pre .lying .started .few)
+mul-a c = omega (arith, c .loop-test .taken, c .before .before .before .before .before .before .before .before .before .before .before .before .pre .trees .lying .started .few)
 
 shared-slice-read-a : tie.Need-shared-slice-read-a Inv-loop μ-loop
-shared-slice-read-a c = omega (arith, c .before .loop-test .taken, c .before .before .before .before .before .before .before .before .before .before .before .before .before .pre .lying .started .long)
+shared-slice-read-a c = omega (arith, c .before .loop-test .taken, c .before .before .before .before .before .before .before .before .before .before .before .before .before .pre .trees .lying .started .long)
 
 cast-a : tie.Need-cast-a Inv-loop μ-loop
 cast-a c = omega (arith, c .shared-slice-known10 .given (c .before .before .loop .t))
 
 mul-e : tie.Need-mul-e Inv-loop μ-loop
-mul-e c = omega (arith, c .before .loop-test .taken, c .before .before .before .before .before .before .before .before .before .before .before .before .before .pre .lying .started .few)
+mul-e c = omega (arith, c .before .loop-test .taken, c .before .before .before .before .before .before .before .before .before .before .before .before .before .pre .trees .lying .started .few)
 
 shared-slice-read-e : tie.Need-shared-slice-read-e Inv-loop μ-loop
-shared-slice-read-e c = omega (arith, c .before .before .loop-test .taken, c .before .before .before .before .before .before .before .before .before .before .before .before .before .before .pre .lying .started .long)
+shared-slice-read-e c = omega (arith, c .before .before .loop-test .taken, c .before .before .before .before .before .before .before .before .before .before .before .before .before .before .pre .trees .lying .started .long)
 
 cast-e : tie.Need-cast-e Inv-loop μ-loop
 cast-e c = omega (arith, c .shared-slice-known11 .given (c .before .before .before .loop .t + 1))
@@ -73,7 +73,7 @@ add-tree-requires c κs =
     let s = c .before .before .before .before .before .before .before .before .before .before .before .before .before .before .before in (
       record { low = base-low (c .before .before .before) },
       record {
-        tree = tree-lies (s .args .rows) (s .args .features) (now (s .args .values)) (table s) (now (s .args .out)) (s .pre) (c .before .before .before .before .loop .t) (c .before .before .before .loop-test .taken);
+        tree = tree-at (s .args .rows) (s .args .features) (now (s .args .values)) (table s) (now (s .args .out)) (s .pre) (c .before .before .before .before .loop .t) (c .before .before .before .loop-test .taken);
         few = s .pre .few;
         long = s .pre .long;
         room = c .before .before .before .before .loop .inv .long ∙ s .pre .room;

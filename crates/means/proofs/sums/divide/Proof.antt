@@ -1,4 +1,5 @@
 -- `means::sums::divide` meets its contract: the places before row i are divided. Assumes nothing.
+use borrow.Author.Needs.{needs}
 use native.Mathlib.Omega.{arith}
 use mathlib.Core.Path.{ap, _∙_}
 use Prim.Native.Nat.{ℕ, _-_, _<_, _≤_}
@@ -7,7 +8,7 @@ use lib.ListN.{length, getD}
 use lib.Ieee.{Float, nan, binary64, div}
 use Rattle.rules.specs.Words.{float}
 use Rattle.predict.specs.Rows.{Written, row-first, row-next, row-last}
-use Rattle.means.specs.Sums.{outNumber}
+use Rattle.bags.specs.Bags.{outNumber}
 use Rattle.means.proofs.sums.divide.Statement.{statement}
 use Rattle.means.proofs.sums.divide.Tie as tie
 
@@ -30,7 +31,7 @@ out-number-requires : tie.Need-out-number-requires Inv-loop μ-loop
 out-number-requires c κs = record { few = c .before .before .before .before .pre .0; fewTrees = c .before .before .before .before .pre .1; row = c .loop-test .taken }
 
 float-of-requires : tie.Need-float-of-requires Inv-loop μ-loop
-float-of-requires c κs = omega (arith, c .out-number .ensures .low, c .before .before .before .before .before .pre .1)
+float-of-requires c κs = search needs
 
 mul-out : tie.Need-mul-out Inv-loop μ-loop
 mul-out c = omega (arith, placed (c .before .before), c .before .before .before .loop .inv .1 .long)

@@ -1,0 +1,2 @@
+-- the error of the means, row by row, and how the call ends
+pub mod Errors
