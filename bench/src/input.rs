@@ -2,7 +2,7 @@
 
 use copy::harness::{Data, Params, Tape, argsorted};
 use copy::ready::Ready;
-use driver::chance::Chance;
+use driver::make::chance::Chance;
 
 /// A size to measure at. `values` is how many values a feature has, or 0 for a new one in each row.
 #[derive(Clone, Copy)]

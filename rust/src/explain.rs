@@ -1,11 +1,10 @@
 //! Where a refused input is wrong, for a person to find. Plain Rust, run after the proved library has refused; it decides nothing.
 
+use crate::columns::Columns;
 use crate::counts::bad_weight;
 use crate::draws::Draws;
 use crate::given::Given;
-use crate::listings::Listings;
 use crate::matrix::DenseMatrix;
-use crate::nodes::Columns;
 use crate::refusal::{Fault, Refusal};
 use crate::rooms::Stopped;
 use crate::sizes;
@@ -24,29 +23,25 @@ pub(crate) fn fit(
         2 => lengths(given, trees).or_else(|| cuts(trees, draws?)),
         3 => numbers(given),
         4 => count(given),
-        5 => listings(5, given.x, given.listings),
+        5 => given.listings.fault_of(5, given.x),
         7 => Some(Fault::Draw { tree, search }),
         _ => None,
     };
     Refusal::of(stopped.number, fault)
 }
 
-fn length(list: &'static str, is: usize, asked: usize) -> Option<Fault> {
-    (is != asked).then_some(Fault::Length { list, is, asked })
-}
-
 fn lengths(given: &Given, trees: usize) -> Option<Fault> {
     let rows = given.x.shape().0;
     let weights = || match given.weights {
         [] => None,
-        weights => length("weights", weights.len(), rows),
+        weights => Fault::length("weights", weights.len(), rows),
     };
     let (counted, each) = given.counts.shape();
-    length("targets", given.y.len(), rows)
+    Fault::length("targets", given.y.len(), rows)
         .or_else(weights)
-        .or_else(|| length("counts of a tree", each, rows))
-        .or_else(|| length("trees that are counted", counted, trees))
-        .or_else(|| listings(2, given.x, given.listings))
+        .or_else(|| Fault::length("counts of a tree", each, rows))
+        .or_else(|| Fault::length("trees that are counted", counted, trees))
+        .or_else(|| given.listings.fault_of(2, given.x))
 }
 
 fn cuts(trees: usize, draws: &Draws) -> Option<Fault> {
@@ -94,24 +89,10 @@ fn count(given: &Given) -> Option<Fault> {
     })
 }
 
-/// The first listing that breaks, or how many there are if that is not as many as there are features.
-pub(crate) fn listings(number: u32, x: &DenseMatrix, listings: &Listings) -> Option<Fault> {
-    let (rows, features) = x.shape();
-    if number == 1 {
-        return sizes::fault(rows, features, 1);
-    }
-    let first = || {
-        let faults = (0..features).filter_map(|feature| listings.fault(x, feature));
-        faults.map(Fault::Listing).next()
-    };
-    length("listings", listings.features(), features)
-        .or_else(first)
-        .or_else(|| length("row numbers in a listing", listings.length(), rows))
-}
-
 /// A reader refused, of a good table: its rows are too many, or have other features.
 pub(crate) fn reader(x: &DenseMatrix, features: usize) -> Option<Fault> {
-    sizes::fault(x.shape().0, features, 1).or_else(|| length("values a row", x.shape().1, features))
+    sizes::fault(x.shape().0, features, 1)
+        .or_else(|| Fault::length("values a row", x.shape().1, features))
 }
 
 pub(crate) fn tree(features: usize, columns: Columns) -> Option<Fault> {

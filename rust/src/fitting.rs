@@ -154,3 +154,47 @@ impl<'a> Fitting<'a> {
         }
     }
 }
+
+impl RandomForestRegressor {
+    /// Fits a forest: sorts listings and draws bags, orders and thresholds from the seed, in plain Rust, and grows the trees by the
+    /// proved library. [`Fitting`] has more to say, [`fit_given`](Self::fit_given) leaves nothing to a seed.
+    pub fn fit(
+        x: &DenseMatrix,
+        y: &[f64],
+        parameters: RandomForestRegressorParameters,
+    ) -> Result<Self, Refusal> {
+        Fitting::new(x, y).forest(&parameters)
+    }
+
+    /// Fits a forest with weights. As in smartcore, they decide how often a row comes up in the bags, or, without bags
+    /// (`bootstrap` false), are given to the trees. No weights at all is a fit without them; where all are 0, every tree is a leaf of 0.
+    pub fn fit_with_weights(
+        x: &DenseMatrix,
+        y: &[f64],
+        weights: &[f64],
+        parameters: RandomForestRegressorParameters,
+    ) -> Result<Self, Refusal> {
+        Fitting::new(x, y).with_weights(weights).forest(&parameters)
+    }
+}
+
+impl DecisionTreeRegressor {
+    /// Fits a tree on all rows: sorts listings and draws from the seed in plain Rust, and grows the tree by the proved library.
+    pub fn fit(
+        x: &DenseMatrix,
+        y: &[f64],
+        parameters: DecisionTreeRegressorParameters,
+    ) -> Result<Self, Refusal> {
+        Fitting::new(x, y).tree(&parameters)
+    }
+
+    /// The same with weights, one a row.
+    pub fn fit_with_weights(
+        x: &DenseMatrix,
+        y: &[f64],
+        weights: &[f64],
+        parameters: DecisionTreeRegressorParameters,
+    ) -> Result<Self, Refusal> {
+        Fitting::new(x, y).with_weights(weights).tree(&parameters)
+    }
+}

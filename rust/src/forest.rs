@@ -1,11 +1,11 @@
 //! Forests.
 
+use crate::columns::{Nodes, over};
 use crate::counts::Counts;
 use crate::draws::Draws;
-use crate::fitting::Fitting;
 use crate::given::Given;
 use crate::matrix::DenseMatrix;
-use crate::nodes::{Nodes, Tree, check_forest, over};
+use crate::nodes::{Tree, check_forest};
 use crate::parameters::RandomForestRegressorParameters;
 use crate::refusal::Refusal;
 use crate::results::{Importances, Means, OutOfBagMeans, Report};
@@ -48,27 +48,6 @@ pub struct RandomForestRegressor {
 }
 
 impl RandomForestRegressor {
-    /// Fits a forest: sorts listings and draws bags, orders and thresholds from the seed, in plain Rust, and grows the trees by the
-    /// proved library. [`Fitting`] has more to say, [`fit_given`](Self::fit_given) leaves nothing to a seed.
-    pub fn fit(
-        x: &DenseMatrix,
-        y: &[f64],
-        parameters: RandomForestRegressorParameters,
-    ) -> Result<Self, Refusal> {
-        Fitting::new(x, y).forest(&parameters)
-    }
-
-    /// Fits a forest with weights. As in smartcore, they decide how often a row comes up in the bags, or, without bags
-    /// (`bootstrap` false), are given to the trees. No weights at all is a fit without them; where all are 0, every tree is a leaf of 0.
-    pub fn fit_with_weights(
-        x: &DenseMatrix,
-        y: &[f64],
-        weights: &[f64],
-        parameters: RandomForestRegressorParameters,
-    ) -> Result<Self, Refusal> {
-        Fitting::new(x, y).with_weights(weights).forest(&parameters)
-    }
-
     /// The proved call as it is: a forest of lent counts, listings and draws, as many trees as counts are given for. The parameters'
     /// number of trees, seed, threads and bags are not looked at.
     ///

@@ -46,6 +46,7 @@
 
 #![forbid(unsafe_code)]
 
+mod columns;
 mod counts;
 mod draws;
 mod explain;
@@ -53,6 +54,7 @@ mod fitting;
 mod forest;
 mod given;
 mod grow;
+mod limits;
 mod listings;
 mod matrix;
 mod nodes;
@@ -65,26 +67,21 @@ mod seed;
 mod sizes;
 mod tree;
 
+pub use columns::Nodes;
 pub use counts::Counts;
 pub use draws::Draws;
 pub use fitting::Fitting;
 pub use forest::RandomForestRegressor;
 pub use given::Given;
-pub use listings::{Breach, ListingFault, Listings};
+pub use limits::{MAX_FEATURES, MAX_ROWS, MAX_TREES};
+pub use listings::Listings;
 pub use matrix::DenseMatrix;
-pub use nodes::{Kind, Node, Nodes, Split, Tree};
+pub use nodes::{Kind, Node, Split, Tree};
 pub use parameters::{DecisionTreeRegressorParameters, RandomForestRegressorParameters, Splitter};
-pub use refusal::{Cause, Fault, Refusal};
+pub use refusal::{Breach, Cause, Fault, ListingFault, Refusal};
 pub use results::{Importances, Means, OutOfBagMeans, Report};
 pub use seed::SplitMix64;
 pub use tree::DecisionTreeRegressor;
-
-/// The most rows that a call takes.
-pub const MAX_ROWS: usize = 65_535;
-/// The most features that a call takes.
-pub const MAX_FEATURES: usize = 1_024;
-/// The most trees that a forest has.
-pub const MAX_TREES: usize = 1_024;
 
 /// The page for those who come from smartcore, whose examples run as tests too.
 #[cfg(doctest)]

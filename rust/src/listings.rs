@@ -1,9 +1,9 @@
 //! Listings: for each feature all row numbers, by value never falling.
 
+use crate::limits::MAX_ROWS;
 use crate::matrix::DenseMatrix;
-use crate::refusal::{Cause, Fault, Refusal};
-use crate::{MAX_ROWS, explain, sizes};
-use std::fmt;
+use crate::refusal::{Breach, Cause, Fault, ListingFault, Refusal};
+use crate::sizes;
 use tailboardy_sys::linked;
 
 /// For each feature all row numbers, counted from 0, by value never falling.
@@ -36,67 +36,6 @@ pub struct Listings {
     /// How long each feature's listing is.
     length: usize,
     numbers: Vec<u32>,
-}
-
-/// The first place where a feature's listing breaks.
-#[derive(Debug, Clone, PartialEq, Eq)]
-pub struct ListingFault {
-    /// The feature.
-    pub feature: usize,
-    /// The place in its listing.
-    pub place: usize,
-    /// What is wrong there.
-    pub breach: Breach,
-    /// The lowest row that the whole listing lacks.
-    pub missing: Option<usize>,
-}
-
-/// How a listing breaks. At each place these are looked for in this order.
-#[derive(Debug, Clone, Copy, PartialEq, Eq)]
-#[non_exhaustive]
-pub enum Breach {
-    /// There is no such row.
-    NoSuchRow(u32),
-    /// The row stood at an earlier place.
-    Twice {
-        /// The row.
-        row: u32,
-        /// The earlier place.
-        before: usize,
-    },
-    /// The row's value is below that of the row before it.
-    Falls {
-        /// The row.
-        row: u32,
-        /// The row before it.
-        after: u32,
-    },
-    /// The listing ends before every row has stood.
-    Ends,
-}
-
-impl fmt::Display for ListingFault {
-    fn fmt(&self, f: &mut fmt::Formatter<'_>) -> fmt::Result {
-        let place = self.place;
-        write!(f, "feature {}: ", self.feature)?;
-        match self.breach {
-            Breach::NoSuchRow(row) => write!(f, "place {place} has row {row}, which is not there")?,
-            Breach::Twice { row, before } => {
-                write!(f, "row {row} stands twice, at places {before} and {place}")?;
-            }
-            Breach::Falls { row, after } => {
-                write!(
-                    f,
-                    "at place {place} the value of row {row} is below that of row {after}"
-                )?;
-            }
-            Breach::Ends => write!(f, "it ends after {place} rows")?,
-        }
-        match self.missing {
-            Some(row) => write!(f, ", and row {row} is missing"),
-            None => Ok(()),
-        }
-    }
 }
 
 impl Listings {
@@ -154,7 +93,7 @@ impl Listings {
         let (rows, features) = x.shape();
         match linked::check_listings(rows, features, x.values(), self.numbers(x)) {
             0 => Ok(()),
-            number => Err(Refusal::of(number, explain::listings(number, x, self))),
+            number => Err(Refusal::of(number, self.fault_of(number, x))),
         }
     }
 
@@ -184,6 +123,21 @@ impl Listings {
         })
     }
 
+    /// What is wrong where the library refuses by this number: a size, how many listings there are, or the first that breaks.
+    pub(crate) fn fault_of(&self, number: u32, x: &DenseMatrix) -> Option<Fault> {
+        let (rows, features) = x.shape();
+        if number == 1 {
+            return sizes::fault(rows, features, 1);
+        }
+        let first = || {
+            let mut faults = (0..features).filter_map(|feature| self.fault(x, feature));
+            faults.next().map(Fault::Listing)
+        };
+        Fault::length("listings", self.features, features)
+            .or_else(first)
+            .or_else(|| Fault::length("row numbers in a listing", self.length, rows))
+    }
+
     /// How many features have a listing.
     #[must_use]
     pub fn features(&self) -> usize {
@@ -204,10 +158,6 @@ impl Listings {
             true => &self.numbers,
             false => &[],
         }
-    }
-
-    pub(crate) fn length(&self) -> usize {
-        self.length
     }
 }
 

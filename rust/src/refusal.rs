@@ -1,7 +1,6 @@
 //! Refusals: the paper's number, a name, what was found, and what to do about it.
 
-use crate::listings::ListingFault;
-use crate::{MAX_FEATURES, MAX_ROWS, MAX_TREES};
+use crate::limits::{MAX_FEATURES, MAX_ROWS, MAX_TREES};
 use std::error::Error;
 use std::fmt;
 
@@ -176,6 +175,50 @@ pub enum Fault {
     Node { tree: usize, node: usize },
 }
 
+/// The first place where a feature's listing breaks.
+#[derive(Debug, Clone, PartialEq, Eq)]
+pub struct ListingFault {
+    /// The feature.
+    pub feature: usize,
+    /// The place in its listing.
+    pub place: usize,
+    /// What is wrong there.
+    pub breach: Breach,
+    /// The lowest row that the whole listing lacks.
+    pub missing: Option<usize>,
+}
+
+/// How a listing breaks. At each place these are looked for in this order.
+#[derive(Debug, Clone, Copy, PartialEq, Eq)]
+#[non_exhaustive]
+pub enum Breach {
+    /// There is no such row.
+    NoSuchRow(u32),
+    /// The row stood at an earlier place.
+    Twice {
+        /// The row.
+        row: u32,
+        /// The earlier place.
+        before: usize,
+    },
+    /// The row's value is below that of the row before it.
+    Falls {
+        /// The row.
+        row: u32,
+        /// The row before it.
+        after: u32,
+    },
+    /// The listing ends before every row has stood.
+    Ends,
+}
+
+impl Fault {
+    /// A list that is not as long as required, if it is not.
+    pub(crate) fn length(list: &'static str, is: usize, asked: usize) -> Option<Self> {
+        (is != asked).then_some(Fault::Length { list, is, asked })
+    }
+}
+
 impl fmt::Display for Fault {
     fn fmt(&self, f: &mut fmt::Formatter<'_>) -> fmt::Result {
         match self {
@@ -203,6 +246,30 @@ impl fmt::Display for Fault {
             }
             Fault::Starts { place } => write!(f, "the starts break at place {place}"),
             Fault::Node { tree, node } => write!(f, "node {node} of tree {tree} is no good split"),
+        }
+    }
+}
+
+impl fmt::Display for ListingFault {
+    fn fmt(&self, f: &mut fmt::Formatter<'_>) -> fmt::Result {
+        let place = self.place;
+        write!(f, "feature {}: ", self.feature)?;
+        match self.breach {
+            Breach::NoSuchRow(row) => write!(f, "place {place} has row {row}, which is not there")?,
+            Breach::Twice { row, before } => {
+                write!(f, "row {row} stands twice, at places {before} and {place}")?;
+            }
+            Breach::Falls { row, after } => {
+                write!(
+                    f,
+                    "at place {place} the value of row {row} is below that of row {after}"
+                )?;
+            }
+            Breach::Ends => write!(f, "it ends after {place} rows")?,
+        }
+        match self.missing {
+            Some(row) => write!(f, ", and row {row} is missing"),
+            None => Ok(()),
         }
     }
 }

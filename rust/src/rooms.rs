@@ -1,8 +1,8 @@
 //! The rooms that fits are lent, and the fits themselves, one call each.
 
+use crate::columns::Nodes;
 use crate::draws::Draws;
 use crate::given::Given;
-use crate::nodes::Nodes;
 use crate::parameters::Settings;
 use crate::results::Report;
 use std::ops::Range;

@@ -1,7 +1,7 @@
 //! Sizes that the proved library takes.
 
+use crate::limits::{MAX_FEATURES, MAX_ROWS, MAX_TREES};
 use crate::refusal::{Fault, Refusal};
-use crate::{MAX_FEATURES, MAX_ROWS, MAX_TREES};
 use tailboardy_sys::linked;
 
 /// Asked before anything is made for a call: the library looks at sizes first, so calls with nothing else in them tell.

@@ -1,11 +1,11 @@
 //! Trees fitted alone.
 
+use crate::columns::Nodes;
 use crate::draws::Draws;
 use crate::explain;
-use crate::fitting::Fitting;
 use crate::given::Given;
 use crate::matrix::DenseMatrix;
-use crate::nodes::{Node, Nodes, Tree, check_tree};
+use crate::nodes::{Node, Tree, check_tree};
 use crate::parameters::DecisionTreeRegressorParameters;
 use crate::refusal::Refusal;
 use crate::results::{Importances, Means, Report};
@@ -37,25 +37,6 @@ pub struct DecisionTreeRegressor {
 }
 
 impl DecisionTreeRegressor {
-    /// Fits a tree on all rows: sorts listings and draws from the seed in plain Rust, and grows the tree by the proved library.
-    pub fn fit(
-        x: &DenseMatrix,
-        y: &[f64],
-        parameters: DecisionTreeRegressorParameters,
-    ) -> Result<Self, Refusal> {
-        Fitting::new(x, y).tree(&parameters)
-    }
-
-    /// The same with weights, one a row.
-    pub fn fit_with_weights(
-        x: &DenseMatrix,
-        y: &[f64],
-        weights: &[f64],
-        parameters: DecisionTreeRegressorParameters,
-    ) -> Result<Self, Refusal> {
-        Fitting::new(x, y).with_weights(weights).tree(&parameters)
-    }
-
     /// The proved call as it is: a tree of lent counts, which are one tree's, listings and draws, of which it takes the whole of both
     /// tapes. The parameters' seed is not looked at.
     pub fn fit_given(

@@ -1,14 +1,22 @@
 //! Both judges against each other, on made inputs or on the fixed list.
 
-use crate::calls::Call;
-use crate::case::{self, Case};
-use crate::chance::Chance;
-use crate::make_fit::{self, SMALL, Size};
+use crate::call::calls::Call;
+use crate::damage::faults;
+use crate::damage::fit as damage_fit;
+use crate::damage::read as damage_read;
+use crate::differences;
+use crate::judge::case::{self, Case};
+use crate::limits::fit as limits_fit;
+use crate::limits::read as limits_read;
+use crate::make::chance::Chance;
+use crate::make::crafted;
+use crate::make::exhaustive;
+use crate::make::fit as make_fit;
+use crate::make::fit::{SMALL, Size};
+use crate::make::read as make_read;
+use crate::make::rehearsal;
+use crate::own;
 use crate::tally::{Counts, Tally, caught};
-use crate::{
-    crafted, damage_fit, damage_read, differences, exhaustive, faults, limits, limits_read,
-    make_read, own, rehearsal,
-};
 use std::process::ExitCode;
 
 /// For the fixed list: a few numbers a case.
@@ -85,7 +93,7 @@ pub fn compare(mut tally: Tally, count: usize, least: &Counts) -> ExitCode {
     exhaustive::words(|case| tally.hold(&case));
     exhaustive::tables(|case| tally.hold(&case));
     exhaustive::checks(|case| tally.hold(&case));
-    limits::each(&mut chance, |case| tally.hold(&case));
+    limits_fit::each(&mut chance, |case| tally.hold(&case));
     limits_read::each(&mut Chance::new(5), |case| tally.hold(&case));
     random(&mut tally, &mut chance, count);
     differences::hold(&mut tally);
@@ -102,7 +110,7 @@ pub fn sample(mut tally: Tally, count: usize, least: &Counts) -> ExitCode {
 
 /// The deepest trees there are: some tens of seconds.
 pub fn longest(mut tally: Tally) -> ExitCode {
-    limits::longest(&mut Chance::new(3), |case| tally.hold(&case));
+    limits_fit::longest(&mut Chance::new(3), |case| tally.hold(&case));
     tally.end("longest", &Counts::each(0))
 }
 

@@ -1,8 +1,10 @@
 //! The command: compares both judges, replays the list, and what the list is made with.
 
 use driver::compare::{self, By};
+use driver::judge::{case::Case, library::Paper};
+use driver::list::{mutants, pick};
+use driver::make::chance::Chance;
 use driver::tally::{Counts, Tally};
-use driver::{case::Case, chance::Chance, library::Paper, mutants, pick};
 use std::process::ExitCode;
 
 const USE: &str = "compare [COUNT] | longest | replay LIST | each LIST paper|copy | pool COUNT

@@ -1,14 +1,15 @@
 //! The crate's own `fit`, bags, sort and draws and all, against a fit that is handed the same by tapes:
 //! that the harness calls `fit_weak_learner` as the crate itself does.
 
-use crate::calls::{Call, Fit, Read, Reader, Table};
-use crate::chance::Chance;
-use crate::expect;
-use crate::floats;
-use crate::library::Library;
-use crate::make_fit::{self, data, params};
-use crate::outcome::{Outcome, bits};
-use crate::run;
+use crate::call::calls::{Call, Fit, Read, Reader, Table};
+use crate::call::outcome::{Outcome, bits};
+use crate::judge::copied::{data, params};
+use crate::judge::expect;
+use crate::judge::library::Library;
+use crate::judge::run;
+use crate::make::chance::Chance;
+use crate::make::fit as make_fit;
+use crate::make::floats;
 use crate::tally::Tally;
 use copy::harness::{self, NodeRecord, Tape};
 

@@ -1,8 +1,8 @@
 //! What was compared: how much of each kind, and the shortest input that differs.
 
-use crate::calls::{Call, Reader};
-use crate::case::Case;
-use crate::library::Library;
+use crate::call::calls::{Call, Reader};
+use crate::judge::case::Case;
+use crate::judge::library::Library;
 use std::fmt;
 use std::process::ExitCode;
 use std::time::Instant;

@@ -1,6 +1,6 @@
 //! Refusals 1 to 6 of the fits, each as a test that passes or fails, and the listing check alone.
 
-use crate::fits::{Cuts, Given};
+use crate::calls::{Cuts, Given};
 
 pub fn rows_in_range(rows: usize) -> bool {
     (1..=65_535).contains(&rows)

@@ -1,6 +1,6 @@
 //! The growth of one tree. Each node holds its own columns, so nothing is moved about in place.
 
-use crate::fits::{Draws, Given, Numbers, Settings, Splitter};
+use crate::calls::{Draws, Given, Numbers, Settings, Splitter};
 use crate::totals::{Totals, proxy, score, threshold};
 
 /// A node as it is written; a leaf keeps feature, threshold, score and children at 0.

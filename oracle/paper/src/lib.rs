@@ -4,6 +4,7 @@
 //!
 //! A call answers with a refusal number, 0 for none.
 
+mod calls;
 mod checks;
 mod fits;
 mod growth;
@@ -12,11 +13,11 @@ mod rooms;
 mod tables;
 mod totals;
 
-pub use checks::check_listings;
-pub use fits::{
-    Cuts, Draws, ForestAnswer, ForestCall, Given, Numbers, Settings, Splitter, TreeAnswer,
-    TreeCall, fit_forest, fit_tree,
+pub use calls::{
+    Cuts, Draws, ForestAnswer, ForestCall, Given, Numbers, Settings, Splitter, TreeAnswer, TreeCall,
 };
+pub use checks::check_listings;
+pub use fits::{fit_forest, fit_tree};
 pub use readers::{
     Divisor, forest_importances, forest_means, out_of_bag_error, out_of_bag_means, predictions,
     tree_importances,

@@ -7,8 +7,8 @@ mod either;
 mod served;
 mod waiting;
 
-use driver::library::Library;
-use driver::outcome::bits;
+use driver::call::outcome::bits;
+use driver::judge::library::Library;
 use paper::{
     Divisor, ForestAnswer, ForestCall, ForestRooms, Given, Numbers, Splitter, Table, TreeAnswer,
     TreeCall, TreeRooms,

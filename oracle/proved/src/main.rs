@@ -1,7 +1,7 @@
 //! The command: holds the proved library against both judges, and replays the list through it.
 
 use driver::compare::{self, By};
-use driver::library::Paper;
+use driver::judge::library::Paper;
 use driver::tally::{Counts, Tally};
 use proved::Proved;
 use std::process::ExitCode;

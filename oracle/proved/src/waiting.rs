@@ -1,6 +1,6 @@
 //! The waiting list as the proved library is lent it: whole numbers and floats in two slices, of which the shorter counts.
 
-use driver::outcome::{FILL, FILL_FLOAT};
+use driver::call::outcome::{FILL, FILL_FLOAT};
 use paper::Waiting;
 
 const WHOLES: [u32; 6] = [FILL as u32; 6];

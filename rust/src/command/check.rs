@@ -4,8 +4,10 @@ use crate::args::Args;
 use crate::csv::Csv;
 use crate::fit::refused;
 use crate::listing::Listing;
+use crate::output::Output;
+use crate::report;
 use crate::show::{Roles, Show};
-use crate::{Output, Stop, report};
+use crate::stop::Stop;
 use tailboardy::Fitting;
 
 /// Makes the proved checks of a fit on what the files hold.

@@ -1,8 +1,8 @@
 //! Tables of named columns in comma-separated text.
 
-use crate::Stop;
 use crate::number::quoted;
 use crate::record::{Cells, Reader};
+use crate::stop::Stop;
 use std::collections::HashSet;
 use std::fs::File;
 use std::io::{BufRead, BufReader};

@@ -6,7 +6,8 @@ use crate::listing::Listing;
 use crate::output::{Output, place_for, same_file};
 use crate::progress::Progress;
 use crate::show::{Roles, Show, matrix};
-use crate::{Stop, number, record, report};
+use crate::stop::Stop;
+use crate::{number, record, report};
 use tailboardy::{Fault, Fitting, RandomForestRegressor, RandomForestRegressorParameters, Refusal};
 
 /// What was said, found to make sense before any file is read.

@@ -1,9 +1,9 @@
 //! A listing in a file: for each feature a column of row numbers, counted from 0, in the order of its values.
 
-use crate::Stop;
 use crate::csv::Csv;
 use crate::number::quoted;
 use crate::show::Show;
+use crate::stop::Stop;
 use tailboardy::{Breach, ListingFault, Listings, Refusal};
 
 #[derive(Debug)]

@@ -4,6 +4,7 @@
 
 mod args;
 mod check;
+mod commands;
 mod csv;
 mod fit;
 mod listing;
@@ -13,36 +14,12 @@ mod progress;
 mod record;
 mod report;
 mod show;
+mod stop;
 
-use args::COMMANDS;
+use commands::COMMANDS;
 use output::Output;
-use std::fmt;
 use std::process::ExitCode;
-
-/// Why nothing was done.
-#[derive(Debug)]
-pub enum Stop {
-    /// The words make no sense: status 2.
-    Usage(String),
-    /// What they name cannot be used: status 1. One line for each thing that is wrong.
-    Refused(Vec<String>),
-}
-
-impl Stop {
-    /// In one line: where, and what is wrong there.
-    fn refused(place: &str, why: &str) -> Self {
-        Stop::Refused(vec![format!("{place}: {why}")])
-    }
-}
-
-impl fmt::Display for Stop {
-    fn fmt(&self, f: &mut fmt::Formatter<'_>) -> fmt::Result {
-        match self {
-            Stop::Usage(why) => f.write_str(why),
-            Stop::Refused(lines) => f.write_str(&lines.join("\n")),
-        }
-    }
-}
+use stop::Stop;
 
 fn main() -> ExitCode {
     match run().and_then(Output::write) {

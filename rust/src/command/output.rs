@@ -1,7 +1,7 @@
 //! What a run writes, once all of it is known.
 
-use crate::Stop;
 use crate::number::quoted;
+use crate::stop::Stop;
 use std::fs::{self, File};
 use std::io::{self, Write};
 use std::path::{Path, PathBuf};

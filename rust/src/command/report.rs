@@ -1,8 +1,8 @@
 //! What is told of a show and of a forest.
 
-use crate::Stop;
 use crate::number::write;
 use crate::show::Show;
+use crate::stop::Stop;
 use tailboardy::{RandomForestRegressor, RandomForestRegressorParameters, Refusal};
 
 /// How many fixtures there are, and which column is what.

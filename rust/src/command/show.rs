@@ -1,9 +1,9 @@
 //! A show: which columns of a table are what, and their numbers.
 
-use crate::Stop;
 use crate::args::Args;
 use crate::csv::{self, Csv};
 use crate::number::{self, quoted};
+use crate::stop::Stop;
 use tailboardy::DenseMatrix;
 
 /// Which columns are what, as far as was said.

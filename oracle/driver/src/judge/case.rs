@@ -1,10 +1,10 @@
 //! A case: a call, the refusal that its maker knows of, and the answer that should come out.
 
-use crate::calls::{Call, Fit, Read};
-use crate::expect;
-use crate::library::Library;
-use crate::run;
-use crate::wire;
+use crate::call::calls::{Call, Fit, Read};
+use crate::call::wire;
+use crate::judge::expect;
+use crate::judge::library::Library;
+use crate::judge::run;
 
 pub struct Case {
     pub call: Call,

@@ -1,8 +1,8 @@
 //! Runs a call through a library, in rooms filled with nines, and tells what it left.
 
-use crate::calls::{Call, Fit, Lengths, Read, Reader, Table};
-use crate::library::Library;
-use crate::outcome::{FILL, FILL_FLOAT, Outcome, Room, bits};
+use crate::call::calls::{Call, Fit, Lengths, Read, Reader, Table};
+use crate::call::outcome::{FILL, FILL_FLOAT, Outcome, Room, bits};
+use crate::judge::library::Library;
 use paper::{
     Columns, Cuts, Divisor, Draws, ForestCall, ForestRooms, Given, Reports, Settings, Splitter,
     TreeCall, TreeRooms, Waiting, Work,

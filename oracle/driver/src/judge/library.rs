@@ -1,6 +1,6 @@
 //! Libraries of the public calls, by lent slices: the second judge is one, the proved library another.
 
-use crate::outcome::bits;
+use crate::call::outcome::bits;
 use paper::{
     Divisor, ForestAnswer, ForestCall, ForestRooms, Kind, NodeRead, Table, TreeAnswer, TreeCall,
     TreeRooms,

@@ -1,9 +1,9 @@
 //! Calls of the readers and checks, over good tables of any kind and over damaged ones.
 
-use crate::calls::{READERS, Read, Reader, Table};
-use crate::chance::Chance;
-use crate::floats;
-use crate::make_fit;
+use crate::call::calls::{READERS, Read, Reader, Table};
+use crate::make::chance::Chance;
+use crate::make::fit as make_fit;
+use crate::make::floats;
 
 pub fn read(chance: &mut Chance) -> Read {
     let reader = chance.pick(&READERS);

@@ -1,7 +1,9 @@
 //! Picks the fixed list out of a pool: cases that find each edit, and some of each kind and refusal.
 
-use crate::calls::Call;
-use crate::{case, compare, wire};
+use crate::call::calls::Call;
+use crate::call::wire;
+use crate::compare;
+use crate::judge::case;
 use std::collections::BTreeMap;
 
 /// How many cases should find an edit, where the pool has so many.

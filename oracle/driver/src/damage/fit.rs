@@ -1,7 +1,7 @@
 //! Damaged copies of good fits, each with the refusal that it should give.
 
-use crate::calls::Fit;
-use crate::chance::Chance;
+use crate::call::calls::Fit;
+use crate::make::chance::Chance;
 
 /// Damage a good fit in one to three ways. The later numbers are done first, so that each damage stays one;
 /// the lowest number is what the checks, made in order, should give.

@@ -1,8 +1,8 @@
 //! Damaged copies of good reader calls, each with the refusal that it should give.
 
-use crate::calls::{Read, Reader};
-use crate::chance::Chance;
-use crate::make_read::is_forest;
+use crate::call::calls::{Read, Reader};
+use crate::make::chance::Chance;
+use crate::make::read::is_forest;
 
 /// The refusals that a call can give, in the order of its checks.
 fn order(reader: Reader) -> &'static [u32] {

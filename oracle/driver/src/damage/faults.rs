@@ -1,9 +1,9 @@
 //! One fault at a time: each length one off, each room one short, each kind of bad number.
 
-use crate::calls::Fit;
-use crate::case::Case;
-use crate::chance::Chance;
-use crate::make_fit;
+use crate::call::calls::Fit;
+use crate::judge::case::Case;
+use crate::make::chance::Chance;
+use crate::make::fit as make_fit;
 
 /// A good forest of two trees over two rows and three features, in rooms just long enough, or its first tree alone.
 fn good(forest: bool, weighted: bool) -> Fit {

@@ -1,10 +1,10 @@
 //! Inputs at the limits of rows, features, trees and counts.
 
-use crate::calls::Fit;
-use crate::case::Case;
-use crate::chance::Chance;
-use crate::crafted;
-use crate::make_fit;
+use crate::call::calls::Fit;
+use crate::judge::case::Case;
+use crate::make::chance::Chance;
+use crate::make::crafted;
+use crate::make::fit as make_fit;
 
 fn finished(chance: &mut Chance, mut fit: Fit) -> Case {
     fit.listings = make_fit::listings(chance, fit.rows, fit.features, &fit.x);

@@ -1,9 +1,10 @@
 //! Fits that the rules accept, by how they are built. Draws are made by the copy and kept as tapes.
 
-use crate::calls::Fit;
-use crate::chance::Chance;
-use crate::floats;
-use copy::harness::{self, Data, Params, Tape};
+use crate::call::calls::Fit;
+use crate::judge::copied::{data, params, tree_counts};
+use crate::make::chance::Chance;
+use crate::make::floats;
+use copy::harness::{self, Tape};
 
 /// How large a fit may get.
 #[derive(Clone, Copy)]
@@ -125,33 +126,6 @@ pub fn listings(chance: &mut Chance, rows: usize, features: usize, x: &[f64]) ->
         all.extend(listing);
     }
     all
-}
-
-pub fn data(fit: &Fit) -> Data<'_> {
-    Data {
-        rows: fit.rows,
-        features: fit.features,
-        x: &fit.x,
-        y: &fit.y,
-        weights: &fit.weights,
-        listings: &fit.listings,
-    }
-}
-
-/// What the crate is given for the features tried; its own default is the root's floor.
-pub fn params(fit: &Fit) -> Params {
-    let root = (fit.features as f64).sqrt().floor() as usize;
-    Params {
-        limit: fit.limit,
-        least_leaf: fit.least_leaf,
-        least_split: fit.least_split,
-        tried: fit.tried.map_or(root, |tried| tried as usize),
-        random: fit.random,
-    }
-}
-
-pub fn tree_counts(fit: &Fit, tree: usize) -> &[u32] {
-    &fit.counts[tree * fit.rows..(tree + 1) * fit.rows]
 }
 
 /// Let the copy make the draws of each tree, and lay them one after another, at times with more behind.

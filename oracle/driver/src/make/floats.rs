@@ -1,6 +1,6 @@
 //! Floats that are hard on growth: ties, zeros of both signs, subnormals, neighbours, sums that overflow.
 
-use crate::chance::Chance;
+use crate::make::chance::Chance;
 
 const EDGES: [f64; 16] = [
     0.0, -0.0, 1.0, -1.0, 2.0, 0.5, 1.7e308, -1.7e308, 5e-324, -5e-324, 2.3e-308, 1e300, -1e300,

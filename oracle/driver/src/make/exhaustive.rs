@@ -1,9 +1,9 @@
 //! Small inputs, all of them.
 
-use crate::calls::{Fit, Read, Reader, Table};
-use crate::case::Case;
-use crate::chance::Chance;
-use crate::make_fit;
+use crate::call::calls::{Fit, Read, Reader, Table};
+use crate::judge::case::Case;
+use crate::make::chance::Chance;
+use crate::make::fit as make_fit;
 
 /// Every list of `n` entries from `from`.
 fn lists<T: Clone>(from: &[T], n: usize) -> Vec<Vec<T>> {

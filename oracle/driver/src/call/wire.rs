@@ -1,6 +1,7 @@
 //! Calls as numbers and back. One description of the fields serves both ways.
 
-use crate::calls::{Call, Fit, READERS, Read, Reader, Table};
+use crate::call::calls::{Call, Fit, READERS, Read, Reader, Table};
+use crate::call::outcome::bits;
 
 /// Either takes the fields down as numbers, or fills them from numbers.
 pub enum Wire<'a> {
@@ -38,7 +39,7 @@ impl Wire<'_> {
     }
 
     fn float(&mut self, field: &mut f64) {
-        self.via(field, |f| crate::outcome::bits(*f), f64::from_bits);
+        self.via(field, |f| bits(*f), f64::from_bits);
     }
 
     /// The length, then the entries.

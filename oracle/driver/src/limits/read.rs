@@ -1,11 +1,12 @@
 //! Readers and checks at the limits of rows, features, trees and nodes.
 
-use crate::calls::{Read, Reader, Table};
-use crate::case::Case;
-use crate::chance::Chance;
-use crate::floats;
-use crate::make_fit;
-use crate::make_read::{self, is_forest};
+use crate::call::calls::{Read, Reader, Table};
+use crate::judge::case::Case;
+use crate::make::chance::Chance;
+use crate::make::fit as make_fit;
+use crate::make::floats;
+use crate::make::read as make_read;
+use crate::make::read::is_forest;
 
 const ROWS: usize = 65_535;
 const FEATURES: usize = 1_024;

@@ -1,9 +1,9 @@
 //! What should come out: the copy's answer where the Rust has one; else the refusal that the maker of the
 //! input knows of, with every lent room as it was.
 
-use crate::calls::{Call, Fit, Read, Reader};
-use crate::make_fit::{data, params, tree_counts};
-use crate::outcome::{FILL, FILL_FLOAT, Outcome, Room, bits};
+use crate::call::calls::{Call, Fit, Read, Reader};
+use crate::call::outcome::{FILL, FILL_FLOAT, Outcome, Room, bits};
+use crate::judge::copied::{data, params, tree_counts};
 use copy::harness::{self, Grown, NodeRecord, Readable, Tape};
 
 /// `refusal` is what the maker knows of: 0 for none but, in a fit, perhaps a bad draw.

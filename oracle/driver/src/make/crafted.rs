@@ -1,9 +1,9 @@
 //! Cases thought out for one clause each, which chance does not meet in small inputs.
 
-use crate::calls::{Fit, Read, Reader, Table};
-use crate::case::Case;
-use crate::chance::Chance;
-use crate::make_fit;
+use crate::call::calls::{Fit, Read, Reader, Table};
+use crate::judge::case::Case;
+use crate::make::chance::Chance;
+use crate::make::fit as make_fit;
 
 fn finished(mut fit: Fit) -> Case {
     make_fit::rooms(&mut Chance::new(0), &mut fit);
