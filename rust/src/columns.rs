@@ -2,9 +2,9 @@
 
 use std::ops::Range;
 
-/// Nodes in six columns, the shortest of which counts. A forest's trees lie one after another, each with node numbers of its own
-/// from 0; the first node of each is its root. A node with both children 0 is a leaf, and the rest of its entries but the value
-/// says nothing.
+/// Nodes in six columns; the shortest column decides how many nodes there are. The trees of a forest follow one another, each with its
+/// own node numbers starting at 0; the first node of each tree is its root. A node whose children are both 0 is a leaf; of its
+/// entries only the value means anything.
 #[derive(Debug, Clone, Default, PartialEq)]
 pub struct Nodes {
     /// The mean of the targets in the node.
@@ -13,11 +13,11 @@ pub struct Nodes {
     pub feature: Vec<u32>,
     /// What it is compared with.
     pub threshold: Vec<f64>,
-    /// What the split gains.
+    /// How much the split gains.
     pub score: Vec<f64>,
-    /// Where a row goes whose value is at or below the threshold.
+    /// The child for rows whose value is at or below the threshold.
     pub true_child: Vec<u32>,
-    /// Where any other row goes, one with a NaN too. It is the next number.
+    /// The child for all other rows, including those with a NaN. It is the next node after the true child.
     pub false_child: Vec<u32>,
 }
 
@@ -32,7 +32,7 @@ pub(crate) struct Columns<'a> {
     pub false_child: &'a [u32],
 }
 
-/// A call of the library over columns, which stand between what comes before and after them.
+/// A call of the library whose arguments include the six columns, in the middle.
 macro_rules! over {
     ($call:ident($($before:expr),*; $columns:expr; $($after:expr),*)) => {{
         let columns = $columns;
@@ -51,7 +51,7 @@ macro_rules! over {
 pub(crate) use over;
 
 impl Nodes {
-    /// As many nodes, all zero.
+    /// `length` nodes, all zero.
     pub(crate) fn zeros(length: usize) -> Self {
         Nodes {
             value: vec![0.0; length],
@@ -63,7 +63,7 @@ impl Nodes {
         }
     }
 
-    /// How many nodes there are, by the shortest column.
+    /// The number of nodes, which is the length of the shortest column.
     #[must_use]
     pub fn len(&self) -> usize {
         let all = self.columns();
@@ -72,7 +72,7 @@ impl Nodes {
         wholes.into_iter().chain(reals).min().unwrap_or(0)
     }
 
-    /// Whether there are none.
+    /// Whether there are no nodes.
     #[must_use]
     pub fn is_empty(&self) -> bool {
         self.len() == 0
@@ -89,7 +89,7 @@ impl Nodes {
         }
     }
 
-    /// Keeps the first nodes, of every column as many.
+    /// Keeps the first `length` nodes in every column.
     pub(crate) fn keep(&mut self, length: usize) {
         self.value.truncate(length);
         self.feature.truncate(length);
@@ -99,7 +99,7 @@ impl Nodes {
         self.false_child.truncate(length);
     }
 
-    /// Room for so many more.
+    /// Reserves space for `more` nodes.
     pub(crate) fn reserve(&mut self, more: usize) {
         self.value.reserve_exact(more);
         self.feature.reserve_exact(more);

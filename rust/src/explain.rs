@@ -1,4 +1,5 @@
-//! Where a refused input is wrong, for a person to find. Plain Rust, run after the proved library has refused; it decides nothing.
+//! Finds where a refused input is wrong, so that a person can correct it. This is plain Rust that runs after the proved library has
+//! refused; it decides nothing.
 
 use crate::columns::Columns;
 use crate::counts::bad_weight;
@@ -9,7 +10,7 @@ use crate::refusal::{Fault, Refusal};
 use crate::rooms::Stopped;
 use crate::sizes;
 
-/// A fit of so many trees refused.
+/// The refusal of a fit of `trees` trees.
 pub(crate) fn fit(
     stopped: &Stopped,
     given: &Given,
@@ -39,8 +40,8 @@ fn lengths(given: &Given, trees: usize) -> Option<Fault> {
     let (counted, each) = given.counts.shape();
     Fault::length("targets", given.y.len(), rows)
         .or_else(weights)
-        .or_else(|| Fault::length("counts of a tree", each, rows))
-        .or_else(|| Fault::length("trees that are counted", counted, trees))
+        .or_else(|| Fault::length("counts per tree", each, rows))
+        .or_else(|| Fault::length("trees with counts", counted, trees))
         .or_else(|| given.listings.fault_of(2, given.x))
 }
 
@@ -76,7 +77,7 @@ fn numbers(given: &Given) -> Option<Fault> {
     value.or_else(target).or_else(|| bad_weight(given.weights))
 }
 
-/// A count that is too large, or else one beside weights that is not 1.
+/// The first count that is too large, or else the first that is not 1, which a forest with weights requires.
 fn count(given: &Given) -> Option<Fault> {
     let rows = given.counts.shape().1;
     let counts = given.counts.numbers();
@@ -89,10 +90,10 @@ fn count(given: &Given) -> Option<Fault> {
     })
 }
 
-/// A reader refused, of a good table: its rows are too many, or have other features.
+/// Why a reader refused a valid table: there are too many rows, or they have the wrong number of features.
 pub(crate) fn reader(x: &DenseMatrix, features: usize) -> Option<Fault> {
     sizes::fault(x.shape().0, features, 1)
-        .or_else(|| Fault::length("values a row", x.shape().1, features))
+        .or_else(|| Fault::length("values per row", x.shape().1, features))
 }
 
 pub(crate) fn tree(features: usize, columns: Columns) -> Option<Fault> {
@@ -114,7 +115,7 @@ pub(crate) fn forest(features: usize, starts: &[u32], columns: Columns) -> Optio
     })
 }
 
-/// The place where starts do not begin at 0, do not rise, or pass the last node.
+/// The first position where the starts do not begin at 0, do not increase, or go past the last node.
 fn bad_start(starts: &[u32], columns: Columns) -> Option<Fault> {
     let nodes = [columns.feature, columns.true_child, columns.false_child].map(<[u32]>::len);
     let reals = [columns.value, columns.threshold, columns.score].map(<[f64]>::len);
@@ -131,7 +132,7 @@ fn bad_start(starts: &[u32], columns: Columns) -> Option<Fault> {
     Some(Fault::Starts { place })
 }
 
-/// The first node that is neither a leaf nor a good split; node 0 where there is none at all.
+/// The first node that is neither a leaf nor a valid split; node 0 if there are no nodes at all.
 fn bad_node(features: usize, columns: Columns) -> Option<usize> {
     let nodes = columns.true_child.len();
     let good = |node: usize| {

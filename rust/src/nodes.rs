@@ -6,19 +6,19 @@ use crate::refusal::Refusal;
 use crate::results::{Importances, Means};
 use crate::{explain, sizes};
 
-/// A node read out.
+/// A single node.
 #[derive(Debug, Clone, Copy, PartialEq)]
 pub struct Node {
     /// The mean of the targets in the node.
     pub value: f64,
-    /// Whether it is split, and how.
+    /// A leaf, or a split and how it is made.
     pub kind: Kind,
 }
 
 /// What a node is.
 #[derive(Debug, Clone, Copy, PartialEq)]
 pub enum Kind {
-    /// Rows end here.
+    /// Rows stop here.
     Leaf,
     /// Rows go on to one of two children.
     Split(Split),
@@ -31,7 +31,7 @@ pub struct Split {
     pub feature: usize,
     /// What it is compared with.
     pub threshold: f64,
-    /// What the split gains.
+    /// How much the split gains.
     pub score: f64,
     /// The child for values at or below the threshold.
     pub true_child: usize,
@@ -39,7 +39,8 @@ pub struct Split {
     pub false_child: usize,
 }
 
-/// One tree of a fitted forest, or a tree fitted alone, to be read. Its table is good: fits leave no other, and any other was refused.
+/// A view of one tree of a forest, or of a tree fitted alone. Its table is valid, since a fit leaves no other and any other was
+/// refused.
 #[derive(Debug, Clone, Copy)]
 pub struct Tree<'a> {
     pub(crate) features: usize,
@@ -47,14 +48,14 @@ pub struct Tree<'a> {
 }
 
 impl<'a> Tree<'a> {
-    /// How many nodes it has; there is always a root.
+    /// The number of nodes; there is always a root.
     #[must_use]
     pub fn n_nodes(&self) -> usize {
         self.columns.value.len()
     }
 
-    /// A node read out by the proved library, if the tree has one of this number. The library looks at the whole table each time;
-    /// [`nodes`](Tree::nodes) goes through all of them faster.
+    /// The node with this number, if there is one, read by the proved library. The library checks the whole table each time;
+    /// [`nodes`](Tree::nodes) is the faster way to read all of them.
     #[must_use]
     pub fn node(&self, number: usize) -> Option<Node> {
         let told = over!(read_node(self.features; self.columns; number));
@@ -70,7 +71,7 @@ impl<'a> Tree<'a> {
         })
     }
 
-    /// All nodes by number, read from the columns as they are.
+    /// All nodes in order of their numbers, read directly from the columns.
     pub fn nodes(&self) -> impl Iterator<Item = Node> + use<'a> {
         let columns = self.columns;
         let value = columns.value.iter();
@@ -90,7 +91,7 @@ impl<'a> Tree<'a> {
         })
     }
 
-    /// This tree's prediction of each row.
+    /// This tree's prediction for each row.
     pub fn predict(&self, x: &DenseMatrix) -> Result<Means, Refusal> {
         let rows = x.shape().0;
         let features = self.features;
@@ -126,7 +127,7 @@ impl Node {
     }
 }
 
-/// Whether columns are a good tree, by the proved library.
+/// Checks with the proved library that the columns are a valid tree.
 pub(crate) fn check_tree(features: usize, columns: Columns) -> Result<(), Refusal> {
     match over!(check_tree(features; columns;)) {
         0 => Ok(()),
@@ -134,7 +135,7 @@ pub(crate) fn check_tree(features: usize, columns: Columns) -> Result<(), Refusa
     }
 }
 
-/// Whether starts and columns are a good forest, by the proved library.
+/// Checks with the proved library that the starts and columns are a valid forest.
 pub(crate) fn check_forest(
     features: usize,
     starts: &[u32],

@@ -1,4 +1,4 @@
-//! The words of the command line, and the help that is made of the same list.
+//! The command line, and the help text that is made from the same list of options.
 
 use crate::output::Output;
 use crate::stop::Stop;
@@ -6,7 +6,7 @@ use crate::{csv, record};
 use std::fmt::Write;
 use tailboardy::{MAX_TREES, RandomForestRegressorParameters, Splitter};
 
-/// An option: what it is called, what follows it (nothing: a flag), and what it does.
+/// An option: its name, the name of its value (empty for a flag), and what it does.
 pub struct Choice {
     name: &'static str,
     value: &'static str,
@@ -17,7 +17,7 @@ pub const fn choice(name: &'static str, value: &'static str, help: &'static str)
     Choice { name, value, help }
 }
 
-/// A command: its files, what it does, its options by groups, and what runs it.
+/// A command: its files, what it does, its groups of options, and the function that runs it.
 pub struct Command {
     pub name: &'static str,
     pub files: &'static [&'static str],
@@ -27,7 +27,7 @@ pub struct Command {
     pub run: fn(&Args) -> Result<Output, Stop>,
 }
 
-/// What was said.
+/// The files and options that were given.
 #[derive(Debug)]
 pub struct Args {
     pub files: Vec<String>,
@@ -49,10 +49,10 @@ impl Command {
             let said = format!("{} {}", choice.name, choice.value);
             let _ = writeln!(text, "  {said:<24}{}", choice.help);
         }
-        text + "\nExit status: 0 done, 1 refused, with the reason on standard error, 2 bad usage.\n"
+        text + "\nExit status: 0 if done, 1 if the input is refused, with the reason on standard error, 2 if the command line is wrong.\n"
     }
 
-    /// Sorts out the words that follow the command's name. None where help is asked.
+    /// Parses the words after the command's name. `None` if help is requested.
     pub fn parse(&self, words: &[String]) -> Result<Option<Args>, Stop> {
         let (mut files, mut said) = (Vec::new(), Vec::new());
         let mut words = words.iter();
@@ -65,7 +65,7 @@ impl Command {
                     if said.iter().any(|(it, _)| *it == name)
                         && !["--features", "--id"].contains(&name)
                     {
-                        return Err(self.bad(&format!("{name} is said twice")));
+                        return Err(self.bad(&format!("{name} is given twice")));
                     }
                     said.push((name, value));
                 }
@@ -76,12 +76,12 @@ impl Command {
             }
         }
         if files.len() != self.files.len() {
-            return Err(self.bad(&format!("the files asked are {}", self.files.join(" "))));
+            return Err(self.bad(&format!("the files required are {}", self.files.join(" "))));
         }
         Ok(Some(Args { files, said }))
     }
 
-    /// An option and its value, which follows it, or stands behind a sign of equality.
+    /// An option and its value, which is the next word or follows an equals sign.
     fn option<'a>(
         &self,
         word: &str,
@@ -96,18 +96,18 @@ impl Command {
         let choice = choice.ok_or_else(|| self.bad(&format!("there is no option {name}")))?;
         match (choice.value, behind) {
             ("", None) => Ok((choice.name, String::new())),
-            ("", Some(_)) => Err(self.bad(&format!("{name} takes nothing"))),
+            ("", Some(_)) => Err(self.bad(&format!("{name} takes no value"))),
             (_, Some(value)) => Ok((choice.name, value)),
             (value, None) => match words.next() {
                 Some(word) => Ok((choice.name, word.clone())),
-                None => Err(self.bad(&format!("{name} takes {value}"))),
+                None => Err(self.bad(&format!("{name} requires a value: {value}"))),
             },
         }
     }
 
     fn bad(&self, why: &str) -> Stop {
         Stop::Usage(format!(
-            "{why}\nusage: {}\n`tailboardy {} --help` tells more",
+            "{why}\nusage: {}\nsee `tailboardy {} --help`",
             self.usage(),
             self.name
         ))
@@ -115,13 +115,13 @@ impl Command {
 }
 
 impl Args {
-    /// What an option was given.
+    /// The value of an option, if it was given.
     pub fn get(&self, name: &str) -> Option<&str> {
         let said = self.said.iter().find(|(it, _)| *it == name);
         said.map(|(_, value)| value.as_str())
     }
 
-    /// The names that an option was given, parted like the cells of a table; none where it was not.
+    /// The list of names that an option was given, separated like the cells of a table; `None` if it was not given.
     pub fn names(&self, name: &str) -> Result<Option<Vec<String>>, Stop> {
         let mut names = None;
         for (_, value) in self.said.iter().filter(|(it, _)| *it == name) {
@@ -137,7 +137,7 @@ impl Args {
         let read = |text: &str| {
             let number = text.parse::<u64>().ok().filter(|it| *it <= most);
             let number = number.and_then(|it| N::try_from(it).ok());
-            let why = || format!("{name} {text}: a whole number up to {most} is asked");
+            let why = || format!("{name} {text}: a whole number up to {most} is required");
             number.ok_or_else(|| Stop::Usage(why()))
         };
         self.get(name).map(read).transpose()
@@ -145,12 +145,14 @@ impl Args {
 
     fn trees(&self) -> Result<Option<usize>, Stop> {
         match self.number("--n-trees", MAX_TREES as u64)? {
-            Some(0) => Err(Stop::Usage("--n-trees 0: a forest has a tree".into())),
+            Some(0) => Err(Stop::Usage(
+                "--n-trees 0: a forest needs at least one tree".into(),
+            )),
             trees => Ok(trees),
         }
     }
 
-    /// How the forest is to be grown.
+    /// The parameters of the forest.
     pub fn parameters(&self) -> Result<RandomForestRegressorParameters, Stop> {
         let plain = RandomForestRegressorParameters::default();
         let splitter = match self.get("--splitter") {
@@ -158,7 +160,7 @@ impl Args {
             Some("random") => Splitter::Random,
             Some(other) => {
                 return Err(Stop::Usage(format!(
-                    "--splitter {other}: best or random is asked"
+                    "--splitter {other}: the splitter is best or random"
                 )));
             }
         };

@@ -1,105 +1,109 @@
-//! The commands, with their options and what runs them.
+//! The commands, their options, and the functions that run them.
 
 use crate::args::{Choice, Command, choice};
 use crate::{check, fit};
 
 const COLUMNS: &[Choice] = &[
-    choice("--target", "NAME", "the column that is predicted"),
+    choice("--target", "NAME", "the column to predict"),
     choice(
         "--weight",
         "NAME",
-        "a column of weights: how much each fixture counts",
+        "a column of weights, which say how much each fixture counts",
     ),
     choice(
         "--features",
         "A,B,..",
-        "the columns to go by; else every other column of numbers",
+        "the columns to use as features; default: all other columns of numbers",
     ),
     choice(
         "--id",
         "A,B,..",
-        "columns that are no features, even if they hold numbers",
+        "columns that are not features, even if they hold numbers",
     ),
     choice(
         "--listing",
         "FILE",
-        "listings of one's own, in place of sorted ones: a column of row numbers for each feature",
+        "your own listings, instead of sorted ones: a column of row numbers for each feature",
     ),
 ];
 
 const GROWTH: &[Choice] = &[
-    choice("--n-trees", "N", "how many trees, up to 1024; else 100"),
+    choice(
+        "--n-trees",
+        "N",
+        "the number of trees, up to 1024; default: 100",
+    ),
     choice(
         "--m",
         "N",
-        "how many features a search tries; else the root of their number",
+        "how many features each search tries; default: the square root of their number",
     ),
-    choice("--max-depth", "N", "the greatest depth; else none"),
+    choice("--max-depth", "N", "the maximum depth; default: no limit"),
     choice(
         "--min-samples-leaf",
         "N",
-        "how many fixtures a leaf has at least; else 1",
+        "the minimum number of fixtures in a leaf; default: 1",
     ),
     choice(
         "--min-samples-split",
         "N",
-        "how many fixtures a node must have to be split; else 2",
+        "the minimum number of fixtures in a node to be split; default: 2",
     ),
     choice(
         "--splitter",
         "best|random",
-        "how cuts are chosen; else best",
+        "how cuts are chosen; default: best",
     ),
     choice(
         "--no-bootstrap",
         "",
-        "every tree has all fixtures once, and takes the weights itself; no out-of-bag error then",
+        "grow every tree on all fixtures, with their weights; there is no out-of-bag error then",
     ),
     choice(
         "--seed",
         "N",
-        "what bags, orders and thresholds are drawn from; else 0",
+        "the seed for bags, orders and thresholds; default: 0",
     ),
     choice(
         "--n-threads",
         "N",
-        "how many threads; else as many as the machine runs. It changes nothing but the time",
+        "the number of threads, which affects only the time; default: as many as the machine can run",
     ),
 ];
 
 const OUT: &[Choice] = &[choice(
     "--out",
     "FILE",
-    "where the corrections go; else to standard output",
+    "where to write the corrections; default: standard output",
 )];
 
 pub const COMMANDS: [Command; 3] = [
     Command {
         name: "check",
         files: &["SHOW.csv"],
-        about: "says whether a show, and its listing, is fit to use, and what is wrong where it is not",
+        about: "Checks whether a show and its listing can be used, and reports what is wrong if not",
         more: "A listing is a table with a column for each feature, named as in the show. Its cells are row numbers, counted\n\
-               from 0, in the order in which the feature's values never fall. Without --target and --features its columns are\n\
-               the features.",
+               from 0, in ascending order of the feature's values. Without --target and --features, the columns of the listing\n\
+               are the features.",
         groups: &[COLUMNS],
         run: check::run,
     },
     Command {
         name: "fit",
         files: &["SHOW.csv"],
-        about: "fits a forest on a show and tells its out-of-bag error and importances",
-        more: "Nothing is kept: a file for models is still to come. `correct` fits and predicts in one run.",
+        about: "Fits a forest on a show and reports its out-of-bag error and importances",
+        more: "The forest is not saved, since there is no file format for it yet. `correct` fits and predicts in one run.",
         groups: &[COLUMNS, GROWTH],
         run: fit::fit,
     },
     Command {
         name: "correct",
         files: &["OLD.csv", "NEW.csv"],
-        about: "fits a forest on the old show and writes a correction for each fixture of the new one",
-        more: "Written are the new show's columns, or with --id those alone, and a column NAME_correction, NAME being the target.\n\
-               Without --features both shows' common columns of numbers are the features; columns of numbers that only the old\n\
-               show has are passed over, unless the new one has others in their place. What the forest is like goes to standard\n\
-               error.",
+        about: "Fits a forest on the old show and writes a correction for each fixture of the new one",
+        more: "The output has the columns of the new show, or only those named by --id, and a column NAME_correction, where NAME is\n\
+               the target. Without --features, the features are the columns of numbers that both shows have. Columns of numbers\n\
+               that only the old show has are ignored, unless the new one has others that may be meant instead. A report on the\n\
+               forest goes to standard error.",
         groups: &[COLUMNS, GROWTH, OUT],
         run: fit::correct,
     },

@@ -41,9 +41,12 @@ fn run() -> Result<Output, Stop> {
     let words = std::env::args_os().skip(1).map(|word| word.into_string());
     let words: Result<Vec<String>, _> = words.collect();
     let words = words
-        .map_err(|word| Stop::Usage(format!("{} is not text in UTF-8", word.to_string_lossy())))?;
+        .map_err(|word| Stop::Usage(format!("{} is not valid UTF-8", word.to_string_lossy())))?;
     let Some((first, rest)) = words.split_first() else {
-        return Err(Stop::Usage(format!("a command is asked\n{}", overview())));
+        return Err(Stop::Usage(format!(
+            "a command is required\n{}",
+            overview()
+        )));
     };
     match first.as_str() {
         "--help" | "-h" | "help" => return Ok(Output::told(overview())),
@@ -64,9 +67,10 @@ fn run() -> Result<Output, Stop> {
 }
 
 fn overview() -> String {
-    let mut text = String::from("a regression forest that can be trusted with a show:\n");
+    let mut text =
+        String::from("a regression forest that can be trusted with a show\n\ncommands:\n");
     for command in &COMMANDS {
         text += &format!("  tailboardy {:<9}{}\n", command.name, command.about);
     }
-    text + "`tailboardy COMMAND --help` tells the rest\n"
+    text + "\n`tailboardy COMMAND --help` explains a command and its options\n"
 }

@@ -2,17 +2,17 @@
 
 use std::fmt;
 
-/// Why nothing was done.
+/// Why the command stopped without a result.
 #[derive(Debug)]
 pub enum Stop {
-    /// The words make no sense: status 2.
+    /// The command line is wrong: status 2.
     Usage(String),
-    /// What they name cannot be used: status 1. One line for each thing that is wrong.
+    /// The files that it names cannot be used: status 1. One line for each thing that is wrong.
     Refused(Vec<String>),
 }
 
 impl Stop {
-    /// In one line: where, and what is wrong there.
+    /// One line: where something is wrong, and what.
     pub fn refused(place: &str, why: &str) -> Self {
         Stop::Refused(vec![format!("{place}: {why}")])
     }
