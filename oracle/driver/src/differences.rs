@@ -1,4 +1,4 @@
-//! What docs/DIFFERENCES.md says of its smallest inputs, held against the copy and a library.
+//! Checks what docs/DIFFERENCES.md says about its smallest inputs, with the copy and with a library.
 
 use crate::call::calls::{Call, Fit};
 use crate::judge::copied::{data, params};
@@ -10,7 +10,7 @@ use crate::make::fit as make_fit;
 use crate::tally::Tally;
 use copy::harness::{self, Grown, Readable};
 
-/// One feature, rows in the order of the listing, one feature tried, draws that are enough.
+/// One feature, which is tried, rows in the order of the listing, and enough draws.
 fn rows(x: &[f64], y: &[f64]) -> Fit {
     let rows = x.len();
     Fit {
@@ -29,7 +29,7 @@ fn rows(x: &[f64], y: &[f64]) -> Fit {
     }
 }
 
-/// The library's answer: refusal, nodes.
+/// The library's answer: the refusal and the number of nodes.
 fn ours(library: &dyn Library, fit: &Fit) -> (u64, u64) {
     let mut fit = fit.clone();
     make_fit::rooms(&mut Chance::new(0), &mut fit);

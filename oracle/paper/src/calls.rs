@@ -1,4 +1,4 @@
-//! What the fits are given, and what they tell.
+//! What the fits are given, and what they return.
 
 #[derive(Clone, Copy, Debug, PartialEq)]
 pub enum Splitter {
@@ -8,7 +8,7 @@ pub enum Splitter {
 
 #[derive(Clone, Copy, Debug)]
 pub struct Settings {
-    /// The greatest depth; none acts as 65,535.
+    /// The maximum depth; `None` counts as 65,535.
     pub limit: Option<u16>,
     pub least_leaf: u32,
     pub least_split: u32,
@@ -22,7 +22,7 @@ pub struct Given<'a> {
     pub features: usize,
     pub x: &'a [f64],
     pub y: &'a [f64],
-    /// One a row, or empty for none.
+    /// One per row, or empty for none.
     pub weights: &'a [f64],
     pub counts: &'a [u32],
     pub listings: &'a [u32],
@@ -34,7 +34,7 @@ pub struct Draws<'a> {
     pub thresholds: &'a [f64],
 }
 
-/// Where each tree's part of the two tapes begins, and where the last ends.
+/// Where each tree's part of the two tapes begins, and where the last one ends.
 #[derive(Clone, Copy)]
 pub struct Cuts<'a> {
     pub words: &'a [u64],
@@ -52,13 +52,13 @@ pub struct ForestCall<'a> {
     pub given: Given<'a>,
     pub trees: usize,
     pub settings: Settings,
-    /// None: the floor of the root of the feature count.
+    /// `None` for the square root of the number of features, rounded down.
     pub tried: Option<u32>,
     pub draws: Draws<'a>,
     pub cuts: Cuts<'a>,
 }
 
-/// What a fit reports of a tree.
+/// What a fit reports about a tree.
 #[derive(Clone, Copy, Debug, Default)]
 pub struct Numbers {
     pub nodes: u32,
@@ -69,7 +69,7 @@ pub struct Numbers {
     pub thresholds_used: u32,
 }
 
-/// Tree and search are told with refusal 7 alone, and are 0 otherwise.
+/// Tree and search are given only with refusal 7, and are 0 otherwise.
 #[derive(Clone, Copy, Debug, Default)]
 pub struct TreeAnswer {
     pub refusal: u32,

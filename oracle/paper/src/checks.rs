@@ -57,7 +57,7 @@ pub fn counts_one_if_weighted(given: &Given) -> bool {
     given.weights.is_empty() || given.counts.iter().all(|count| *count == 1)
 }
 
-/// Each row once, and no value below the one before it.
+/// Each row exactly once, and no value lower than the one before it.
 fn listing_good(listing: &[u32], value: impl Fn(u32) -> f64) -> bool {
     let mut met = vec![false; listing.len()];
     for row in listing {

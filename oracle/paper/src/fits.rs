@@ -1,11 +1,11 @@
-//! The fit of one tree and the fit of a forest: checks in order, growth, and what is left in each lent room.
+//! The fit of one tree and the fit of a forest: the checks in order, growth, and what is left in each room.
 
 use crate::calls::{Draws, ForestAnswer, ForestCall, Given, TreeAnswer, TreeCall};
 use crate::checks;
 use crate::growth::{Grown, Record, Seed};
 use crate::rooms::{Columns, ForestRooms, TreeRooms};
 
-/// Node room that a tree asks: max(1, 2 x kept rows - 1).
+/// The number of nodes that a tree requires room for: max(1, 2 x kept rows - 1).
 fn asked(seed: &Seed) -> usize {
     match seed.kept_rows() {
         0 => 1,
@@ -160,7 +160,7 @@ pub fn fit_forest(call: &ForestCall, rooms: &mut ForestRooms) -> ForestAnswer {
     ForestAnswer::default()
 }
 
-/// Trees one after another, where each starts, and what is reported of each.
+/// Writes the trees one after another, where each starts, and what is reported about each.
 fn lay_out(grown: &[Grown], rooms: &mut ForestRooms) {
     let mut start = 0;
     rooms.starts[0] = 0;

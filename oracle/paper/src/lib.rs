@@ -1,8 +1,8 @@
-//! The second judge: every public call as a plain program written from the paper of exact rules.
-//! It shares no code with the copy of the Rust, and does its work in rooms of its own: of the lent work
-//! room it only looks at the lengths, and leaves what the paper says is left.
+//! The second judge: every public call as a plain program that follows the rules (docs/RULES.md).
+//! It shares no code with the copy of smartcore, and works in memory of its own: of the rooms for work it only uses the lengths,
+//! and it leaves in them what the rules say.
 //!
-//! A call answers with a refusal number, 0 for none.
+//! A call returns the number of a refusal, or 0.
 
 mod calls;
 mod checks;

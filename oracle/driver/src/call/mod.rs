@@ -1,4 +1,4 @@
-//! What is called and what comes out: the public calls with all that they are given, the same as numbers, and what a call leaves.
+//! The public calls with everything that they are given, their form as numbers, and what a call leaves.
 
 pub mod calls;
 pub mod outcome;

@@ -1,4 +1,4 @@
-//! A fit as the copy takes it.
+//! Converts a fit to the form that the copy takes.
 
 use crate::call::calls::Fit;
 use copy::harness::{Data, Params};
@@ -14,7 +14,7 @@ pub fn data(fit: &Fit) -> Data<'_> {
     }
 }
 
-/// What the crate is given for the features tried; its own default is the root's floor.
+/// The parameters for smartcore, whose default for the features tried is the square root of their number, rounded down.
 pub fn params(fit: &Fit) -> Params {
     let root = (fit.features as f64).sqrt().floor() as usize;
     Params {

@@ -1,4 +1,4 @@
-//! How a call is answered: by a library of the public calls, and by the copy, from which the expected answer comes.
+//! How a call is answered: by a library of the public calls, or by the copy, which gives the expected answer.
 
 pub mod case;
 pub mod copied;

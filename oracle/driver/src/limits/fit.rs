@@ -102,14 +102,14 @@ fn chain(chance: &mut Chance) -> Case {
     chain_of(chance, rows, limit)
 }
 
-/// All rows in a chain: the greatest depth that there is.
+/// All rows in a chain: the greatest depth that is possible.
 pub fn longest(chance: &mut Chance, mut hold: impl FnMut(Case)) {
     for limit in [None, Some(65_535), Some(65_534)] {
         hold(chain_of(chance, 65_535, limit));
     }
 }
 
-/// Each split takes one row off: as deep as rows allow.
+/// Each split removes one row, so the tree is as deep as the number of rows allows.
 fn chain_of(chance: &mut Chance, rows: usize, limit: Option<u16>) -> Case {
     let mut fit = Fit {
         rows,

@@ -1,4 +1,4 @@
-//! What the fixed list is made with: edits of the judges, and the choice of cases that find them.
+//! Makes the fixed list: edits of the judges, and the choice of cases that detect them.
 
 pub mod mutants;
 pub mod pick;

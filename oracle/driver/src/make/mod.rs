@@ -1,4 +1,4 @@
-//! Inputs that the rules accept, and those thought out one by one.
+//! Inputs that the rules accept, and inputs made by hand.
 
 pub mod chance;
 pub mod crafted;

@@ -1,4 +1,4 @@
-//! The paper's rehearsal table, P1 to P10 and the lines below it, as cases.
+//! The rehearsal table, P1 to P10 and the lines below it, as cases.
 
 use crate::call::calls::Fit;
 use crate::judge::case::Case;
@@ -22,7 +22,7 @@ fn first() -> Fit {
     }
 }
 
-/// P1 with one thing changed, in rooms just long enough.
+/// P1 with one thing changed, in rooms that are just long enough.
 fn with(change: impl Fn(&mut Fit)) -> Fit {
     let mut fit = first();
     change(&mut fit);
