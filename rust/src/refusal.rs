@@ -34,7 +34,7 @@ pub enum Cause {
     Sizes,
     /// 2: a list does not have the length that the sizes require, or a cut table is wrong.
     Lengths,
-    /// 3: a value or target is not finite, or a weight is not finite or is negative.
+    /// 3: a value or target is not finite, or a weight is not finite or is below 0.
     Numbers,
     /// 4: a count is above 65,535, or is not 1 in a forest with weights.
     Counts,
@@ -165,7 +165,7 @@ pub enum Fault {
     },
     /// A target that is not finite.
     Target { row: usize, value: f64 },
-    /// A weight that is not finite, or is negative.
+    /// A weight that is not finite, or is below 0.
     Weight { row: usize, value: f64 },
     /// How many times a row is in a tree's bag.
     Count { tree: usize, row: usize, count: u32 },

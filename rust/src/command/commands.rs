@@ -36,7 +36,7 @@ const GROWTH: &[Choice] = &[
     choice(
         "--m",
         "N",
-        "how many features each search tries; default: the square root of their number",
+        "how many features each search tries; default: the square root of their number, rounded down",
     ),
     choice("--max-depth", "N", "the maximum depth; default: no limit"),
     choice(
