@@ -1,12 +1,14 @@
-//! Picks the fixed list out of a pool: cases that find each edit, and some of each kind and refusal.
+//! Picks the fixed list from a pool: cases that detect each edit, and some of each kind and refusal.
 
-use crate::calls::Call;
-use crate::{case, compare, wire};
+use crate::call::calls::Call;
+use crate::call::wire;
+use crate::compare;
+use crate::judge::case;
 use std::collections::BTreeMap;
 
-/// How many cases should find an edit, where the pool has so many.
+/// How many cases should detect an edit, if the pool has that many.
 const FINDERS: usize = 3;
-/// How many cases of a kind with one refusal are taken at least: most of what is not refused.
+/// The least number of cases of a kind with a refusal: the most for those that are not refused.
 fn of_a_kind(kind: u64, refusal: usize) -> usize {
     match (kind, refusal) {
         (1, 0) => 190,
@@ -17,15 +19,15 @@ fn of_a_kind(kind: u64, refusal: usize) -> usize {
     }
 }
 
-/// A tree that never split tells little.
+/// A tree without a split shows little.
 fn bare(listed: &case::Listed) -> bool {
     matches!(&listed.case.call, Call::Fit(fit) if !fit.forest)
         && listed.answer[0] == 0
         && listed.answer[3] == 1
 }
 
-/// `found` holds, for each edit, the places in the pool of the cases that find it.
-/// The cases that are not left to chance stand first, and are all taken.
+/// `found` has, for each edit, the positions in the pool of the cases that detect it.
+/// The cases that are not random come first, and are all taken.
 pub fn pick(pool: &[&str], found: &[Vec<usize>]) -> Vec<usize> {
     let fixed = compare::fixed().len();
     let mut taken: Vec<bool> = (0..pool.len()).map(|place| place < fixed).collect();

@@ -1,8 +1,9 @@
-//! Calls as numbers and back. One description of the fields serves both ways.
+//! Converts calls to numbers and back. The same description of the fields is used in both directions.
 
-use crate::calls::{Call, Fit, READERS, Read, Reader, Table};
+use crate::call::calls::{Call, Fit, READERS, Read, Reader, Table};
+use crate::call::outcome::bits;
 
-/// Either takes the fields down as numbers, or fills them from numbers.
+/// Either writes the fields as numbers, or fills them from numbers.
 pub enum Wire<'a> {
     Down(Vec<u64>),
     Up(&'a [u64]),
@@ -38,7 +39,7 @@ impl Wire<'_> {
     }
 
     fn float(&mut self, field: &mut f64) {
-        self.via(field, |f| crate::outcome::bits(*f), f64::from_bits);
+        self.via(field, |f| bits(*f), f64::from_bits);
     }
 
     /// The length, then the entries.
@@ -66,7 +67,7 @@ fn fit_fields(fit: &mut Fit, w: &mut Wire) {
     if fit.forest {
         w.size(&mut fit.trees);
     }
-    // none is written one past the largest, as no number given can be
+    // `None` is written as one more than the largest number that can be given
     w.via(
         &mut fit.limit,
         |limit| limit.map_or(65_536, u64::from),
@@ -132,7 +133,7 @@ fn read_fields(read: &mut Read, w: &mut Wire) {
     w.size(&mut read.out);
 }
 
-/// 1 a tree's fit, 2 a forest's, from 3 on the readers in the order of `READERS`.
+/// 1 for the fit of a tree, 2 for that of a forest, and from 3 on the readers in the order of `READERS`.
 pub fn kind(call: &Call) -> u64 {
     match call {
         Call::Fit(fit) => 1 + u64::from(fit.forest),

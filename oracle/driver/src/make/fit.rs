@@ -1,11 +1,12 @@
-//! Fits that the rules accept, by how they are built. Draws are made by the copy and kept as tapes.
+//! Fits that the rules accept because of how they are made. The copy makes the draws, which are recorded as tapes.
 
-use crate::calls::Fit;
-use crate::chance::Chance;
-use crate::floats;
-use copy::harness::{self, Data, Params, Tape};
+use crate::call::calls::Fit;
+use crate::judge::copied::{data, params, tree_counts};
+use crate::make::chance::Chance;
+use crate::make::floats;
+use copy::harness::{self, Tape};
 
-/// How large a fit may get.
+/// The largest sizes of a fit.
 #[derive(Clone, Copy)]
 pub struct Size {
     pub rows: usize,
@@ -113,48 +114,21 @@ fn counts(chance: &mut Chance, rows: usize) -> Vec<u32> {
     list
 }
 
-/// For each feature the rows by value, ties in any order.
+/// For each feature the rows in ascending order of value, with ties in any order.
 pub fn listings(chance: &mut Chance, rows: usize, features: usize, x: &[f64]) -> Vec<u32> {
     let mut all = Vec::with_capacity(rows * features);
     for feature in 0..features {
         let mut listing: Vec<u32> = (0..rows as u32).collect();
         chance.shuffle(&mut listing);
         let value = |row: &u32| x[*row as usize * features + feature];
-        // -0 and +0 are equal here, so they stay mixed
+        // -0 and +0 are equal here, so they remain mixed
         listing.sort_by(|a, b| value(a).partial_cmp(&value(b)).expect("finite"));
         all.extend(listing);
     }
     all
 }
 
-pub fn data(fit: &Fit) -> Data<'_> {
-    Data {
-        rows: fit.rows,
-        features: fit.features,
-        x: &fit.x,
-        y: &fit.y,
-        weights: &fit.weights,
-        listings: &fit.listings,
-    }
-}
-
-/// What the crate is given for the features tried; its own default is the root's floor.
-pub fn params(fit: &Fit) -> Params {
-    let root = (fit.features as f64).sqrt().floor() as usize;
-    Params {
-        limit: fit.limit,
-        least_leaf: fit.least_leaf,
-        least_split: fit.least_split,
-        tried: fit.tried.map_or(root, |tried| tried as usize),
-        random: fit.random,
-    }
-}
-
-pub fn tree_counts(fit: &Fit, tree: usize) -> &[u32] {
-    &fit.counts[tree * fit.rows..(tree + 1) * fit.rows]
-}
-
-/// Let the copy make the draws of each tree, and lay them one after another, at times with more behind.
+/// Lets the copy make the draws of each tree and joins them, sometimes with extra draws after those of a tree.
 pub fn draws(chance: &mut Chance, fit: &mut Fit, seed: u64) {
     let mut tapes: Vec<Tape> = Vec::new();
     for tree in 0..fit.trees {
@@ -189,7 +163,7 @@ fn cuts(lengths: impl Iterator<Item = usize>) -> Vec<u64> {
     table
 }
 
-/// Rooms that are long enough, some of them longer.
+/// Rooms that are long enough, some of them longer than necessary.
 pub fn rooms(chance: &mut Chance, fit: &mut Fit) {
     let asked: usize = (0..fit.trees).map(|tree| fit.asked(tree)).sum();
     let more = |chance: &mut Chance| chance.pick(&[0, 0, 0, 1, 3]);

@@ -1,11 +1,11 @@
-//! One fault at a time: each length one off, each room one short, each kind of bad number.
+//! One fault at a time: each length off by one, each room too short by one, each kind of bad number.
 
-use crate::calls::Fit;
-use crate::case::Case;
-use crate::chance::Chance;
-use crate::make_fit;
+use crate::call::calls::Fit;
+use crate::judge::case::Case;
+use crate::make::chance::Chance;
+use crate::make::fit as make_fit;
 
-/// A good forest of two trees over two rows and three features, in rooms just long enough, or its first tree alone.
+/// A valid forest of two trees with two rows and three features, in rooms that are just long enough, or only its first tree.
 fn good(forest: bool, weighted: bool) -> Fit {
     let trees = if forest { 2 } else { 1 };
     let mut fit = Fit {
@@ -37,7 +37,7 @@ fn good(forest: bool, weighted: bool) -> Fit {
     fit
 }
 
-/// Collects changed copies of good fits.
+/// Collects changed copies of valid fits.
 struct Faults(Vec<Case>);
 
 impl Faults {
@@ -81,7 +81,7 @@ fn lengths(faults: &mut Faults) {
     for longer in [false, true] {
         faults.add(&base, 2, |fit| off(&mut fit.word_cuts, longer));
         faults.add(&base, 2, |fit| off(&mut fit.threshold_cuts, longer));
-        // the last cut no more the tape's length
+        // the last cut is no longer the length of the tape
         faults.add(&base, 2, |fit| off(&mut fit.words, longer));
     }
     faults.add(&base, 2, |fit| fit.thresholds.push(0.0));
@@ -96,7 +96,7 @@ fn numbers(faults: &mut Faults) {
         faults.add(&base, 3, |fit| fit.weights[1] = bad);
     }
     faults.add(&base, 3, |fit| fit.weights[1] = -5e-324);
-    // either zero is a weight, and leaves its row out
+    // both zeros are valid weights, and leave their row out
     faults.add(&base, 0, |fit| fit.weights[1] = 0.0);
     faults.add(&base, 0, |fit| fit.weights[1] = -0.0);
     faults.add(&base, 0, |fit| fit.counts[1] = 65_535);
@@ -108,7 +108,7 @@ fn numbers(faults: &mut Faults) {
     faults.add(&base, 5, |fit| fit.listings[5] = 0);
     faults.add(&base, 5, |fit| fit.listings[5] = 2);
     faults.add(&base, 5, |fit| fit.listings.swap(2, 3));
-    // equal values may stand either way
+    // equal values may be in either order
     faults.add(&base, 0, |fit| fit.listings.swap(4, 5));
 }
 

@@ -1,6 +1,6 @@
-//! Libraries of the public calls, by lent slices: the second judge is one, the proved library another.
+//! Libraries of the public calls over slices: one is the second judge, another the proved library.
 
-use crate::outcome::bits;
+use crate::call::outcome::bits;
 use paper::{
     Divisor, ForestAnswer, ForestCall, ForestRooms, Kind, NodeRead, Table, TreeAnswer, TreeCall,
     TreeRooms,
@@ -48,7 +48,7 @@ pub trait Library {
     fn check_listings(&self, rows: usize, features: usize, x: &[f64], listings: &[u32]) -> u32;
     fn check_tree(&self, features: usize, t: &Table) -> u32;
     fn check_forest(&self, features: usize, trees: usize, t: &Table, starts: &[u32]) -> u32;
-    /// The refusal, 1 if the node is there, then its value, feature, threshold, score, true child and false child.
+    /// The refusal, 1 if the node exists, then its value, feature, threshold, score, true child and false child.
     fn read_node(&self, features: usize, t: &Table, number: usize) -> [u64; 8];
 }
 
@@ -123,7 +123,7 @@ impl Library for Paper {
     }
 }
 
-/// What a leaf has not, and all six entries where there is no node, are zeros.
+/// The entries that a leaf does not have are 0, and so are all six if there is no node.
 fn node_told(read: NodeRead) -> [u64; 8] {
     let mut told = [0; 8];
     match read {

@@ -1,9 +1,9 @@
-//! The paper's rehearsal table, P1 to P10 and the lines below it, as cases.
+//! The rehearsal table, P1 to P10 and the lines below it, as cases.
 
-use crate::calls::Fit;
-use crate::case::Case;
-use crate::chance::Chance;
-use crate::make_fit;
+use crate::call::calls::Fit;
+use crate::judge::case::Case;
+use crate::make::chance::Chance;
+use crate::make::fit as make_fit;
 
 fn first() -> Fit {
     Fit {
@@ -22,7 +22,7 @@ fn first() -> Fit {
     }
 }
 
-/// P1 with one thing changed, in rooms just long enough.
+/// P1 with one thing changed, in rooms that are just long enough.
 fn with(change: impl Fn(&mut Fit)) -> Fit {
     let mut fit = first();
     change(&mut fit);

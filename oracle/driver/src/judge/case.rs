@@ -1,14 +1,14 @@
-//! A case: a call, the refusal that its maker knows of, and the answer that should come out.
+//! A case: a call, the refusal that is expected because of a fault, and the expected answer.
 
-use crate::calls::{Call, Fit, Read};
-use crate::expect;
-use crate::library::Library;
-use crate::run;
-use crate::wire;
+use crate::call::calls::{Call, Fit, Read};
+use crate::call::wire;
+use crate::judge::expect;
+use crate::judge::library::Library;
+use crate::judge::run;
 
 pub struct Case {
     pub call: Call,
-    /// 0 for none, or perhaps for a bad draw.
+    /// 0 if there is no fault, although a draw may be bad.
     pub refusal: u32,
 }
 
@@ -27,7 +27,7 @@ impl Case {
         }
     }
 
-    /// The first judge's answer, or the maker's. Its first number is the refusal.
+    /// The first judge's answer, or the expected refusal. The first number is the refusal.
     pub fn expected(&self) -> Vec<u64> {
         expect::expect(&self.call, self.refusal).encode()
     }
@@ -36,7 +36,7 @@ impl Case {
         run::run(library, &self.call).encode()
     }
 
-    /// The call as numbers, its kind first.
+    /// The call as numbers, starting with its kind.
     pub fn call_line(&self) -> String {
         format!("{} {:?}", wire::kind(&self.call), wire::down(&self.call))
     }
@@ -58,7 +58,7 @@ impl Case {
 /// A case read from the list.
 pub struct Listed {
     pub case: Case,
-    /// 1 the Rust, 2 the paper.
+    /// 1 for smartcore, 2 for the rules.
     pub judge: u64,
     pub answer: Vec<u64>,
 }
@@ -72,7 +72,7 @@ pub fn parse(line: &str) -> Listed {
     let answer = numbers[call + 1..].to_vec();
     assert_eq!(numbers[call] as usize, answer.len(), "an answer cut short");
     let judge = numbers[1];
-    // of a refusal, the list's own answer is all that the first judge can be held to
+    // for a refusal, the first judge can only be compared with the answer in the list
     let refusal = if judge == 1 { 0 } else { answer[0] as u32 };
     Listed {
         case: Case {
@@ -84,7 +84,7 @@ pub fn parse(line: &str) -> Listed {
     }
 }
 
-/// All cases of a list, as many as its first line says.
+/// All cases of a list; their number must be the one in its first line.
 pub fn read_list(file: &str) -> Vec<Listed> {
     let text = std::fs::read_to_string(file).expect("a list to read");
     let mut lines = text.lines();

@@ -1,4 +1,4 @@
-//! The public calls with all that they are given, owned, and how long their lent rooms are.
+//! The public calls with everything that they are given, and the lengths of their rooms.
 
 /// A fit of one tree, or of a forest. One tree has no cut tables, starts or report columns.
 #[derive(Clone, Debug, Default)]
@@ -10,7 +10,7 @@ pub struct Fit {
     pub limit: Option<u16>,
     pub least_leaf: u32,
     pub least_split: u32,
-    /// None only in a forest.
+    /// `None` only in a forest.
     pub tried: Option<u32>,
     pub random: bool,
     pub x: Vec<f64>,
@@ -42,14 +42,14 @@ impl Fit {
         self.counts[tree * self.rows + row] > 0 && weight > 0.0
     }
 
-    /// The node room that a tree asks.
+    /// The number of nodes that a tree requires room for.
     pub fn asked(&self, tree: usize) -> usize {
         let kept = (0..self.rows).filter(|&row| self.kept(tree, row)).count();
         (2 * kept).max(2) - 1
     }
 }
 
-/// Node columns lent to a reader.
+/// Node columns given to a reader.
 #[derive(Clone, Debug, Default)]
 pub struct Table {
     pub value: Vec<f64>,
@@ -61,7 +61,7 @@ pub struct Table {
 }
 
 impl Table {
-    /// The shortest column counts.
+    /// The number of nodes, which is the length of the shortest column.
     pub fn room(&self) -> usize {
         let floats = self.value.len().min(self.threshold.len());
         let numbers = self.feature.len().min(self.true_child.len());
@@ -102,7 +102,7 @@ pub const READERS: [Reader; 11] = [
     Reader::Node,
 ];
 
-/// A reader or a check. What a reader does not take stays empty.
+/// A reader or a check. Whatever it does not use is empty.
 #[derive(Clone, Debug, Default)]
 pub struct Read {
     pub reader: Reader,
@@ -119,7 +119,7 @@ pub struct Read {
     pub means: Vec<f64>,
     /// The number of the node to be read out.
     pub node: usize,
-    /// The result room's length.
+    /// The length of the result room.
     pub out: usize,
 }
 

@@ -1,4 +1,4 @@
-//! A small seeded generator of its own, so that every run makes the same inputs.
+//! A small random number generator with a seed, so that every run makes the same inputs.
 
 #[derive(Clone)]
 pub struct Chance(u64);
@@ -20,7 +20,7 @@ impl Chance {
         (self.word() % n as u64) as usize
     }
 
-    /// A number from `low` to `high`, both possible.
+    /// A number from `low` to `high`, both included.
     pub fn within(&mut self, low: usize, high: usize) -> usize {
         low + self.below(high - low + 1)
     }

@@ -1,6 +1,6 @@
-//! Edits of one operator, read from a text file, and put into a copy of the sources one at a time.
+//! Edits of a single operator, read from a text file and made in a copy of the sources one at a time.
 
-/// `FILE :: OLD ==> NEW`; a line that begins with `same` is an edit that shows nowhere.
+/// `FILE :: OLD ==> NEW`; a line that begins with `same` is an edit that changes no result.
 pub struct Mutant {
     pub same: bool,
     pub file: String,
@@ -30,8 +30,8 @@ pub fn parse(text: &str) -> Vec<Mutant> {
         .collect()
 }
 
-/// Put it into the sources under `to`, all others being as they are under `from`.
-/// The old text must stand in its file exactly once.
+/// Makes one edit in the sources under `to`, where everything else is as under `from`.
+/// The old text must occur in its file exactly once.
 pub fn apply(mutants: &[Mutant], number: usize, from: &str, to: &str) {
     let mutant = &mutants[number];
     let text = read(from, &mutant.file);

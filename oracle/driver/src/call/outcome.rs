@@ -1,4 +1,4 @@
-//! What a call leaves, as numbers: what it told, and each lent room after it.
+//! What a call leaves, as numbers: what it returns, and each room after it.
 
 /// Rooms are filled with this before a call: nines, and true for flags.
 pub const FILL: u64 = 9;
@@ -10,14 +10,14 @@ pub struct Outcome {
     pub rooms: Vec<Room>,
 }
 
-/// A room's entries, and what an untouched entry is.
+/// The entries of a room, and the value of an entry that was not touched.
 #[derive(Clone, Debug, PartialEq)]
 pub struct Room {
     pub fill: u64,
     pub entries: Vec<u64>,
 }
 
-/// All NaNs count as one.
+/// All NaNs count as equal.
 pub fn bits(f: f64) -> u64 {
     if f.is_nan() {
         0x7FF8_0000_0000_0000
@@ -48,7 +48,7 @@ impl Room {
         }
     }
 
-    /// Untouched: 1. All zero: 0. Else 2, how many entries stand before the untouched rest, and these.
+    /// Untouched: 1. All zero: 0. Otherwise 2, the number of entries before the untouched rest, and these entries.
     fn encode(&self, into: &mut Vec<u64>) {
         let written = self.entries.iter().rposition(|e| *e != self.fill);
         match written {
@@ -63,7 +63,7 @@ impl Room {
 }
 
 impl Outcome {
-    /// Told numbers, then each room. No two outcomes of one call have the same numbers.
+    /// The returned numbers, then each room. Different outcomes of a call never give the same numbers.
     pub fn encode(&self) -> Vec<u64> {
         let mut numbers = self.told.clone();
         for room in &self.rooms {

@@ -1,6 +1,6 @@
-//! Floats that are hard on growth: ties, zeros of both signs, subnormals, neighbours, sums that overflow.
+//! Floats that are difficult for growth: ties, zeros of both signs, subnormals, neighbouring floats, sums that overflow.
 
-use crate::chance::Chance;
+use crate::make::chance::Chance;
 
 const EDGES: [f64; 16] = [
     0.0, -0.0, 1.0, -1.0, 2.0, 0.5, 1.7e308, -1.7e308, 5e-324, -5e-324, 2.3e-308, 1e300, -1e300,
@@ -51,7 +51,7 @@ pub fn finite(chance: &mut Chance, n: usize) -> Vec<f64> {
     (0..n).map(|_| one(chance)).collect()
 }
 
-/// Weights: none at all (an empty list), or a list with zeros, tiny and huge ones.
+/// Weights: none at all (an empty list), or a list with zeros, tiny and huge numbers.
 pub fn weights(chance: &mut Chance, n: usize) -> Vec<f64> {
     let kind = chance.below(12);
     let one = |chance: &mut Chance| match kind {
@@ -71,7 +71,7 @@ pub fn weights(chance: &mut Chance, n: usize) -> Vec<f64> {
     (0..n).map(|_| one(chance)).collect()
 }
 
-/// Floats that a reader may be lent: any bits, NaN and the infinities among them.
+/// Floats that a reader may be given: any bits, including NaN and the infinities.
 pub fn anything(chance: &mut Chance, n: usize) -> Vec<f64> {
     let mut list = finite(chance, n);
     for f in list.iter_mut() {

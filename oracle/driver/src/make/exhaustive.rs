@@ -1,9 +1,9 @@
-//! Small inputs, all of them.
+//! All inputs of small sizes.
 
-use crate::calls::{Fit, Read, Reader, Table};
-use crate::case::Case;
-use crate::chance::Chance;
-use crate::make_fit;
+use crate::call::calls::{Fit, Read, Reader, Table};
+use crate::judge::case::Case;
+use crate::make::chance::Chance;
+use crate::make::fit as make_fit;
 
 /// Every list of `n` entries from `from`.
 fn lists<T: Clone>(from: &[T], n: usize) -> Vec<Vec<T>> {
@@ -129,9 +129,9 @@ pub fn words(mut each: impl FnMut(Case)) {
     }
 }
 
-/// Every table of up to three nodes with children from 0 to 3 and a feature of two, one in range: its check, and
-/// each of its nodes read out, and the one past its end.
-/// The good ones are known by listing what a good node can hold.
+/// Every table of up to three nodes with children from 0 to 3 and one of two features, only one of them in range. Each table
+/// is checked, and each of its nodes and the one past the end are read out.
+/// Which tables are valid is known from a list of what a valid node can contain.
 pub fn tables(mut each: impl FnMut(Case)) {
     let mut entries = Vec::new();
     for children in lists(&[0, 1, 2, 3], 2) {
@@ -164,7 +164,7 @@ pub fn tables(mut each: impl FnMut(Case)) {
     }
 }
 
-/// Of children and features, with floats that tell nodes and columns apart.
+/// A table of these children and features, with floats that differ between nodes and columns.
 fn table(tree: &[(u32, u32, u32)]) -> Table {
     let floats = |from: f64| (0..tree.len()).map(|at| from + at as f64).collect();
     Table {
@@ -177,7 +177,7 @@ fn table(tree: &[(u32, u32, u32)]) -> Table {
     }
 }
 
-/// Every listing of up to three rows over row numbers 0 to 3; the good ones are known by making them.
+/// Every listing of up to three rows with row numbers 0 to 3; the valid ones are known because they are also made separately.
 pub fn checks(mut each: impl FnMut(Case)) {
     for rows in 1..=3 {
         for x in lists(&[0.0, -0.0, 1.0], rows) {

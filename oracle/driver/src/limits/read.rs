@@ -1,11 +1,12 @@
 //! Readers and checks at the limits of rows, features, trees and nodes.
 
-use crate::calls::{Read, Reader, Table};
-use crate::case::Case;
-use crate::chance::Chance;
-use crate::floats;
-use crate::make_fit;
-use crate::make_read::{self, is_forest};
+use crate::call::calls::{Read, Reader, Table};
+use crate::judge::case::Case;
+use crate::make::chance::Chance;
+use crate::make::fit as make_fit;
+use crate::make::floats;
+use crate::make::read as make_read;
+use crate::make::read::is_forest;
 
 const ROWS: usize = 65_535;
 const FEATURES: usize = 1_024;
@@ -42,7 +43,7 @@ pub fn each(chance: &mut Chance, mut hold: impl FnMut(Case)) {
     hold(chain());
 }
 
-/// Over a good table, and over one whose last node is bad: a leaf with one child.
+/// A call on a valid table, and on one whose last node is wrong: a leaf with one child.
 fn over(
     chance: &mut Chance,
     reader: Reader,
@@ -87,7 +88,7 @@ fn over(
     hold(Case::read(read, 8));
 }
 
-/// Good ones, and such whose last place has the first one's row, or one past the last.
+/// Valid listings, and ones whose last entry repeats the first, or is one past the last row.
 fn listings(chance: &mut Chance, rows: usize, features: usize, hold: &mut impl FnMut(Case)) {
     let x: Vec<f64> = (0..rows * features).map(|_| chance.unit()).collect();
     let mut read = Read {
@@ -106,7 +107,7 @@ fn listings(chance: &mut Chance, rows: usize, features: usize, hold: &mut impl F
     }
 }
 
-/// Every node but the last two splits, into the two after it: a walk by the true children is as long as there is.
+/// Every node except the last two is split into the two after it, so the path along the true children is the longest possible.
 fn chain() -> Case {
     let splits = NODES as u32 - 2;
     let child = |more: u32| (0..splits).map(move |n| n + more).chain([0, 0]).collect();

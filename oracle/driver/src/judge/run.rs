@@ -1,8 +1,8 @@
-//! Runs a call through a library, in rooms filled with nines, and tells what it left.
+//! Makes a call of a library, in rooms filled with nines, and returns what it left.
 
-use crate::calls::{Call, Fit, Lengths, Read, Reader, Table};
-use crate::library::Library;
-use crate::outcome::{FILL, FILL_FLOAT, Outcome, Room, bits};
+use crate::call::calls::{Call, Fit, Lengths, Read, Reader, Table};
+use crate::call::outcome::{FILL, FILL_FLOAT, Outcome, Room, bits};
+use crate::judge::library::Library;
 use paper::{
     Columns, Cuts, Divisor, Draws, ForestCall, ForestRooms, Given, Reports, Settings, Splitter,
     TreeCall, TreeRooms, Waiting, Work,
@@ -25,7 +25,7 @@ const WAITING: Waiting = Waiting {
     mass: FILL_FLOAT,
 };
 
-/// Rooms of the lengths asked, all nines.
+/// Rooms of the given lengths, filled with nines.
 struct Owned {
     floats: [Vec<f64>; 3],
     numbers: [Vec<u32>; 3],
@@ -112,7 +112,7 @@ impl Owned {
     }
 }
 
-/// An entry counts as a whole: 9 untouched, 0 zero, and 1 for anything else.
+/// An entry counts as a whole: 9 if it is untouched, 0 if it is zero, and 1 for anything else.
 fn waiting_room(list: &[Waiting]) -> Room {
     let entry = |w: &Waiting| match *w {
         w if w == WAITING => FILL as u32,

@@ -1,8 +1,8 @@
-//! Damaged copies of good reader calls, each with the refusal that it should give.
+//! Damaged copies of valid reader calls, each with the refusal that it should give.
 
-use crate::calls::{Read, Reader};
-use crate::chance::Chance;
-use crate::make_read::is_forest;
+use crate::call::calls::{Read, Reader};
+use crate::make::chance::Chance;
+use crate::make::read::is_forest;
 
 /// The refusals that a call can give, in the order of its checks.
 fn order(reader: Reader) -> &'static [u32] {
@@ -19,7 +19,7 @@ fn order(reader: Reader) -> &'static [u32] {
     }
 }
 
-/// Damage in one to three ways, the last check's first; the first check's is what should come out.
+/// Damages a call in one to three ways, starting with the last check; the expected refusal is that of the first check.
 pub fn damage(chance: &mut Chance, read: &mut Read) -> u32 {
     let order = order(read.reader);
     let mut checks: Vec<usize> = (0..chance.within(1, 3))
@@ -88,7 +88,7 @@ fn sizes(chance: &mut Chance, read: &mut Read) -> bool {
 fn lengths(chance: &mut Chance, read: &mut Read) -> bool {
     let second = chance.one_in(2);
     if chance.one_in(4) {
-        // the largest sizes there are, which the lists do not have
+        // the largest sizes, which the lists do not have
         match read.reader {
             Reader::OutOfBagMeans => read.features = 1_024,
             Reader::OutOfBagError => read.rows = 65_535,
@@ -132,7 +132,7 @@ fn listing(chance: &mut Chance, read: &mut Read) -> bool {
 fn rooms(chance: &mut Chance, read: &mut Read) -> bool {
     let has_result = read.reader != Reader::CheckForest;
     if is_forest(read.reader) && chance.one_in(4) && read.reader != Reader::OutOfBagMeans {
-        // the most trees there are, for which the starts are too short
+        // the largest number of trees, for which there are too few starts
         read.trees = 1_024;
     } else if is_forest(read.reader) && (chance.one_in(2) || !has_result) {
         let short = chance.pick(&[read.trees, read.trees, 0]);
@@ -143,7 +143,7 @@ fn rooms(chance: &mut Chance, read: &mut Read) -> bool {
     true
 }
 
-/// A bad table: starts that do not rise from 0 to an end within, or a node whose children or feature are wrong.
+/// A damaged table: starts that do not increase from 0 to an end within the columns, or a node with wrong children or a wrong feature.
 fn table(chance: &mut Chance, read: &mut Read) -> bool {
     if is_forest(read.reader) && chance.one_in(2) {
         return starts(chance, read);

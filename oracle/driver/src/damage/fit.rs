@@ -1,10 +1,10 @@
-//! Damaged copies of good fits, each with the refusal that it should give.
+//! Damaged copies of valid fits, each with the refusal that it should give.
 
-use crate::calls::Fit;
-use crate::chance::Chance;
+use crate::call::calls::Fit;
+use crate::make::chance::Chance;
 
-/// Damage a good fit in one to three ways. The later numbers are done first, so that each damage stays one;
-/// the lowest number is what the checks, made in order, should give.
+/// Damages a valid fit in one to three ways. Higher numbers are done first, so that no damage undoes another;
+/// the checks are made in order, so the lowest number is expected.
 pub fn damage(chance: &mut Chance, fit: &mut Fit) -> u32 {
     let mut numbers: Vec<u32> = (0..chance.within(1, 3))
         .map(|_| chance.within(1, 6) as u32)
@@ -51,7 +51,7 @@ fn lengths(chance: &mut Chance, fit: &mut Fit) -> bool {
         0 => wrong_length(chance, &mut fit.x),
         1 => wrong_length(chance, &mut fit.y),
         2 => {
-            // an empty list would stand for no weights
+            // an empty list would mean no weights
             let length = fit.rows + 1;
             fit.weights.resize(length, 1.0);
             if fit.rows > 1 && chance.one_in(2) {
@@ -60,7 +60,7 @@ fn lengths(chance: &mut Chance, fit: &mut Fit) -> bool {
         }
         3 => wrong_length(chance, &mut fit.counts),
         4 => wrong_length(chance, &mut fit.listings),
-        // the largest sizes there are, which the lists do not have
+        // the largest sizes, which the lists do not have
         5 => match chance.below(if fit.forest { 3 } else { 2 }) {
             0 => fit.rows = 65_535,
             1 => fit.features = 1_024,
@@ -83,7 +83,7 @@ fn cut_table(chance: &mut Chance, fit: &mut Fit, words: bool) {
         1 => table.push(table[trees]),
         2 => table[0] += 1,
         3 => table[trees] = table[trees].wrapping_add(chance.pick(&[1, u64::MAX, 1 << 40])),
-        // a fall, with the last still the tape's length; with one tree only the last can be wrong
+        // a decrease, while the last cut is still the length of the tape; with one tree only the last cut can be wrong
         _ if trees > 1 => {
             let at = chance.within(1, trees - 1);
             table[at] = table[trees] + 1;
@@ -124,7 +124,7 @@ fn listings(chance: &mut Chance, fit: &mut Fit) -> bool {
     let place = chance.below(rows);
     let found = match chance.below(3) {
         0 => Some((place, chance.pick(&[rows as u32, u32::MAX]))),
-        // a row twice, beside itself or far off
+        // a row twice, next to itself or far away
         1 if rows > 1 => Some((place, listing[(place + chance.within(1, rows - 1)) % rows])),
         _ => None,
     };
@@ -132,7 +132,7 @@ fn listings(chance: &mut Chance, fit: &mut Fit) -> bool {
         fit.listings[feature * rows + place] = row;
         return true;
     }
-    // two rows exchanged, so that a value falls
+    // two rows swapped, so that a value decreases
     let falls: Vec<usize> = (1..rows)
         .filter(|&at| value(listing[at - 1]) < value(listing[at]))
         .collect();
@@ -165,7 +165,7 @@ fn rooms(chance: &mut Chance, fit: &mut Fit) -> bool {
     true
 }
 
-/// Draws that may be bad: whether a search takes them, and which, is the judges' to say.
+/// Draws that may be bad: whether a search uses them, and which one does, is for the judges to decide.
 pub fn draws(chance: &mut Chance, fit: &mut Fit) {
     match chance.below(5) {
         0 => cut_short(chance, fit),
@@ -186,7 +186,7 @@ pub fn draws(chance: &mut Chance, fit: &mut Fit) {
     }
 }
 
-/// One tree's part of a tape, shorter.
+/// Makes one tree's part of a tape shorter.
 fn cut_short(chance: &mut Chance, fit: &mut Fit) {
     let tree = chance.below(fit.trees);
     let words = chance.one_in(2);

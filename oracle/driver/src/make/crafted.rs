@@ -1,9 +1,9 @@
-//! Cases thought out for one clause each, which chance does not meet in small inputs.
+//! Cases made by hand for one clause each, which small random inputs do not reach.
 
-use crate::calls::{Fit, Read, Reader, Table};
-use crate::case::Case;
-use crate::chance::Chance;
-use crate::make_fit;
+use crate::call::calls::{Fit, Read, Reader, Table};
+use crate::judge::case::Case;
+use crate::make::chance::Chance;
+use crate::make::fit as make_fit;
 
 fn finished(mut fit: Fit) -> Case {
     make_fit::rooms(&mut Chance::new(0), &mut fit);
@@ -29,8 +29,8 @@ pub fn cases() -> Vec<Case> {
     cases
 }
 
-/// By row number the masses add up to 1e16, in the first column's order to 1e16 + 2: the false side has -2.
-/// Its proxy is 0 by the test, as the second column's is, so the first cut stays.
+/// Added up by row number the masses are 1e16, in the order of the first column 1e16 + 2, so the false side has -2.
+/// The test makes its proxy 0, as that of the second column is, so the first cut is kept.
 fn below_zero() -> Case {
     finished(Fit {
         rows: 4,
@@ -50,7 +50,7 @@ fn below_zero() -> Case {
     })
 }
 
-/// A threshold of -0 at a lowest value of +0 is taken, and stored as it is.
+/// A threshold of -0 is accepted where the lowest value is +0, and is stored unchanged.
 fn minus_zero_drawn() -> Fit {
     Fit {
         rows: 2,
@@ -70,7 +70,7 @@ fn minus_zero_drawn() -> Fit {
     }
 }
 
-/// One row is searched as well, if it reaches least split, and takes words but no threshold.
+/// A single row is searched too, if it reaches the least split, and uses words but no threshold.
 fn one_row(least_split: u32) -> Fit {
     Fit {
         x: vec![0.0],
@@ -85,7 +85,7 @@ fn one_row(least_split: u32) -> Fit {
     }
 }
 
-/// Least split 0 is reached by nothing, which is still not searched: no words are asked.
+/// Even no rows at all reach a least split of 0, but they are not searched: no words are required.
 fn nothing_kept() -> Fit {
     Fit {
         least_split: 0,
@@ -107,7 +107,7 @@ fn no_mean_at_all() -> Case {
     Case::read(read, 0)
 }
 
-/// The first tree would be good and the last start is within the columns: only the fall is wrong.
+/// The first tree would be valid and the last start is within the columns: only that the starts decrease is wrong.
 fn falling_starts() -> Case {
     let read = Read {
         reader: Reader::ForestMeans,
@@ -144,8 +144,8 @@ pub fn default_tried(features: usize) -> Vec<Case> {
     vec![case(root - 1), case(root.min(features - 1))]
 }
 
-/// Two trees whose parts of the tapes are longer than they take, or a word or a threshold too short though the
-/// next tree's part would have it; at last cut tables that fall.
+/// Two trees whose parts of the tapes are longer than they use, or are one word or threshold too short although the
+/// next tree's part has more; and finally cut tables that decrease.
 fn own_parts() -> Vec<Case> {
     let parts = |words: u64, thresholds: u64, refusal: u32| {
         let mut fit = Fit {
@@ -228,7 +228,7 @@ fn orders() -> Vec<Case> {
     .collect()
 }
 
-/// Seven nodes, of which the first three split, by these features.
+/// Seven nodes, of which the first three are split by these features.
 fn splits(by: [u32; 3], features: usize) -> Read {
     let mut table = Table {
         value: vec![0.0; 7],
@@ -257,7 +257,7 @@ fn splits(by: [u32; 3], features: usize) -> Read {
     }
 }
 
-/// A node read out of three that are a root and its leaves, the leaves with entries that are not theirs to tell.
+/// A node read out of a root and its two leaves; the leaves have entries that must not be returned.
 fn node_of(change: impl Fn(&mut Read)) -> Read {
     let mut read = Read {
         reader: Reader::Node,
@@ -276,8 +276,8 @@ fn node_of(change: impl Fn(&mut Read)) -> Read {
     read
 }
 
-/// Each node, and what there is none of; features at and past their ends; faults in another node than the one
-/// asked for, or beside a number that no node has.
+/// Each node, and numbers that no node has; features at and past their limits; faults in another node than the one
+/// that is read, or together with a number that no node has.
 fn nodes_read() -> Vec<Case> {
     let case = |refusal: u32, change: fn(&mut Read)| Case::read(node_of(change), refusal);
     vec![
@@ -291,13 +291,13 @@ fn nodes_read() -> Vec<Case> {
         case(1, |read| read.features = 0),
         case(1, |read| read.features = 1_025),
         case(1, |read| (read.features, read.node) = (1_025, 3)),
-        // the feature is past the last, in the node asked for and in another
+        // the feature is past the last, in the node that is read and in another
         case(8, |read| read.features = 1),
         case(8, |read| (read.features, read.node) = (1, 2)),
         case(8, |read| (read.features, read.node) = (1, 3)),
         case(8, |read| read.table.true_child[2] = 1),
         case(8, |read| (read.table.true_child[2], read.node) = (1, 3)),
-        // the shortest column counts: a child is cut off, all is, or four columns go on behind the last node
+        // the shortest column decides: a child is cut off, everything is, or four columns continue after the last node
         case(8, |read| read.table.score.truncate(2)),
         case(8, |read| read.table.value.clear()),
         case(0, |read| {

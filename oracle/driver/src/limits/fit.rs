@@ -1,10 +1,10 @@
 //! Inputs at the limits of rows, features, trees and counts.
 
-use crate::calls::Fit;
-use crate::case::Case;
-use crate::chance::Chance;
-use crate::crafted;
-use crate::make_fit;
+use crate::call::calls::Fit;
+use crate::judge::case::Case;
+use crate::make::chance::Chance;
+use crate::make::crafted;
+use crate::make::fit as make_fit;
 
 fn finished(chance: &mut Chance, mut fit: Fit) -> Case {
     fit.listings = make_fit::listings(chance, fit.rows, fit.features, &fit.x);
@@ -102,14 +102,14 @@ fn chain(chance: &mut Chance) -> Case {
     chain_of(chance, rows, limit)
 }
 
-/// All rows in a chain: the greatest depth that there is.
+/// All rows in a chain: the greatest depth that is possible.
 pub fn longest(chance: &mut Chance, mut hold: impl FnMut(Case)) {
     for limit in [None, Some(65_535), Some(65_534)] {
         hold(chain_of(chance, 65_535, limit));
     }
 }
 
-/// Each split takes one row off: as deep as rows allow.
+/// Each split removes one row, so the tree is as deep as the number of rows allows.
 fn chain_of(chance: &mut Chance, rows: usize, limit: Option<u16>) -> Case {
     let mut fit = Fit {
         rows,

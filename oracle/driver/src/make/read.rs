@@ -1,9 +1,9 @@
-//! Calls of the readers and checks, over good tables of any kind and over damaged ones.
+//! Calls of the readers and checks, on valid tables of any kind.
 
-use crate::calls::{READERS, Read, Reader, Table};
-use crate::chance::Chance;
-use crate::floats;
-use crate::make_fit;
+use crate::call::calls::{READERS, Read, Reader, Table};
+use crate::make::chance::Chance;
+use crate::make::fit as make_fit;
+use crate::make::floats;
 
 pub fn read(chance: &mut Chance) -> Read {
     let reader = chance.pick(&READERS);
@@ -29,18 +29,18 @@ pub fn read(chance: &mut Chance) -> Read {
     read
 }
 
-/// The number of a node inside the tree, or of one that it has not: just past its end, or far out.
+/// The number of a node in the tree, or of one that it does not have: just past its end, or far beyond it.
 fn node(chance: &mut Chance, nodes: usize) -> usize {
     match chance.below(6) {
         0 => nodes + chance.below(2),
-        // the last 32 bits of 1 << 32 are a node's number
+        // the low 32 bits of 1 << 32 are the number of a node
         1 => chance.pick(&[usize::MAX, 1 << 32, u32::MAX as usize]),
         2 => nodes - 1,
         _ => chance.below(nodes),
     }
 }
 
-/// The listing check alone takes NaN values, and nothing is below a NaN.
+/// Only the listing check accepts NaN values, and nothing is lower than a NaN.
 fn nan_somewhere(chance: &mut Chance, read: &mut Read) {
     if chance.one_in(4) {
         let at = chance.below(read.x.len());
@@ -98,7 +98,7 @@ fn over_table(chance: &mut Chance, read: &mut Read, rows: usize) {
     }
 }
 
-/// Trees one after another; entries and starts may go on behind the last.
+/// Trees one after another; there may be further entries and starts after the last.
 fn forest(chance: &mut Chance, read: &mut Read) {
     read.trees = chance.within(1, 4);
     read.starts.push(0);
@@ -133,8 +133,8 @@ pub fn join(table: &mut Table, next: Table) {
     table.false_child.extend(next.false_child);
 }
 
-/// A good tree: a split's true child is any later number that has a next one, so children may be shared and
-/// nodes unreached; a leaf holds anything. Columns may go on for up to `longer` more entries.
+/// A valid tree: the true child of a split is any later node except the last, so children may be shared and nodes
+/// unreachable; the other entries of a leaf are arbitrary. Columns may have up to `longer` further entries.
 pub fn tree(chance: &mut Chance, nodes: usize, features: usize, longer: usize) -> Table {
     let mut table = Table {
         value: floats::anything(chance, nodes),
@@ -142,7 +142,7 @@ pub fn tree(chance: &mut Chance, nodes: usize, features: usize, longer: usize) -
         score: floats::anything(chance, nodes),
         ..Table::default()
     };
-    // scores as a fit gives them, not below 0, half of the time
+    // half of the time scores as a fit gives them, not below 0
     if chance.one_in(2) {
         table.score = floats::finite(chance, nodes)
             .iter()
@@ -163,7 +163,7 @@ pub fn tree(chance: &mut Chance, nodes: usize, features: usize, longer: usize) -
         table.true_child.push(on_true);
         table.false_child.push(if splits { on_true + 1 } else { 0 });
     }
-    // one column stays as it is, so that the shortest is the tree
+    // two columns are not extended, so that the shortest one is the tree
     if longer > 0 && chance.one_in(2) {
         table
             .value

@@ -1,12 +1,12 @@
-//! What should come out: the copy's answer where the Rust has one; else the refusal that the maker of the
-//! input knows of, with every lent room as it was.
+//! The expected answer: that of the copy if smartcore has one; otherwise the refusal for the fault in the input, with every room
+//! unchanged.
 
-use crate::calls::{Call, Fit, Read, Reader};
-use crate::make_fit::{data, params, tree_counts};
-use crate::outcome::{FILL, FILL_FLOAT, Outcome, Room, bits};
+use crate::call::calls::{Call, Fit, Read, Reader};
+use crate::call::outcome::{FILL, FILL_FLOAT, Outcome, Room, bits};
+use crate::judge::copied::{data, params, tree_counts};
 use copy::harness::{self, Grown, NodeRecord, Readable, Tape};
 
-/// `refusal` is what the maker knows of: 0 for none but, in a fit, perhaps a bad draw.
+/// `refusal` is the one for the fault in the input: 0 for none, although a draw of a fit may be bad.
 pub fn expect(call: &Call, refusal: u32) -> Outcome {
     match call {
         Call::Fit(fit) => expect_fit(fit, refusal),
@@ -14,7 +14,7 @@ pub fn expect(call: &Call, refusal: u32) -> Outcome {
     }
 }
 
-/// Which judge an answer comes from: 1 the Rust, 2 the paper.
+/// Which judge an answer comes from: 1 for smartcore, 2 for the rules.
 pub fn judge(call: &Call, refusal: u32) -> u64 {
     let has = |read: &Read| {
         !matches!(
@@ -40,7 +40,7 @@ fn part<T: Clone>(tape: &[T], cuts: &[u64], tree: usize) -> Vec<T> {
     }
 }
 
-/// One tree of an accepted fit by the copy, played from its part of the tapes.
+/// One tree of an accepted fit, grown by the copy from its part of the tapes.
 pub fn grow(fit: &Fit, tree: usize) -> Result<Grown, usize> {
     let tape = Tape {
         words: part(&fit.words, &fit.word_cuts, tree),
@@ -68,7 +68,7 @@ pub fn columns(nodes: &[NodeRecord]) -> [Vec<u64>; 6] {
     ]
 }
 
-/// What is reported of a tree.
+/// What is reported about a tree.
 fn numbers(grown: &Grown, nodes: &[NodeRecord]) -> [u64; 6] {
     [
         nodes.len() as u64,
@@ -83,7 +83,7 @@ fn numbers(grown: &Grown, nodes: &[NodeRecord]) -> [u64; 6] {
 const NODE_FLOATS: [bool; 6] = [true, false, true, true, false, false];
 const REPORT_FLOATS: [bool; 6] = [false, false, true, false, false, false];
 
-/// A room's entries before the call.
+/// The entries of a room before the call.
 fn untouched(length: usize, float: bool) -> Room {
     let fill = if float { FILL_FLOAT.to_bits() } else { FILL };
     Room {
@@ -180,7 +180,7 @@ fn records(read: &Read, from: usize, to: usize) -> Vec<NodeRecord> {
         .collect()
 }
 
-/// A good table's trees for the copy's readers.
+/// The trees of a valid table for the copy's readers.
 fn readable(read: &Read, forest: bool) -> Readable {
     let bounds: Vec<(usize, usize)> = match forest {
         true => (0..read.trees)
@@ -214,7 +214,7 @@ fn expect_read(read: &Read, refusal: u32) -> Outcome {
     Outcome { told, rooms }
 }
 
-/// The copy's results over a good table.
+/// The copy's results for a valid table.
 fn results(read: &Read) -> Vec<f64> {
     let (rows, x) = (read.rows, &read.x);
     match read.reader {
@@ -228,7 +228,7 @@ fn results(read: &Read) -> Vec<f64> {
     }
 }
 
-/// The Rust has no such figure; this is the driver's own way to reckon it.
+/// smartcore does not compute this error, so the driver does.
 fn expect_error(read: &Read, refusal: u32) -> u64 {
     if refusal != 0 {
         return 0;
@@ -240,7 +240,7 @@ fn expect_error(read: &Read, refusal: u32) -> u64 {
     bits(sum / read.rows as f64)
 }
 
-/// After the refusal: whether the node is there, and its entries, of a leaf the value alone.
+/// What follows the refusal: whether the node exists, and its entries; for a leaf only the value.
 fn expect_node(read: &Read, refusal: u32) -> [u64; 7] {
     if refusal != 0 || read.node >= read.table.room() {
         return [0; 7];
