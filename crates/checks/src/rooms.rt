@@ -55,30 +55,6 @@ pub fn forest_room(weights: &[f64], counts: &[u32], rows: usize, trees: usize) -
     sum
 }
 
-pub fn least(a: usize, b: usize) -> usize
-    ensures { λ r. ⌜ r ≡ min a b ⌝ }
-{
-    if a <= b { a } else { b }
-}
-
-// Node room is as long as its shortest column.
-pub fn shortest_of(
-    value: usize,
-    feature: usize,
-    threshold: usize,
-    score: usize,
-    truechild: usize,
-    falsechild: usize,
-) -> usize
-    ensures { λ r. ⌜ r ≡ min value (min feature (min threshold (min score (min truechild falsechild)))) ⌝ }
-{
-    let children = least(truechild, falsechild);
-    let scored = least(score, children);
-    let cut = least(threshold, scored);
-    let known = least(feature, cut);
-    least(value, known)
-}
-
 fn larger(a: usize, b: usize) -> usize
     ensures { λ r. ⌜ r ≡ max a b ⌝ }
 {

@@ -192,9 +192,3 @@ pub fn tried_of(features: u32, tried: Tried) -> u32
         Tried::Number(n) => n,
     }
 }
-
-pub fn wide(x: u32) -> usize
-    ensures { λ r. ⌜ r ≡ x ⌝ }
-{
-    x as usize
-}

@@ -1,4 +1,4 @@
--- What the paper states of a fit's numbers. The root mass is the sum of all rows' masses by number, and the root's totals run likewise. The choice words used are
+-- What R10.3 and R10.4 state of a fit's numbers. The root mass is the sum of all rows' masses by number, and the root's totals run likewise. The choice words used are
 -- features times searches, and searches never exceed nodes. The node room that is asked is enough: a tree has at most max(1, 2 x kept rows - 1) nodes.
 -- The same of a forest, by the columns that it leaves: at each tree's place its root mass, words and searches; and the starts tell trees that lie one behind another,
 -- the sum of whose nodes is within the room. It holds of a forest because each of its trees is what the fit of that tree alone gives. Assumes nothing.

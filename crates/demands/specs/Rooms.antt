@@ -1,4 +1,4 @@
--- No fit answers in short rooms. Where a fit is not refused by 1 to 6, every slice that is lent to it is as long as the paper asks: the order features x rows, the scratch
+-- No fit answers in short rooms. Where a fit is not refused by 1 to 6, every slice that is lent to it is as long as R3.11 to R3.13 and R11.8 require: the order features x rows, the scratch
 -- rows, the flags as many as the rows and as many as the features, both slices of the waiting list rows, each node column what the trees may come to,
 -- max(1, 2 x kept rows - 1) a tree, the starts trees + 1; and each report column is as long as there are trees, no longer. And no fit is refused by 6 whose rooms are so.
 -- It holds because the sixth test says just that. Assumes nothing.

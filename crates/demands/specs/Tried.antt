@@ -13,7 +13,7 @@ FloorOfRoot = (n : ℕ) → IsRoot n (triedOf n Unsaid) × ((s : ℕ) → IsRoot
 pub tried-root : FloorOfRoot
 tried-root n = (is-root n, root-only n)
 
--- the paper's examples
+-- the examples of R11.2
 pub tried-examples : map (λ n. triedOf n Unsaid) (1 ∷ 3 ∷ 4 ∷ 8 ∷ 9 ∷ 1024 ∷ []) ≡ 1 ∷ 1 ∷ 2 ∷ 2 ∷ 3 ∷ 32 ∷ []
 unfolding triedOf squares
 tried-examples = refl

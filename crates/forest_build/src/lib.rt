@@ -99,7 +99,7 @@ pub fn note(
     ensures { λ e. ⌜ now (starts .exit) ≡ set (now (starts .entry)) (t + 1) (at + r .nodes) ⌝ }
     ensures { λ e. ⌜ _≡_ {A = Reports} (record { nodes = now (nodes .exit); depth = now (depth .exit); mass = now (mass .exit); searches = now (searches .exit); words = now (words .exit); thresholds = now (thresholds .exit) }) (putReport t r (record { nodes = now (nodes .entry); depth = now (depth .entry); mass = now (mass .entry); searches = now (searches .entry); words = now (words .entry); thresholds = now (thresholds .entry) })) ⌝ }
 {
-    let end = at + criterion::wide(r.nodes);
+    let end = at + slices::wide(r.nodes);
     let next = t + 1;
     starts[next] = end as u32;
     nodes[t] = r.nodes;

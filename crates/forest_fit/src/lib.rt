@@ -22,12 +22,12 @@ fn zero_reports(
     ensures { λ _. ⌜ _≡_ {A = Reports} (record { nodes = now (nodes .exit); depth = now (depth .exit); mass = now (mass .exit); searches = now (searches .exit); words = now (words .exit); thresholds = now (thresholds .exit) })
         (zeroReports (record { nodes = now (nodes .entry); depth = now (depth .entry); mass = now (mass .entry); searches = now (searches .entry); words = now (words .entry); thresholds = now (thresholds .entry) })) ⌝ }
 {
-    work_columns::zero_u32(nodes);
-    work_columns::zero_u32(depth);
-    work_columns::zero_f64(mass);
-    work_columns::zero_u32(searches);
-    work_columns::zero_u32(words);
-    work_columns::zero_u32(thresholds);
+    slices::zero_u32(nodes);
+    slices::zero_u32(depth);
+    slices::zero_f64(mass);
+    slices::zero_u32(searches);
+    slices::zero_u32(words);
+    slices::zero_u32(thresholds);
 }
 
 // Grown trees stay as they are; a bad draw leaves nodes, starts and reports zero.
@@ -53,7 +53,7 @@ fn leave(
     match r {
         Grove::Stopped(place) => {
             tree_fit::zero_nodes(value, feature, threshold, score, truechild, falsechild);
-            work_columns::zero_u32(starts);
+            slices::zero_u32(starts);
             zero_reports(nodes, depth, mass, searches, words, thresholds);
             ForestAnswer::BadDraw(place)
         }
@@ -100,7 +100,7 @@ pub fn fit_forest(
         (record { shape = shape; trees = trees; settings = settings; tried = tried; given = givenOf (now (values .entry)) (now (targets .entry)) (now (weights .entry)) (now (counts .entry)) (now (listings .entry)); words = now (words .entry); thresholds = now (thresholds .entry); wordStarts = now (wordstarts .entry); thresholdStarts = now (thresholdstarts .entry) })
         (record { nodes = record { value = now (value .entry); feature = now (feature .entry); threshold = now (threshold .entry); score = now (score .entry); trueChild = now (truechild .entry); falseChild = now (falsechild .entry) }; starts = now (starts .entry); reports = record { nodes = now (nodes .entry); depth = now (depth .entry); mass = now (mass .entry); searches = now (searches .entry); words = now (wordsused .entry); thresholds = now (thresholdsused .entry) }; work = record { order = now (order .entry); scratch = now (scratch .entry); flags = now (flags .entry); waiting = record { wholes = now (wholes .entry); reals = now (reals .entry) } } })) ⌝ }
 {
-    let places = checks::rooms::shortest_of(
+    let places = slices::shortest_of(
         value.len(),
         feature.len(),
         threshold.len(),

@@ -36,7 +36,7 @@ fn add_score(feature: u32, score: f64, truechild: u32, falsechild: u32, v: &mut 
     if is_leaf(truechild, falsechild) {
         return;
     }
-    let j = criterion::wide(feature);
+    let j = slices::wide(feature);
     v[j] = v[j] + score;
 }
 
@@ -77,7 +77,7 @@ fn score_tree(
     requires { ⌜ TreeLies (length (now v)) (columnsOf (now value) (now feature) (now threshold) (now score) (now truechild) (now falsechild)) a n ⌝ }
     ensures { λ _. ⌜ now (v .exit) ≡ scoresOf (length (now (v .entry))) (entriesAt (columnsOf (now (value .entry)) (now (feature .entry)) (now (threshold .entry)) (now (score .entry)) (now (truechild .entry)) (now (falsechild .entry))) a n) ⌝ }
 {
-    work_columns::zero_f64(v);
+    slices::zero_f64(v);
     add_scores(
         a,
         n,
@@ -109,7 +109,7 @@ fn tree_verdict(
     if room != features {
         return 6;
     }
-    let n = checks::rooms::shortest_of(
+    let n = slices::shortest_of(
         value.len(),
         feature.len(),
         threshold.len(),
@@ -161,7 +161,7 @@ pub fn tree_importances(
     if number != 0 {
         return Reply::Refused(number);
     }
-    let n = checks::rooms::shortest_of(
+    let n = slices::shortest_of(
         value.len(),
         feature.len(),
         threshold.len(),
@@ -235,8 +235,8 @@ fn add_trees(
     let mut t: usize = 0;
     while t < trees {
         let next = t + 1;
-        let a = criterion::wide(starts[t]);
-        let e = criterion::wide(starts[next]);
+        let a = slices::wide(starts[t]);
+        let e = slices::wide(starts[next]);
         let n = e - a;
         add_tree(
             a,
@@ -328,7 +328,7 @@ pub fn forest_importances(
         return Reply::Refused(number);
     }
     let mut own: [f64; 1024] = [0.0; 1024];
-    work_columns::zero_f64(out);
+    slices::zero_f64(out);
     add_trees(
         trees,
         starts,

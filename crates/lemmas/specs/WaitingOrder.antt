@@ -1,4 +1,4 @@
--- Growth, over any way to choose cuts. `pop`: the waiting list is a stack, its last to join split first, as the paper has it and as a loop goes.
+-- Growth, over any way to choose cuts. `pop`: the waiting list is a stack, its last to join split first, as R9.11 has it and as a loop goes.
 -- `all-keep`: what each split keeps, the whole growth keeps. `root-ends`: and what holds of each split's bad draw, holds of the growth's. Assumes nothing.
 use Prim.Native.Nat.{ℕ, zero, suc, _+_, _-_, _<_, max}
 use native.Mathlib.Omega.{arith}

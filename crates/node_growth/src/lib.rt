@@ -146,8 +146,8 @@ pub fn search_child(
             thresholds,
             rows,
             features,
-            criterion::wide(from),
-            criterion::wide(to),
+            slices::wide(from),
+            slices::wide(to),
             p,
             a,
             d,
@@ -194,8 +194,8 @@ pub fn split_node(
         flags,
         rows,
         features,
-        criterion::wide(w.start),
-        criterion::wide(w.end),
+        slices::wide(w.start),
+        slices::wide(w.end),
         c,
     );
     let a = s.trueside;
@@ -332,11 +332,11 @@ pub fn search_sides(
             order,
             rows,
             features,
-            criterion::wide(w.start),
-            criterion::wide(w.end),
+            slices::wide(w.start),
+            slices::wide(w.end),
             scratch,
             flags,
-            criterion::wide(w.feature),
+            slices::wide(w.feature),
         );
         let mid = w.start + h.rows;
         return search_both(

@@ -110,7 +110,7 @@ pub fn write_split(
         sum: w.sum,
         mass: w.mass,
     });
-    let k = criterion::wide(n);
+    let k = slices::wide(n);
     put_row(
         value,
         feature,
@@ -118,7 +118,7 @@ pub fn write_split(
         score,
         truechild,
         falsechild,
-        criterion::wide(w.node),
+        slices::wide(w.node),
         Row {
             value: v,
             feature: w.feature,

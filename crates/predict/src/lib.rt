@@ -108,7 +108,7 @@ fn predict_verdict(
     if places != shape.rows {
         return 6;
     }
-    let n = checks::rooms::shortest_of(
+    let n = slices::shortest_of(
         value.len(),
         feature.len(),
         threshold.len(),
@@ -162,7 +162,7 @@ pub fn predict_tree(
     if number != 0 {
         return Reply::Refused(number);
     }
-    let n = checks::rooms::shortest_of(
+    let n = slices::shortest_of(
         value.len(),
         feature.len(),
         threshold.len(),

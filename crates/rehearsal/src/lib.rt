@@ -1,1 +1,1 @@
-// The paper's rehearsal table, computed over the rules: specs/ holds it, and there is no code.
+// The rehearsal table of docs/RULES.md, computed from the definitions: specs/ holds it, and there is no code.

@@ -25,22 +25,24 @@ use Rattle.rules.specs.Growth.{TreeNode, State, fromRoot}
 
 -- ---- the root
 
--- a row as growth sees it
+-- R10.1: a row as growth sees it
 unfoldable pub elementIn : ℕ → List Float → List Float → List Float → List ℕ → ℕ → Element
 elementIn features values targets weights counts i =
     record { row = i; count = countIn counts i; mass = massIn weights counts i; target = getD targets i nan; values = valuesAt features values i }
 
+-- R10.1
 unfoldable pub element : OneTree → Data → ℕ → Element
 element F D i = elementIn (F .params .features) (D .values) (D .targets) (F .weights) (F .counts) i
 
+-- R10.2
 unfoldable pub listing : OneTree → Data → ℕ → List ℕ
 listing F D j = listingAt (F .rows) (D .listings) j
 
--- feature j's column: what its listing has of kept rows
+-- R10.2: feature j's column: what its listing has of kept rows
 unfoldable pub column : OneTree → Data → ℕ → Column
 column F D j = map (element F D) (keep (kept F) (listing F D j))
 
--- the totals take in every row, kept or not, from row 0 on
+-- R10.3: the totals take in every row, kept or not, from row 0 on
 unfoldable pub root : OneTree → Data → NodeRows
 root F D =
     record {
@@ -51,10 +53,12 @@ root F D =
 
 -- ---- a grown tree, and what is reported of it
 
+-- R10.4
 pub record Tree : Type 0 where
   pub nodes : List TreeNode
   pub report : Report
 
+-- R10.4
 unfoldable pub treeOf : OneTree → NodeRows → State Tapes → Tree
 treeOf F node s =
     record {
@@ -69,16 +73,17 @@ treeOf F node s =
       };
     }
 
--- from its root on, a tree reads nothing of the data
+-- R10.5: from its root on, a tree reads nothing of the data
 unfoldable pub growFrom : OneTree → NodeRows → Out Tree
 growFrom F node =
     bind (fromRoot (F .params) (search (tape (F .params .features)) (F .params)) node (record { words = F .words; thresholds = F .thresholds; searches = 0 }))
     (λ s. ok (treeOf F node s))
 
+-- R10.5
 unfoldable pub fit : OneTree → Data → Out Tree
 fit F D = growFrom F (root F D)
 
--- a node as it is written: a leaf's feature, threshold, score and children are 0
+-- R10.6: a node as it is written: a leaf's feature, threshold, score and children are 0
 unfoldable pub entryOf : Float → Kind → Entry
 entryOf v Leaf = leafEntry v
 entryOf v (Split s) =
@@ -91,21 +96,24 @@ entryOf v (Split s) =
       falseChild = suc (s .children);
     }
 
+-- R10.6
 unfoldable pub entries : List TreeNode → List Entry
 entries [] = []
 entries (n ∷ ns) = entryOf (valueOf (n .totals)) (n .kind) ∷ entries ns
 
 -- ---- the call
 
--- no greatest depth acts as 65,535
+-- R10.7: no greatest depth acts as 65,535
 unfoldable pub limitOf : Depth → ℕ
 limitOf Unlimited = 65535
 limitOf (AtMost d) = d
 
+-- R10.7
 unfoldable pub paramsOf : Settings → ℕ → ℕ → Params
 paramsOf G tried features =
     record { limit = limitOf (G .depth); leaf = G .leaf; split = G .split; tried = tried; features = features; splitter = G .splitter }
 
+-- R10.8
 pub record TreeCall : Type 0 where
   pub shape : Shape
   pub settings : Settings
@@ -114,10 +122,12 @@ pub record TreeCall : Type 0 where
   pub words : List ℕ
   pub thresholds : List Float
 
+-- R10.8
 abbrev pub treeCall : Shape → Settings → ℕ → Given → List ℕ → List Float → TreeCall
 treeCall shape settings tried given words thresholds =
     record { shape = shape; settings = settings; tried = tried; given = given; words = words; thresholds = thresholds }
 
+-- R10.8
 unfoldable pub oneTreeOf : TreeCall → OneTree
 oneTreeOf C =
     record {
@@ -129,11 +139,12 @@ oneTreeOf C =
       thresholds = C .thresholds;
     }
 
+-- R10.9
 unfoldable pub grownTree : TreeCall → Out Tree
 grownTree C = fit (oneTreeOf C) (C .given .inputs)
 
 module _ {W : Type 0} (K : WaitingForm W) where
-  -- 1 to 6, in this order
+  -- R10.10: 1 to 6, in this order
   unfoldable pub treeTests : TreeCall → TreeRooms W → List Test
   treeTests C R =
       test 1 (shapeIn (C .shape))
@@ -144,7 +155,7 @@ module _ {W : Type 0} (K : WaitingForm W) where
       ∷ test 6 (leb (roomFor (oneTreeOf C)) (shortest (R .nodes)) && workEnough K (C .shape) (R .work))
       ∷ []
 
-  -- a bad draw leaves all rooms zero; an answer leaves the nodes, and the work room zero
+  -- R10.11: a bad draw leaves all rooms zero; an answer leaves the nodes, and the work room zero
   unfoldable pub treeDone : Out Tree → TreeRooms W → Outcome TreeAnswer (TreeRooms W)
   treeDone (bad s) R =
       record {
@@ -157,10 +168,11 @@ module _ {W : Type 0} (K : WaitingForm W) where
         rooms = record { nodes = writeEntries (entries (t .nodes)) (R .nodes); work = zeroWork K (R .work) };
       }
 
-  -- a refusal by 1 to 6 leaves the rooms as they were
+  -- R10.12: a refusal by 1 to 6 leaves the rooms as they were
   unfoldable pub treeEnds : ℕ → Out Tree → TreeRooms W → Outcome TreeAnswer (TreeRooms W)
   treeEnds zero o R = treeDone o R
   treeEnds (suc n) o R = record { answer = TreeAnswer.Refused (suc n); rooms = R }
 
+  -- R10.12
   unfoldable pub fitTree : TreeCall → TreeRooms W → Outcome TreeAnswer (TreeRooms W)
   fitTree C R = treeEnds (firstFailed (treeTests C R)) (grownTree C) R

@@ -18,6 +18,7 @@ use Rattle.rules.specs.Listing.{listingsGood}
 use Rattle.rules.specs.Draws.{Out, bad, ok}
 use Rattle.rules.specs.Fit.{Tree, fit, entries, paramsOf}
 
+-- R11.1
 pub record ForestCall : Type 0 where
   pub shape : Shape
   pub trees : ℕ
@@ -29,6 +30,7 @@ pub record ForestCall : Type 0 where
   pub wordStarts : List ℕ
   pub thresholdStarts : List ℕ
 
+-- R11.1
 abbrev pub forestCall : Shape → ℕ → Settings → Tried → Given → List ℕ → List Float → List ℕ → List ℕ → ForestCall
 forestCall shape trees settings tried given words thresholds wordStarts thresholdStarts =
     record {
@@ -43,19 +45,21 @@ forestCall shape trees settings tried given words thresholds wordStarts threshol
       thresholdStarts = thresholdStarts;
     }
 
--- how many of 1 to k have a square of at most n: for k = n, the floor of n's root
+-- R11.2: how many of 1 to k have a square of at most n: for k = n, the floor of n's root
 unfoldable pub squares : ℕ → ℕ → ℕ
 squares n zero = 0
 squares n (suc k) = cond (leb (suc k * suc k) n) 1 0 + squares n k
 
+-- R11.2
 unfoldable pub triedOf : ℕ → Tried → ℕ
 triedOf features Unsaid = squares features features
 triedOf features (Number m) = m
 
--- a tree's own part of a tape
+-- R11.3: a tree's own part of a tape
 unfoldable pub part {ℓ} : {A : Type ℓ} → List ℕ → List A → ℕ → List A
 part cuts tape t = stretch (getD cuts t 0) (getD cuts (suc t) 0 - getD cuts t 0) tape
 
+-- R11.4
 unfoldable pub oneTreeAt : ForestCall → ℕ → OneTree
 oneTreeAt C t =
     record {
@@ -67,51 +71,59 @@ oneTreeAt C t =
       thresholds = part (C .thresholdStarts) (C .thresholds) t;
     }
 
+-- R11.4
 unfoldable pub eachTree : ForestCall → List OneTree
 eachTree C = map (oneTreeAt C) (from 0 (C .trees))
 
 -- ---- trees are grown one after another; the first bad draw ends it
 
+-- R11.5
 pub data Forest : Type 0 where
   stopped : Place → Forest
   grownAll : List Tree → Forest
 
+-- R11.5
 unfoldable pub withTree : Tree → Forest → Forest
 withTree t (stopped d) = stopped d
 withTree t (grownAll ts) = grownAll (t ∷ ts)
 
+-- R11.5
 unfoldable pub nextTree : ℕ → Out Tree → Forest → Forest
 nextTree k (bad s) rest = stopped (record { tree = k; search = s })
 nextTree k (ok t) rest = withTree t rest
 
+-- R11.5
 unfoldable pub growTrees : ℕ → List OneTree → Data → Forest
 growTrees k [] D = grownAll []
 growTrees k (F ∷ Fs) D = nextTree k (fit F D) (growTrees (suc k) Fs D)
 
+-- R11.5
 unfoldable pub grownForest : ForestCall → Forest
 grownForest C = growTrees 0 (eachTree C) (C .given .inputs)
 
 -- ---- the call
 
--- where each tree starts, and where the last ends
+-- R11.6: where each tree starts, and where the last ends
 unfoldable pub startsFrom : ℕ → List Tree → List ℕ
 startsFrom a [] = a ∷ []
 startsFrom a (t ∷ ts) = a ∷ startsFrom (a + length (t .nodes)) ts
 
+-- R11.6
 unfoldable pub forestEntries : List Tree → List Entry
 forestEntries [] = []
 forestEntries (t ∷ ts) = entries (t .nodes) ++ forestEntries ts
 
+-- R11.7
 unfoldable pub tapesGood : ForestCall → Bool
 tapesGood C = goodStarts (C .trees) (length (C .words)) (C .wordStarts) && goodStarts (C .trees) (length (C .thresholds)) (C .thresholdStarts)
 
 module _ {W : Type 0} (K : WaitingForm W) where
-  -- all but the node room
+  -- R11.8: all but the node room
   unfoldable pub roomsGood : ForestCall → ForestRooms W → Bool
   roomsGood C R =
       workEnough K (C .shape) (R .work) && (leb (suc (C .trees)) (length (R .starts)) && reportsExact (C .trees) (R .reports))
 
-  -- 1 to 6, in this order
+  -- R11.8: 1 to 6, in this order
   unfoldable pub forestTests : ForestCall → ForestRooms W → List Test
   forestTests C R =
       test 1 (shapeIn (C .shape) && treesIn (C .trees))
@@ -122,7 +134,7 @@ module _ {W : Type 0} (K : WaitingForm W) where
       ∷ test 6 (leb (total roomFor (eachTree C)) (shortest (R .nodes)) && roomsGood C R)
       ∷ []
 
-  -- a bad draw leaves all rooms zero; an answer leaves nodes, starts and reports, and the work room zero
+  -- R11.9: a bad draw leaves all rooms zero; an answer leaves nodes, starts and reports, and the work room zero
   unfoldable pub forestDone : Forest → ForestRooms W → Outcome ForestAnswer (ForestRooms W)
   forestDone (stopped d) R =
       record {
@@ -145,10 +157,11 @@ module _ {W : Type 0} (K : WaitingForm W) where
         };
       }
 
-  -- a refusal by 1 to 6 leaves the rooms as they were
+  -- R11.10: a refusal by 1 to 6 leaves the rooms as they were
   unfoldable pub forestEnds : ℕ → Forest → ForestRooms W → Outcome ForestAnswer (ForestRooms W)
   forestEnds zero f R = forestDone f R
   forestEnds (suc n) f R = record { answer = ForestAnswer.Refused (suc n); rooms = R }
 
+  -- R11.10
   unfoldable pub fitForest : ForestCall → ForestRooms W → Outcome ForestAnswer (ForestRooms W)
   fitForest C R = forestEnds (firstFailed (forestTests C R)) (grownForest C) R

@@ -11,24 +11,24 @@ use Rattle.rules.specs.Words.{nought, float, from, keep, stretch, front,
 
 -- ---- to read
 
--- feature values row after row, a target a row, a listing of all rows for each feature
+-- R2.1: feature values row after row, a target a row, a listing of all rows for each feature
 pub record Data : Type 0 where
   pub values : List Float
   pub targets : List Float
   pub listings : List ℕ
 
--- with the data, what both fits are given but for the draws: weights, one a row or none at all, and counts, tree after tree
+-- R2.2: with the data, what both fits are given but for the draws: weights, one a row or none at all, and counts, tree after tree
 pub record Given : Type 0 where
   pub inputs : Data
   pub weights : List Float
   pub counts : List ℕ
 
--- from slices
+-- R2.2: from slices
 abbrev pub givenOf : List Float → List Float → List Float → List ℕ → List ℕ → Given
 givenOf values targets weights counts listings =
     record { inputs = record { values = values; targets = targets; listings = listings }; weights = weights; counts = counts }
 
--- what one tree grows by beside the data: its own counts and its own part of the tapes
+-- R2.3: what one tree grows by beside the data: its own counts and its own part of the tapes
 pub record OneTree : Type 0 where
   pub rows : ℕ
   pub params : Params
@@ -37,42 +37,47 @@ pub record OneTree : Type 0 where
   pub words : List ℕ
   pub thresholds : List Float
 
--- row i's values, and feature j's value among them
+-- R2.4: row i's values, and feature j's value among them
 unfoldable pub valuesAt : ℕ → List Float → ℕ → List Float
 valuesAt features xs i = stretch (i * features) features xs
 
+-- R2.4
 unfoldable pub cell : ℕ → List Float → ℕ → ℕ → Float
 cell features xs j i = getD (valuesAt features xs i) j nan
 
--- feature j's listing
+-- R2.5: feature j's listing
 unfoldable pub listingAt : ℕ → List ℕ → ℕ → List ℕ
 listingAt rows ls j = stretch (j * rows) rows ls
 
+-- R2.6
 unfoldable pub unweighted : List Float → Bool
 unweighted [] = true
 unweighted (w ∷ ws) = false
 
+-- R2.7
 unfoldable pub countIn : List ℕ → ℕ → ℕ
 countIn counts i = getD counts i 0
 
--- without weights a row weighs its count
+-- R2.7: without weights a row weighs its count
 unfoldable pub massIn : List Float → List ℕ → ℕ → Float
 massIn weights counts i =
     cond (unweighted weights) (float (countIn counts i)) (mul binary64 (float (countIn counts i)) (getD weights i nan))
 
--- whether a tree keeps row i
+-- R2.8: whether a tree keeps row i
 unfoldable pub keptIn : List Float → List ℕ → ℕ → Bool
 keptIn weights counts i = ltb 0 (countIn counts i) && (unweighted weights || lt nought (getD weights i nan))
 
+-- R2.8
 unfoldable pub kept : OneTree → ℕ → Bool
 kept F i = keptIn (F .weights) (F .counts) i
 
+-- R2.8
 unfoldable pub keptRows : OneTree → List ℕ
 keptRows F = keep (kept F) (from 0 (F .rows))
 
 -- ---- to write
 
--- node room: six columns
+-- R2.9: node room: six columns
 pub record Columns : Type 0 where
   pub value : List Float
   pub feature : List ℕ
@@ -81,11 +86,11 @@ pub record Columns : Type 0 where
   pub trueChild : List ℕ
   pub falseChild : List ℕ
 
--- from slices
+-- R2.9: from slices
 abbrev pub columnsOf : List Float → List ℕ → List Float → List Float → List ℕ → List ℕ → Columns
 columnsOf v j t s y n = record { value = v; feature = j; threshold = t; score = s; trueChild = y; falseChild = n }
 
--- a node's place in them
+-- R2.10: a node's place in them
 pub record Entry : Type 0 where
   pub value : Float
   pub feature : ℕ
@@ -94,7 +99,7 @@ pub record Entry : Type 0 where
   pub trueChild : ℕ
   pub falseChild : ℕ
 
--- a forest's report columns, a place a tree
+-- R2.11: a forest's report columns, a place a tree
 pub record Reports : Type 0 where
   pub nodes : List ℕ
   pub depth : List ℕ
@@ -103,16 +108,17 @@ pub record Reports : Type 0 where
   pub words : List ℕ
   pub thresholds : List ℕ
 
--- a waiting list of any form: how many places it has, and what it is when all are zero
+-- R2.12: a waiting list of any form: how many places it has, and what it is when all are zero
 pub record WaitingForm (W : Type 0) : Type 0 where
   pub places : W → ℕ
   pub zeroed : W → W
 
--- the form that is lent: six whole numbers and three floats a place, in two slices of which the shorter counts
+-- R2.13: the form that is lent: six whole numbers and three floats a place, in two slices of which the shorter counts
 pub record WaitingRoom : Type 0 where
   pub wholes : List (List ℕ)
   pub reals : List (List Float)
 
+-- R2.13
 abbrev pub waitingRoom : WaitingForm WaitingRoom
 waitingRoom =
     record {
@@ -120,35 +126,39 @@ waitingRoom =
       zeroed = λ w. record { wholes = filled (replicate 6 0) (w .wholes); reals = filled (replicate 3 nought) (w .reals) };
     }
 
+-- R2.14
 pub record Work (W : Type 0) : Type 0 where
   pub order : List ℕ
   pub scratch : List ℕ
   pub flags : List Bool
   pub waiting : W
 
+-- R2.15
 pub record TreeRooms (W : Type 0) : Type 0 where
   pub nodes : Columns
   pub work : Work W
 
+-- R2.15
 pub record ForestRooms (W : Type 0) : Type 0 where
   pub nodes : Columns
   pub starts : List ℕ
   pub reports : Reports
   pub work : Work W
 
--- what a call leaves: its answer, and the rooms
+-- R2.16: what a call leaves: its answer, and the rooms
 pub record Outcome (A R : Type 0) : Type 0 where
   pub answer : A
   pub rooms : R
 
 -- ---- node room
 
--- it is as long as its shortest column
+-- R2.17: it is as long as its shortest column
 abbrev pub shortest : Columns → ℕ
 shortest c =
     min (length (c .value)) (min (length (c .feature)) (min (length (c .threshold))
     (min (length (c .score)) (min (length (c .trueChild)) (length (c .falseChild))))))
 
+-- R2.18
 abbrev pub entryAt : Columns → ℕ → Entry
 entryAt c k =
     record {
@@ -160,14 +170,15 @@ entryAt c k =
       falseChild = getD (c .falseChild) k 0;
     }
 
--- n entries from place a on
+-- R2.18: n entries from place a on
 unfoldable pub entriesAt : Columns → ℕ → ℕ → List Entry
 entriesAt c a n = map (entryAt c) (from a n)
 
--- a leaf of value v, as it is written
+-- R2.19: a leaf of value v, as it is written
 abbrev pub leafEntry : Float → Entry
 leafEntry v = record { value = v; feature = 0; threshold = nought; score = nought; trueChild = 0; falseChild = 0 }
 
+-- R2.20
 abbrev pub writeEntries : List Entry → Columns → Columns
 writeEntries es c =
     record {
@@ -179,6 +190,7 @@ writeEntries es c =
       falseChild = front (map (λ (e : Entry). e .falseChild) es) (c .falseChild);
     }
 
+-- R2.20
 abbrev pub writeReports : List Report → Reports → Reports
 writeReports rs c =
     record {
@@ -192,6 +204,7 @@ writeReports rs c =
 
 -- ---- rooms filled with zero, the whole of each
 
+-- R2.21
 abbrev pub zeroColumns : Columns → Columns
 zeroColumns c =
     record {
@@ -203,6 +216,7 @@ zeroColumns c =
       falseChild = filled 0 (c .falseChild);
     }
 
+-- R2.21
 abbrev pub zeroReports : Reports → Reports
 zeroReports c =
     record {
@@ -214,6 +228,7 @@ zeroReports c =
       thresholds = filled 0 (c .thresholds);
     }
 
+-- R2.21
 abbrev pub zeroWork : {W : Type 0} → WaitingForm W → Work W → Work W
 zeroWork K w =
     record {

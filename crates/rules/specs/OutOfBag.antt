@@ -16,14 +16,16 @@ use Rattle.rules.specs.Reading.{meanOf, reads}
 
 -- ---- means; over no tree it is 0/0, a NaN
 
--- of the trees from tree t on, those for which row i counts 0
+-- R14.1: of the trees from tree t on, those for which row i counts 0
 unfoldable pub outTrees : ℕ → List ℕ → ℕ → ℕ → List (List Entry) → List (List Entry)
 outTrees rows counts i t [] = []
 outTrees rows counts i t (es ∷ ts) = putIf (eqb (getD counts (t * rows + i) 0) 0) es (outTrees rows counts i (suc t) ts)
 
+-- R14.2
 unfoldable pub outOfBagMean : Shape → List Float → List ℕ → ForestTable → ℕ → Float
 outOfBagMean S xs counts T i = meanOf (outTrees (S .rows) counts i 0 (treesOf T)) (valuesAt (S .features) xs i)
 
+-- R14.3
 unfoldable pub outTests : Shape → List Float → List ℕ → ForestTable → List Float → List Test
 outTests S xs counts T out =
     test 1 (shapeIn S && treesIn (T .trees))
@@ -34,27 +36,31 @@ outTests S xs counts T out =
     ∷ test 8 (goodForest (S .features) T)
     ∷ []
 
+-- R14.3
 unfoldable pub outOfBagMeans : Shape → List Float → List ℕ → ForestTable → List Float → Outcome Reply (List Float)
 outOfBagMeans S xs counts T out = reads (firstFailed (outTests S xs counts T out)) (map (outOfBagMean S xs counts T) (from 0 (S .rows))) out
 
 -- ---- the error
 
+-- R14.4
 unfoldable pub squareOff : Float → Float → Float
 squareOff y m = mul binary64 (sub binary64 y m) (sub binary64 y m)
 
--- rows without a mean are passed over
+-- R14.4: rows without a mean are passed over
 unfoldable pub addSquares : Float → List Float → List Float → Float
 addSquares s [] ms = s
 addSquares s (y ∷ ys) [] = s
 addSquares s (y ∷ ys) (m ∷ ms) = addSquares (cond (isNan m) s (add binary64 s (squareOff y m))) ys ms
 
+-- R14.5
 unfoldable pub errs : ℕ → Float → ErrorReply
 errs zero e = ErrorReply.Error e
 errs (suc n) e = ErrorReply.Refused (suc n)
 
+-- R14.5
 unfoldable pub errorTests : ℕ → List Float → List Float → List Test
 errorTests rows ys ms = test 1 (rowsIn rows) ∷ test 2 (eqb (length ys) rows && eqb (length ms) rows) ∷ []
 
--- and are counted all the same
+-- R14.5: rows without a mean are counted all the same
 unfoldable pub outOfBagError : ℕ → List Float → List Float → ErrorReply
 outOfBagError rows ys ms = errs (firstFailed (errorTests rows ys ms)) (div binary64 (addSquares nought ys ms) (float rows))

@@ -17,29 +17,37 @@ use Rattle.rules.specs.Answers as Answers
 
 -- ---- what is given
 
+-- R16.1
 abbrev pub depthOf : Bool → ℕ → Depth
 depthOf limited limit = cond limited (Depth.AtMost limit) Depth.Unlimited
 
+-- R16.1
 abbrev pub splitterOf : Bool → Splitter
 splitterOf random = cond random Splitter.Random Splitter.Best
 
+-- R16.1
 abbrev pub triedFrom : Bool → ℕ → Tried
 triedFrom said tried = cond said (Tried.Number tried) Tried.Unsaid
 
+-- R16.1
 unfoldable pub settingsOf : Bool → ℕ → ℕ → ℕ → Bool → Settings
 settingsOf limited limit leaf split random = record { depth = depthOf limited limit; leaf = leaf; split = split; splitter = splitterOf random }
 
+-- R16.1
 abbrev pub treeSettingsOf : TreeSettings → Settings
 treeSettingsOf s = settingsOf (s .limited) (s .limit) (s .leaf) (s .split) (s .random)
 
+-- R16.1
 abbrev pub forestSettingsOf : ForestSettings → Settings
 forestSettingsOf s = settingsOf (s .limited) (s .limit) (s .leaf) (s .split) (s .random)
 
+-- R16.1
 abbrev pub scaleOf : Bool → Float → Scale
 scaleOf massed mass = cond massed (Scale.ByMass mass) Scale.Normalised
 
 -- ---- what is told
 
+-- R16.2
 abbrev pub treeNumbers : TreeTold → Answers.Told
 treeNumbers t =
     record {
@@ -49,12 +57,15 @@ treeNumbers t =
       report = record { nodes = t .nodes; depth = t .depth; mass = t .mass; searches = t .searches; words = t .words; thresholds = t .thresholds };
     }
 
+-- R16.2
 abbrev pub forestNumbers : ForestTold → Answers.Told
 forestNumbers t = record { number = t .number; tree = t .tree; search = t .search; report = Answers.noReport }
 
+-- R16.2
 abbrev pub errorNumbers : ErrorTold → Answers.ErrorTold
 errorNumbers t = record { number = t .number; error = t .error }
 
+-- R16.2
 abbrev pub nodeNumbers : NodeTold → Answers.NodeTold
 nodeNumbers t =
     record {

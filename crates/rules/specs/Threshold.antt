@@ -3,9 +3,10 @@ use mathlib.Core.Bool.{cond}
 use lib.Ieee.{Float, binary64, add, sub, div, lt}
 use Rattle.rules.specs.Words.{two}
 
+-- R6.1
 unfoldable pub midpoint : Float → Float → Float
 midpoint p x = add binary64 p (div binary64 (sub binary64 x p) two)
 
--- the middle, or p where rounding takes the middle up to x or beyond
+-- R6.2: the middle, or p where rounding takes the middle up to x or beyond
 unfoldable pub thresholdBetween : Float → Float → Float
 thresholdBetween p x = cond (lt (midpoint p x) x) (midpoint p x) p

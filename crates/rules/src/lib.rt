@@ -1,23 +1,24 @@
 // The plain types that the definitions (specs/) and the code share. What they mean is said in specs/.
 
-// Sums over rows: of target times mass, and of the masses.
+// R0.7: Sums over rows: of target times mass, and of the masses.
 pub struct Totals {
     pub sum: f64,
     pub mass: f64,
 }
 
+// R0.8
 pub enum Splitter {
     Best,
     Random,
 }
 
-// The greatest depth.
+// R0.8: The greatest depth.
 pub enum Depth {
     Unlimited,
     AtMost(u16),
 }
 
-// What a fit is told of its trees: greatest depth, least leaf, least split, splitter.
+// R0.8: What a fit is told of its trees: greatest depth, least leaf, least split, splitter.
 pub struct Settings {
     pub depth: Depth,
     pub leaf: u32,
@@ -25,13 +26,13 @@ pub struct Settings {
     pub splitter: Splitter,
 }
 
-// How many features a search of a forest tries: where nothing is said, the floor of the root of their number.
+// R0.9: How many features a search of a forest tries: where nothing is said, the floor of the root of their number.
 pub enum Tried {
     Unsaid,
     Number(u32),
 }
 
-// What growth goes by: the settings, the depth as a number, how many features are tried and how many there are.
+// R0.10: What growth goes by: the settings, the depth as a number, how many features are tried and how many there are.
 pub struct Params {
     pub limit: u32,
     pub leaf: u32,
@@ -41,24 +42,25 @@ pub struct Params {
     pub splitter: Splitter,
 }
 
+// R0.11
 pub struct Shape {
     pub rows: usize,
     pub features: usize,
 }
 
-// A row goes to the true side if its value of the feature is at most the threshold.
+// R0.12: A row goes to the true side if its value of the feature is at most the threshold.
 pub struct Cut {
     pub feature: u32,
     pub threshold: f64,
 }
 
-// The candidate that a search holds: none yet, or a cut and its proxy.
+// R0.13: The candidate that a search holds: none yet, or a cut and its proxy.
 pub enum Held {
     Nothing,
     Holds(Cut, f64),
 }
 
-// What is carried along a column: the rows before by totals and count, the value of the run of equals, the candidate.
+// R0.14: What is carried along a column: the rows before by totals and count, the value of the run of equals, the candidate.
 pub struct Sweep {
     pub before: Totals,
     pub count: u32,
@@ -66,31 +68,32 @@ pub struct Sweep {
     pub best: Held,
 }
 
-// A split: its cut, its score, and the number of its true child. The false child's is one more.
+// R0.15: A split: its cut, its score, and the number of its true child. The false child's is one more.
 pub struct Fork {
     pub cut: Cut,
     pub score: f64,
     pub children: u32,
 }
 
+// R0.15
 pub enum Kind {
     Leaf,
     Split(Fork),
 }
 
-// A node read out.
+// R0.16: A node read out.
 pub struct Node {
     pub value: f64,
     pub kind: Kind,
 }
 
-// How a tree's importances are scaled: by their sum, or by a root mass.
+// R0.17: How a tree's importances are scaled: by their sum, or by a root mass.
 pub enum Scale {
     Normalised,
     ByMass(f64),
 }
 
-// What a fit tells of a tree that it grew. Words and thresholds are those it took from the tapes.
+// R0.18: What a fit tells of a tree that it grew. Words and thresholds are those it took from the tapes.
 pub struct Report {
     pub nodes: u32,
     pub depth: u32,
@@ -100,36 +103,39 @@ pub struct Report {
     pub thresholds: u32,
 }
 
-// Where a bad draw was met. Both count from 0.
+// R0.19: Where a bad draw was met. Both count from 0.
 pub struct Place {
     pub tree: u32,
     pub search: u32,
 }
 
+// R0.20
 pub enum TreeAnswer {
     Refused(u32),
     BadDraw(Place),
     Grown(Report),
 }
 
+// R0.20
 pub enum ForestAnswer {
     Refused(u32),
     BadDraw(Place),
     Grown,
 }
 
-// The answer of a reader that writes its results, and of a check.
+// R0.21: The answer of a reader that writes its results, and of a check.
 pub enum Reply {
     Refused(u32),
     Done,
 }
 
+// R0.21
 pub enum ErrorReply {
     Refused(u32),
     Error(f64),
 }
 
-// A good tree may have no node of the number asked.
+// R0.21: A good tree may have no node of the number asked.
 pub enum NodeReply {
     Refused(u32),
     Missing,
@@ -138,7 +144,7 @@ pub enum NodeReply {
 
 // ---- settings and answers, as they cross over
 
-// The settings of one tree. The limit is heeded where the depth is limited; the splitter is random, or else best.
+// R0.22: The settings of one tree. The limit is heeded where the depth is limited; the splitter is random, or else best.
 #[repr(C)]
 pub struct TreeSettings {
     pub limited: bool,
@@ -149,7 +155,7 @@ pub struct TreeSettings {
     pub random: bool,
 }
 
-// The settings of a forest. How many features a search tries is heeded where it is said.
+// R0.22: The settings of a forest. How many features a search tries is heeded where it is said.
 #[repr(C)]
 pub struct ForestSettings {
     pub limited: bool,
@@ -161,7 +167,7 @@ pub struct ForestSettings {
     pub random: bool,
 }
 
-// What the fit of one tree tells: 0 or the number of a refusal, the place of a bad draw, the report of a grown tree.
+// R0.23: What the fit of one tree tells: 0 or the number of a refusal, the place of a bad draw, the report of a grown tree.
 #[repr(C)]
 pub struct TreeTold {
     pub number: u32,
@@ -175,7 +181,7 @@ pub struct TreeTold {
     pub thresholds: u32,
 }
 
-// What the fit of a forest tells: 0 or the number of a refusal, and the place of a bad draw.
+// R0.23: What the fit of a forest tells: 0 or the number of a refusal, and the place of a bad draw.
 #[repr(C)]
 pub struct ForestTold {
     pub number: u32,
@@ -183,14 +189,14 @@ pub struct ForestTold {
     pub search: u32,
 }
 
-// The error, or the number of a refusal.
+// R0.23: The error, or the number of a refusal.
 #[repr(C)]
 pub struct ErrorTold {
     pub number: u32,
     pub error: f64,
 }
 
-// Whether the node is there, and its place in the six columns; all zero where it is not.
+// R0.23: Whether the node is there, and its place in the six columns; all zero where it is not.
 #[repr(C)]
 pub struct NodeTold {
     pub number: u32,

@@ -177,8 +177,8 @@ pub fn sweep_column(
             counts,
             rows,
             features,
-            criterion::wide(j),
-            criterion::wide(col[i]),
+            slices::wide(j),
+            slices::wide(col[i]),
         );
         i += 1;
         v = step_of(p, a, v, e, i);
@@ -191,12 +191,7 @@ fn value_here(values: &[f64], col: &[u32], rows: usize, features: usize, j: u32,
     requires { ⌜ Readable rows features (now values) j (now col) × (i < length (now col)) ⌝ }
     ensures { λ r. ⌜ r ≡ valueIn features (now (values .entry)) j (getD (now (col .entry)) i 0) ⌝ }
 {
-    crate::value_of(
-        values,
-        features,
-        criterion::wide(j),
-        criterion::wide(col[i]),
-    )
+    crate::value_of(values, features, slices::wide(j), slices::wide(col[i]))
 }
 
 // A run of equals of value v, or a new one of value e.

@@ -134,7 +134,7 @@ pub fn try_one(
     requires { ⌜ NodeAsks rows features from to (record { values = now values; targets = now targets; weights = now weights; counts = now counts }) (now order) (a .count) × (j < features) ⌝ }
     ensures { λ r. ⌜ ((W : List ℕ) (s : ℕ) → meantTries W (now (thresholds .entry)) s r ≡ tryOne (tape (p .features)) (p .splitter) p (taskAt rows features from to (record { values = now (values .entry); targets = now (targets .entry); weights = now (weights .entry); counts = now (counts .entry) }) (now (order .entry)) a) j (record { best = h; left = left W (now (thresholds .entry)) s m })) ⌝ }
 {
-    let base = criterion::wide(j) * rows;
+    let base = slices::wide(j) * rows;
     let lo = base + from;
     let hi = base + to;
     let kind = p.splitter;
@@ -261,15 +261,6 @@ pub fn try_all(
     Attempt::Goes(best, used)
 }
 
-pub fn lesser(a: usize, b: usize) -> usize
-    ensures { λ r. ⌜ r ≡ min a b ⌝ }
-{
-    if a <= b {
-        return a;
-    }
-    b
-}
-
 // The search of a node whose rows lie from `from` to `to` in every column.
 pub fn search_node(
     values: &[f64],
@@ -295,7 +286,7 @@ pub fn search_node(
         return Search::Refused;
     }
     if choice_good(words, at, features) {
-        let k = lesser(criterion::wide(p.tried), features);
+        let k = slices::least(slices::wide(p.tried), features);
         let r = try_all(
             values,
             targets,

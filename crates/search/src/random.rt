@@ -52,8 +52,8 @@ pub fn true_side(
             counts,
             rows,
             features,
-            criterion::wide(j),
-            criterion::wide(col[i]),
+            slices::wide(j),
+            slices::wide(col[i]),
         );
         s = joined_if(s, e, t);
         i += 1;
@@ -146,18 +146,8 @@ pub fn random_in(
     if n == 0 {
         return Attempt::Goes(h, m);
     }
-    let lo = crate::value_of(
-        values,
-        features,
-        criterion::wide(j),
-        criterion::wide(col[0]),
-    );
-    let hi = crate::value_of(
-        values,
-        features,
-        criterion::wide(j),
-        criterion::wide(col[n - 1]),
-    );
+    let lo = crate::value_of(values, features, slices::wide(j), slices::wide(col[0]));
+    let hi = crate::value_of(values, features, slices::wide(j), slices::wide(col[n - 1]));
     if lo < hi {
         return draw_in(
             values,

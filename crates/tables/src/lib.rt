@@ -183,7 +183,7 @@ pub fn forest_good(
     requires { ⌜ Started trees (now starts) ⌝ }
     ensures { λ r. ⌜ r ≡ goodForest features (tableOf trees (now (starts .entry)) (columnsOf (now (value .entry)) (now (feature .entry)) (now (threshold .entry)) (now (score .entry)) (now (truechild .entry)) (now (falsechild .entry)))) ⌝ }
 {
-    let n = checks::rooms::shortest_of(
+    let n = slices::shortest_of(
         value.len(),
         feature.len(),
         threshold.len(),
@@ -225,7 +225,7 @@ fn tree_verdict(
     if !checks::features_in(features) {
         return 1;
     }
-    let n = checks::rooms::shortest_of(
+    let n = slices::shortest_of(
         value.len(),
         feature.len(),
         threshold.len(),
@@ -399,7 +399,7 @@ pub fn read_node(
     if number != 0 {
         return NodeReply::Refused(number);
     }
-    let n = checks::rooms::shortest_of(
+    let n = slices::shortest_of(
         value.len(),
         feature.len(),
         threshold.len(),

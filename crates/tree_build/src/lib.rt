@@ -117,7 +117,7 @@ fn report_of(at: At, mass: f64, words: usize, thresholds: usize) -> Report
     }
 }
 
-// What a growth answers, in the paper's numbers.
+// What a growth answers: the search of its bad draw, or the report of its tree.
 fn tell(r: Turned, mass: f64, words: usize, thresholds: usize) -> Planted
     requires { ⌜ TellAsks words thresholds r ⌝ }
     ensures { λ s. ⌜ s ≡ told mass words thresholds r ⌝ }

@@ -21,12 +21,12 @@ pub fn zero_nodes(
     ensures { λ _. ⌜ _≡_ {A = Columns} (record { value = now (value .exit); feature = now (feature .exit); threshold = now (threshold .exit); score = now (score .exit); trueChild = now (truechild .exit); falseChild = now (falsechild .exit) })
         (zeroColumns (record { value = now (value .entry); feature = now (feature .entry); threshold = now (threshold .entry); score = now (score .entry); trueChild = now (truechild .entry); falseChild = now (falsechild .entry) })) ⌝ }
 {
-    work_columns::zero_f64(value);
-    work_columns::zero_u32(feature);
-    work_columns::zero_f64(threshold);
-    work_columns::zero_f64(score);
-    work_columns::zero_u32(truechild);
-    work_columns::zero_u32(falsechild);
+    slices::zero_f64(value);
+    slices::zero_u32(feature);
+    slices::zero_f64(threshold);
+    slices::zero_f64(score);
+    slices::zero_u32(truechild);
+    slices::zero_u32(falsechild);
 }
 
 pub fn zero_work(
@@ -39,11 +39,11 @@ pub fn zero_work(
     ensures { λ _. ⌜ _≡_ {A = Work WaitingRoom} (record { order = now (order .exit); scratch = now (scratch .exit); flags = now (flags .exit); waiting = record { wholes = now (wholes .exit); reals = now (reals .exit) } })
         (zeroWork waitingRoom (record { order = now (order .entry); scratch = now (scratch .entry); flags = now (flags .entry); waiting = record { wholes = now (wholes .entry); reals = now (reals .entry) } })) ⌝ }
 {
-    work_columns::zero_u32(order);
-    work_columns::zero_u32(scratch);
-    work_columns::zero_bool(flags);
-    work_columns::zero_wholes(wholes);
-    work_columns::zero_reals(reals);
+    slices::zero_u32(order);
+    slices::zero_u32(scratch);
+    slices::zero_bool(flags);
+    slices::zero_wholes(wholes);
+    slices::zero_reals(reals);
 }
 
 // Work room is left zero; a bad draw leaves node room zero as well.
@@ -104,7 +104,7 @@ pub fn fit_tree(
         (record { shape = shape; settings = settings; tried = tried; given = givenOf (now (values .entry)) (now (targets .entry)) (now (weights .entry)) (now (counts .entry)) (now (listings .entry)); words = now (words .entry); thresholds = now (thresholds .entry) })
         (record { nodes = record { value = now (value .entry); feature = now (feature .entry); threshold = now (threshold .entry); score = now (score .entry); trueChild = now (truechild .entry); falseChild = now (falsechild .entry) }; work = record { order = now (order .entry); scratch = now (scratch .entry); flags = now (flags .entry); waiting = record { wholes = now (wholes .entry); reals = now (reals .entry) } } })) ⌝ }
 {
-    let nodes = checks::rooms::shortest_of(
+    let nodes = slices::shortest_of(
         value.len(),
         feature.len(),
         threshold.len(),

@@ -1,7 +1,5 @@
 -- What the work columns hold after each step of set-up and split, and the laws that growth needs of it. Nothing is assumed.
 
--- a room that is filled with one value
-pub mod Filling
 -- the columns, and what each step promises of them
 pub mod Columns
 pub mod Split

@@ -31,58 +31,6 @@ pub struct Gathered {
     pub all: Totals,
 }
 
-// ---- rooms filled with zero, the whole of each
-
-pub fn zero_f64(s: &mut [f64])
-    ensures { λ _. ⌜ now (s .exit) ≡ filled nought (now (s .entry)) ⌝ }
-{
-    let mut i: usize = 0;
-    while i < s.len() {
-        s[i] = 0.0;
-        i += 1;
-    }
-}
-
-pub fn zero_u32(s: &mut [u32])
-    ensures { λ _. ⌜ now (s .exit) ≡ filled 0 (now (s .entry)) ⌝ }
-{
-    let mut i: usize = 0;
-    while i < s.len() {
-        s[i] = 0;
-        i += 1;
-    }
-}
-
-pub fn zero_bool(s: &mut [bool])
-    ensures { λ _. ⌜ now (s .exit) ≡ filled false (now (s .entry)) ⌝ }
-{
-    let mut i: usize = 0;
-    while i < s.len() {
-        s[i] = false;
-        i += 1;
-    }
-}
-
-pub fn zero_wholes(s: &mut [[u32; 6]])
-    ensures { λ _. ⌜ now (s .exit) ≡ filled (replicate 6 0) (now (s .entry)) ⌝ }
-{
-    let mut i: usize = 0;
-    while i < s.len() {
-        s[i] = [0; 6];
-        i += 1;
-    }
-}
-
-pub fn zero_reals(s: &mut [[f64; 3]])
-    ensures { λ _. ⌜ now (s .exit) ≡ filled (replicate 3 nought) (now (s .entry)) ⌝ }
-{
-    let mut i: usize = 0;
-    while i < s.len() {
-        s[i] = [0.0; 3];
-        i += 1;
-    }
-}
-
 // ---- set-up
 
 // Over every row, kept or not, from row 0 on.
@@ -249,10 +197,10 @@ fn true_rows(values: &[f64], col: &[u32], rows: usize, features: usize, cut: Cut
     requires { ⌜ FrontAsks rows features (now values) cut (now col) ⌝ }
     ensures { λ r. ⌜ FrontDone (tested features (now (values .entry)) cut) (now (col .entry)) r ⌝ }
 {
-    let j = criterion::wide(cut.feature);
+    let j = slices::wide(cut.feature);
     let mut i: usize = 0;
     while i < col.len() {
-        let x = value_at(values, rows, features, j, criterion::wide(col[i]));
+        let x = value_at(values, rows, features, j, slices::wide(col[i]));
         if x <= cut.threshold {
             i += 1;
         } else {
@@ -280,7 +228,7 @@ fn gather(
     let mut all = start;
     let mut i: usize = 0;
     while i < col.len() {
-        let row = criterion::wide(col[i]);
+        let row = slices::wide(col[i]);
         let m = criterion::mass_of(weights, counts, row);
         side = criterion::join(side, targets[row], m, counts[row]);
         all = criterion::take_in(all, targets[row], m);
@@ -356,7 +304,7 @@ pub fn split_sides(
     requires { ⌜ SplitAsks rows features start end (now values) (now targets) (now weights) (now counts) cut (now order) (length (now flags)) ⌝ }
     ensures { λ r. ⌜ SplitDone rows start end (elementIn features (now (values .entry)) (now (targets .entry)) (now (weights .entry)) (now (counts .entry))) cut (now (order .entry)) (now (flags .exit)) r ⌝ }
 {
-    let j = criterion::wide(cut.feature);
+    let j = slices::wide(cut.feature);
     let base = j * rows;
     let low = base + start;
     let high = base + end;
