@@ -12,10 +12,9 @@ root = pathlib.Path(__file__).resolve().parent.parent
 
 
 def generated(crate):
-    """The folder of what the check generates for a crate, made anew if the crate's code or definitions are younger."""
+    """The folder of what the check generates for a crate, made anew if the crate's code is younger."""
     folder = root / "target" / f"generated-{crate}"
-    sources = (root / "crates" / crate).rglob("*")
-    youngest = max(file.stat().st_mtime for file in sources if file.suffix in (".rt", ".antt"))
+    youngest = max(file.stat().st_mtime for file in (root / "crates" / crate).rglob("*.rt"))
     if not folder.exists() or folder.stat().st_mtime < youngest:
         folder.mkdir(parents=True, exist_ok=True)
         command = ["rt", "dev", crate, "--generated", str(folder)]
@@ -51,6 +50,25 @@ def read(file):
 def before(records, place):
     """The place before a place; none before the first."""
     return dict(records.get(place, [])).get("before")
+
+
+def behind(records, place):
+    """A place and all before it, the nearest first."""
+    chain = []
+    while place:
+        chain.append(place)
+        place = before(records, place)
+    return chain
+
+
+def heads(lines):
+    """Where the definitions of a proof file begin."""
+    return [at for at, line in enumerate(lines) if re.match(r"(?:abbrev |pub )*[^\s-]\S* :(?= )", line) and not line.startswith("use ")]
+
+
+def clause(lines):
+    """The first line of a definition's clauses, below its type."""
+    return next((line for line in lines if line and not line.startswith((" ", "--", "unfolding"))), "")
 
 
 def own(records, place):
