@@ -3,7 +3,7 @@
 A proof speaks of its function place by place: after each step there is a record of what that step added, with a field `before` that leads to the place
 before it. Those records, and for each need the place it is asked at, stand in the function's generated file `Lts.antt`.
 """
-import os
+import hashlib
 import pathlib
 import re
 import subprocess
@@ -12,14 +12,15 @@ root = pathlib.Path(__file__).resolve().parent.parent
 
 
 def generated(crate):
-    """The folder of what the check generates for a crate, made anew if the crate's code is younger."""
+    """The folder of what the check generates for a crate, made anew if the crate's code is not the code that it was made from."""
     folder = root / "target" / f"generated-{crate}"
-    youngest = max(file.stat().st_mtime for file in (root / "crates" / crate).rglob("*.rt"))
-    if not folder.exists() or folder.stat().st_mtime < youngest:
+    stamp = folder / "sources"
+    code = hashlib.sha256(b"".join(file.read_bytes() for file in sorted((root / "crates" / crate).rglob("*.rt")))).hexdigest()
+    if not stamp.exists() or stamp.read_text() != code:
         folder.mkdir(parents=True, exist_ok=True)
         command = ["rt", "dev", crate, "--generated", str(folder)]
         subprocess.run(command, cwd=root, stdout=subprocess.DEVNULL, stderr=subprocess.DEVNULL)
-        os.utime(folder)
+        stamp.write_text(code)
     return folder
 
 
