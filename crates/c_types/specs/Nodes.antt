@@ -51,7 +51,8 @@ module _ (features : ℕ) (c : Columns) (k : ℕ) where
           (node-good features (treeIn c) good k (subst (λ m. k < m) (sym (entries-long c 0 (shortest c))) h) (ap isLeaf here ∙ e) .next)
 
       go : (b : Bool) → isLeaf (entryAt c k) ≡ b
-          → trueChildOf (cond b Leaf (Split (record { cut = record { feature = entryAt c k .feature; threshold = entryAt c k .threshold }; score = entryAt c k .score; children = entryAt c k .trueChild }))) < 4294967295
+          → trueChildOf (cond b Leaf
+          (Split (record { cut = record { feature = entryAt c k .feature; threshold = entryAt c k .threshold }; score = entryAt c k .score; children = entryAt c k .trueChild }))) < 4294967295
       go true e = omega arith
       go false e = omega (arith, next e, room)
 

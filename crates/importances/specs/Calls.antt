@@ -74,7 +74,11 @@ module _ (features : ℕ) (F : ForestTable) (out : List Float) {number : ℕ} (v
           long = e;
           trees =
               record {
-                lying = record { started = record { few = within-top 1024 (F .trees) (is-true (treesIn (F .trees)) t); long = leb→le (suc (F .trees)) (length (F .starts)) s }; good = is-true (startsGood F) x };
+                lying =
+                    record {
+                      started = record { few = within-top 1024 (F .trees) (is-true (treesIn (F .trees)) t); long = leb→le (suc (F .trees)) (length (F .starts)) s };
+                      good = is-true (startsGood F) x;
+                    };
                 good = ap (λ k. every (goodTree k) (treesOf F)) e ∙ is-true (every (goodTree features) (treesOf F)) y;
               };
         }

@@ -28,7 +28,8 @@ fn add_scores(
     v: &mut [f64],
 )
     requires { ⌜ TreeLies (length (now v)) a n (columnsOf (now value) (now feature) (now threshold) (now score) (now truechild) (now falsechild)) ⌝ }
-    ensures { λ _. ⌜ now (v .exit) ≡ addScores (now (v .entry)) (entriesAt (columnsOf (now (value .entry)) (now (feature .entry)) (now (threshold .entry)) (now (score .entry)) (now (truechild .entry)) (now (falsechild .entry))) a n) ⌝ }
+    ensures { λ _. ⌜ now (v .exit) ≡ addScores (now (v .entry))
+        (entriesAt (columnsOf (now (value .entry)) (now (feature .entry)) (now (threshold .entry)) (now (score .entry)) (now (truechild .entry)) (now (falsechild .entry))) a n) ⌝ }
 {
     let mut k: usize = 0;
     while k < n {
@@ -50,7 +51,8 @@ fn score_tree(
     v: &mut [f64],
 )
     requires { ⌜ TreeLies (length (now v)) a n (columnsOf (now value) (now feature) (now threshold) (now score) (now truechild) (now falsechild)) ⌝ }
-    ensures { λ _. ⌜ now (v .exit) ≡ scoresOf (length (now (v .entry))) (entriesAt (columnsOf (now (value .entry)) (now (feature .entry)) (now (threshold .entry)) (now (score .entry)) (now (truechild .entry)) (now (falsechild .entry))) a n) ⌝ }
+    ensures { λ _. ⌜ now (v .exit) ≡ scoresOf (length (now (v .entry)))
+        (entriesAt (columnsOf (now (value .entry)) (now (feature .entry)) (now (threshold .entry)) (now (score .entry)) (now (truechild .entry)) (now (falsechild .entry))) a n) ⌝ }
 {
     slices::zero_f64(v);
     add_scores(
@@ -76,7 +78,9 @@ fn tree_verdict(
     falsechild: &[u32],
     room: usize,
 ) -> u32
-    ensures { λ r. ⌜ ((out : List Float) → length out ≡ room → r ≡ firstFailed (treeImportanceTests features (columnsOf (now (value .entry)) (now (feature .entry)) (now (threshold .entry)) (now (score .entry)) (now (truechild .entry)) (now (falsechild .entry))) out)) ⌝ }
+    ensures { λ r. ⌜ ((out : List Float) → length out ≡ room → r ≡ firstFailed
+        (treeImportanceTests features (columnsOf (now (value .entry)) (now (feature .entry)) (now (threshold .entry)) (now (score .entry)) (now (truechild .entry))
+        (now (falsechild .entry))) out)) ⌝ }
 {
     if !checks::features_in(features) {
         return 1;
@@ -120,7 +124,9 @@ pub fn tree_importances(
     falsechild: &[u32],
     out: &mut [f64],
 ) -> Reply
-    ensures { λ r. ⌜ _≡_ {A = Outcome Reply (List Float)} (record { answer = r; rooms = now (out .exit) }) (treeImportances features by (columnsOf (now (value .entry)) (now (feature .entry)) (now (threshold .entry)) (now (score .entry)) (now (truechild .entry)) (now (falsechild .entry))) (now (out .entry))) ⌝ }
+    ensures { λ r. ⌜ _≡_ {A = Outcome Reply (List Float)} (record { answer = r; rooms = now (out .exit) })
+        (treeImportances features by (columnsOf (now (value .entry)) (now (feature .entry)) (now (threshold .entry)) (now (score .entry)) (now (truechild .entry))
+        (now (falsechild .entry))) (now (out .entry))) ⌝ }
 {
     let room = out.len();
     let number = tree_verdict(
@@ -175,7 +181,9 @@ fn add_tree(
     own: &mut [f64],
 )
     requires { ⌜ TreeLies (length (now v)) a n (columnsOf (now value) (now feature) (now threshold) (now score) (now truechild) (now falsechild)) × (length (now own) ≡ length (now v)) ⌝ }
-    ensures { λ _. ⌜ now (v .exit) ≡ addEach (now (v .entry)) (normalised (scoresOf (length (now (v .entry))) (entriesAt (columnsOf (now (value .entry)) (now (feature .entry)) (now (threshold .entry)) (now (score .entry)) (now (truechild .entry)) (now (falsechild .entry))) a n))) ⌝ }
+    ensures { λ _. ⌜ now (v .exit) ≡ addEach (now (v .entry)) (normalised
+        (scoresOf (length (now (v .entry))) (entriesAt (columnsOf (now (value .entry)) (now (feature .entry)) (now (threshold .entry)) (now (score .entry)) (now (truechild .entry))
+        (now (falsechild .entry))) a n))) ⌝ }
 {
     score_tree(
         a,
@@ -203,8 +211,11 @@ fn add_trees(
     v: &mut [f64],
     own: &mut [f64],
 )
-    requires { ⌜ TreesLie (length (now v)) (tableOf trees (now starts) (columnsOf (now value) (now feature) (now threshold) (now score) (now truechild) (now falsechild))) × (length (now own) ≡ length (now v)) ⌝ }
-    ensures { λ _. ⌜ now (v .exit) ≡ addImportances (length (now (v .entry))) (now (v .entry)) (treesOf (tableOf trees (now (starts .entry)) (columnsOf (now (value .entry)) (now (feature .entry)) (now (threshold .entry)) (now (score .entry)) (now (truechild .entry)) (now (falsechild .entry))))) ⌝ }
+    requires { ⌜ TreesLie (length (now v)) (tableOf trees (now starts) (columnsOf (now value) (now feature) (now threshold) (now score) (now truechild) (now falsechild)))
+        × (length (now own) ≡ length (now v)) ⌝ }
+    ensures { λ _. ⌜ now (v .exit) ≡ addImportances (length (now (v .entry))) (now (v .entry))
+        (treesOf (tableOf trees (now (starts .entry)) (columnsOf (now (value .entry)) (now (feature .entry)) (now (threshold .entry)) (now (score .entry)) (now (truechild .entry))
+        (now (falsechild .entry))))) ⌝ }
 {
     let mut t: usize = 0;
     while t < trees {
@@ -240,7 +251,9 @@ fn forest_verdict(
     falsechild: &[u32],
     room: usize,
 ) -> u32
-    ensures { λ r. ⌜ ((out : List Float) → length out ≡ room → r ≡ firstFailed (forestImportanceTests features (tableOf trees (now (starts .entry)) (columnsOf (now (value .entry)) (now (feature .entry)) (now (threshold .entry)) (now (score .entry)) (now (truechild .entry)) (now (falsechild .entry)))) out)) ⌝ }
+    ensures { λ r. ⌜ ((out : List Float) → length out ≡ room → r ≡ firstFailed
+        (forestImportanceTests features (tableOf trees (now (starts .entry))
+        (columnsOf (now (value .entry)) (now (feature .entry)) (now (threshold .entry)) (now (score .entry)) (now (truechild .entry)) (now (falsechild .entry)))) out)) ⌝ }
 {
     if !checks::features_in(features) {
         return 1;
@@ -283,7 +296,10 @@ pub fn forest_importances(
     falsechild: &[u32],
     out: &mut [f64],
 ) -> Reply
-    ensures { λ r. ⌜ _≡_ {A = Outcome Reply (List Float)} (record { answer = r; rooms = now (out .exit) }) (forestImportances features (tableOf trees (now (starts .entry)) (columnsOf (now (value .entry)) (now (feature .entry)) (now (threshold .entry)) (now (score .entry)) (now (truechild .entry)) (now (falsechild .entry)))) (now (out .entry))) ⌝ }
+    ensures { λ r. ⌜ _≡_ {A = Outcome Reply (List Float)} (record { answer = r; rooms = now (out .exit) })
+        (forestImportances features (tableOf trees (now (starts .entry))
+        (columnsOf (now (value .entry)) (now (feature .entry)) (now (threshold .entry)) (now (score .entry)) (now (truechild .entry)) (now (falsechild .entry))))
+        (now (out .entry))) ⌝ }
 {
     let room = out.len();
     let number = forest_verdict(

@@ -47,7 +47,9 @@ fn table_verdict(
     falsechild: &[u32],
 ) -> u32
     requires { ⌜ Ranges shape trees ⌝ }
-    ensures { λ r. ⌜ ((out : List Float) → length out ≡ places → r ≡ firstFailed (tableTests shape (now (values .entry)) (tableOf trees (now (starts .entry)) (columnsOf (now (value .entry)) (now (feature .entry)) (now (threshold .entry)) (now (score .entry)) (now (truechild .entry)) (now (falsechild .entry)))) out)) ⌝ }
+    ensures { λ r. ⌜ ((out : List Float) → length out ≡ places → r ≡ firstFailed
+        (tableTests shape (now (values .entry)) (tableOf trees (now (starts .entry))
+        (columnsOf (now (value .entry)) (now (feature .entry)) (now (threshold .entry)) (now (score .entry)) (now (truechild .entry)) (now (falsechild .entry)))) out)) ⌝ }
 {
     if !checks::values_long(shape, values) {
         return 2;
@@ -87,7 +89,9 @@ fn mean_verdict(
     truechild: &[u32],
     falsechild: &[u32],
 ) -> u32
-    ensures { λ r. ⌜ ((out : List Float) → length out ≡ places → r ≡ firstFailed (meanTests shape (now (values .entry)) (tableOf trees (now (starts .entry)) (columnsOf (now (value .entry)) (now (feature .entry)) (now (threshold .entry)) (now (score .entry)) (now (truechild .entry)) (now (falsechild .entry)))) out)) ⌝ }
+    ensures { λ r. ⌜ ((out : List Float) → length out ≡ places → r ≡ firstFailed
+        (meanTests shape (now (values .entry)) (tableOf trees (now (starts .entry))
+        (columnsOf (now (value .entry)) (now (feature .entry)) (now (threshold .entry)) (now (score .entry)) (now (truechild .entry)) (now (falsechild .entry)))) out)) ⌝ }
 {
     if !checks::forest::forest_in(shape, trees) {
         return 1;
@@ -122,7 +126,9 @@ pub fn forest_means(
     out: &mut [f64],
 ) -> Reply
     ensures { λ r. ⌜ _≡_ {A = Outcome Reply (List Float)} (record { answer = r; rooms = now (out .exit) })
-        (forestMeans shape (now (values .entry)) (tableOf trees (now (starts .entry)) (columnsOf (now (value .entry)) (now (feature .entry)) (now (threshold .entry)) (now (score .entry)) (now (truechild .entry)) (now (falsechild .entry)))) (now (out .entry))) ⌝ }
+        (forestMeans shape (now (values .entry)) (tableOf trees (now (starts .entry))
+        (columnsOf (now (value .entry)) (now (feature .entry)) (now (threshold .entry)) (now (score .entry)) (now (truechild .entry)) (now (falsechild .entry))))
+        (now (out .entry))) ⌝ }
 {
     let places = out.len();
     let number = mean_verdict(
@@ -174,7 +180,10 @@ fn out_verdict(
     truechild: &[u32],
     falsechild: &[u32],
 ) -> u32
-    ensures { λ r. ⌜ ((out : List Float) → length out ≡ places → r ≡ firstFailed (outTests shape (now (values .entry)) (now (counts .entry)) (tableOf trees (now (starts .entry)) (columnsOf (now (value .entry)) (now (feature .entry)) (now (threshold .entry)) (now (score .entry)) (now (truechild .entry)) (now (falsechild .entry)))) out)) ⌝ }
+    ensures { λ r. ⌜ ((out : List Float) → length out ≡ places → r ≡ firstFailed
+        (outTests shape (now (values .entry)) (now (counts .entry))
+        (tableOf trees (now (starts .entry)) (columnsOf (now (value .entry)) (now (feature .entry)) (now (threshold .entry)) (now (score .entry)) (now (truechild .entry))
+        (now (falsechild .entry)))) out)) ⌝ }
 {
     if !checks::forest::forest_in(shape, trees) {
         return 1;
@@ -217,7 +226,9 @@ pub fn out_of_bag_means(
     out: &mut [f64],
 ) -> Reply
     ensures { λ r. ⌜ _≡_ {A = Outcome Reply (List Float)} (record { answer = r; rooms = now (out .exit) })
-        (outOfBagMeans shape (now (values .entry)) (now (counts .entry)) (tableOf trees (now (starts .entry)) (columnsOf (now (value .entry)) (now (feature .entry)) (now (threshold .entry)) (now (score .entry)) (now (truechild .entry)) (now (falsechild .entry)))) (now (out .entry))) ⌝ }
+        (outOfBagMeans shape (now (values .entry)) (now (counts .entry))
+        (tableOf trees (now (starts .entry)) (columnsOf (now (value .entry)) (now (feature .entry)) (now (threshold .entry)) (now (score .entry)) (now (truechild .entry))
+        (now (falsechild .entry)))) (now (out .entry))) ⌝ }
 {
     let places = out.len();
     let number = out_verdict(

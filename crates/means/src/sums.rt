@@ -36,7 +36,9 @@ fn sum_with(
     falsechild: &[u32],
 ) -> f64
     requires { ⌜ Walkable features a n i (now values) (columnsOf (now value) (now feature) (now threshold) (now score) (now truechild) (now falsechild)) ⌝ }
-    ensures { λ r. ⌜ r ≡ cond (isOut (now (counts .entry)) at) (add binary64 x (leafAt features (now (values .entry)) (entriesAt (columnsOf (now (value .entry)) (now (feature .entry)) (now (threshold .entry)) (now (score .entry)) (now (truechild .entry)) (now (falsechild .entry))) a n) i)) x ⌝ }
+    ensures { λ r. ⌜ r ≡ cond (isOut (now (counts .entry)) at)
+        (add binary64 x (leafAt features (now (values .entry)) (entriesAt
+        (columnsOf (now (value .entry)) (now (feature .entry)) (now (threshold .entry)) (now (score .entry)) (now (truechild .entry)) (now (falsechild .entry))) a n) i)) x ⌝ }
 {
     if bags::is_out(counts, at) {
         let v = predict::row_value(
@@ -76,7 +78,9 @@ fn add_tree(
     out: &mut [f64],
 )
     requires { ⌜ Countable base × Readable rows features a n (now values) (columnsOf (now value) (now feature) (now threshold) (now score) (now truechild) (now falsechild)) (now out) ⌝ }
-    ensures { λ _. ⌜ now (out .exit) ≡ rewritten (withTree (now (counts .entry)) base (leafAt features (now (values .entry)) (entriesAt (columnsOf (now (value .entry)) (now (feature .entry)) (now (threshold .entry)) (now (score .entry)) (now (truechild .entry)) (now (falsechild .entry))) a n))) 0 rows (now (out .entry)) ⌝ }
+    ensures { λ _. ⌜ now (out .exit) ≡ rewritten (withTree (now (counts .entry)) base
+        (leafAt features (now (values .entry)) (entriesAt (columnsOf (now (value .entry)) (now (feature .entry)) (now (threshold .entry)) (now (score .entry))
+        (now (truechild .entry)) (now (falsechild .entry))) a n))) 0 rows (now (out .entry)) ⌝ }
 {
     let mut i: usize = 0;
     while i < rows {
@@ -118,7 +122,9 @@ fn add_trees(
     out: &mut [f64],
 )
     requires { ⌜ ForestReadable rows features (now values) (tableOf trees (now starts) (columnsOf (now value) (now feature) (now threshold) (now score) (now truechild) (now falsechild))) (now out) ⌝ }
-    ensures { λ _. ⌜ now (out .exit) ≡ rewritten (summed rows features (now (values .entry)) (now (counts .entry)) 0 (treesOf (tableOf trees (now (starts .entry)) (columnsOf (now (value .entry)) (now (feature .entry)) (now (threshold .entry)) (now (score .entry)) (now (truechild .entry)) (now (falsechild .entry)))))) 0 rows (now (out .entry)) ⌝ }
+    ensures { λ _. ⌜ now (out .exit) ≡ rewritten (summed rows features (now (values .entry)) (now (counts .entry)) 0
+        (treesOf (tableOf trees (now (starts .entry)) (columnsOf (now (value .entry)) (now (feature .entry)) (now (threshold .entry)) (now (score .entry)) (now (truechild .entry))
+        (now (falsechild .entry)))))) 0 rows (now (out .entry)) ⌝ }
 {
     let mut t: usize = 0;
     while t < trees {
@@ -176,8 +182,11 @@ pub fn means(
     falsechild: &[u32],
     out: &mut [f64],
 )
-    requires { ⌜ ForestReadable (shape .rows) (shape .features) (now values) (tableOf trees (now starts) (columnsOf (now value) (now feature) (now threshold) (now score) (now truechild) (now falsechild))) (now out) ⌝ }
-    ensures { λ _. ⌜ now (out .exit) ≡ map (outOfBagMean shape (now (values .entry)) (now (counts .entry)) (tableOf trees (now (starts .entry)) (columnsOf (now (value .entry)) (now (feature .entry)) (now (threshold .entry)) (now (score .entry)) (now (truechild .entry)) (now (falsechild .entry))))) (from 0 (shape .rows)) ⌝ }
+    requires { ⌜ ForestReadable (shape .rows) (shape .features) (now values)
+        (tableOf trees (now starts) (columnsOf (now value) (now feature) (now threshold) (now score) (now truechild) (now falsechild))) (now out) ⌝ }
+    ensures { λ _. ⌜ now (out .exit) ≡ map (outOfBagMean shape (now (values .entry)) (now (counts .entry))
+        (tableOf trees (now (starts .entry)) (columnsOf (now (value .entry)) (now (feature .entry)) (now (threshold .entry)) (now (score .entry)) (now (truechild .entry))
+        (now (falsechild .entry))))) (from 0 (shape .rows)) ⌝ }
 {
     let rows = shape.rows;
     let features = shape.features;

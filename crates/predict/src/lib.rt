@@ -26,7 +26,8 @@ pub fn row_value(
     falsechild: &[u32],
 ) -> f64
     requires { ⌜ Walkable features a n i (now values) (columnsOf (now value) (now feature) (now threshold) (now score) (now truechild) (now falsechild)) ⌝ }
-    ensures { λ r. ⌜ r ≡ leafAt features (now (values .entry)) (entriesAt (columnsOf (now (value .entry)) (now (feature .entry)) (now (threshold .entry)) (now (score .entry)) (now (truechild .entry)) (now (falsechild .entry))) a n) i ⌝ }
+    ensures { λ r. ⌜ r ≡ leafAt features (now (values .entry))
+        (entriesAt (columnsOf (now (value .entry)) (now (feature .entry)) (now (threshold .entry)) (now (score .entry)) (now (truechild .entry)) (now (falsechild .entry))) a n) i ⌝ }
 {
     let base = i * features;
     let mut k: usize = 0;
@@ -54,7 +55,9 @@ fn predict_rows(
     out: &mut [f64],
 )
     requires { ⌜ Readable rows features 0 n (now values) (columnsOf (now value) (now feature) (now threshold) (now score) (now truechild) (now falsechild)) (now out) ⌝ }
-    ensures { λ _. ⌜ now (out .exit) ≡ map (leafAt features (now (values .entry)) (entriesAt (columnsOf (now (value .entry)) (now (feature .entry)) (now (threshold .entry)) (now (score .entry)) (now (truechild .entry)) (now (falsechild .entry))) 0 n)) (from 0 rows) ⌝ }
+    ensures { λ _. ⌜ now (out .exit) ≡ map (leafAt features (now (values .entry))
+        (entriesAt (columnsOf (now (value .entry)) (now (feature .entry)) (now (threshold .entry)) (now (score .entry)) (now (truechild .entry)) (now (falsechild .entry))) 0 n))
+        (from 0 rows) ⌝ }
 {
     let mut i: usize = 0;
     while i < rows {
@@ -87,7 +90,9 @@ fn predict_verdict(
     truechild: &[u32],
     falsechild: &[u32],
 ) -> u32
-    ensures { λ r. ⌜ ((out : List Float) → length out ≡ places → r ≡ firstFailed (predictTests shape (now (values .entry)) (columnsOf (now (value .entry)) (now (feature .entry)) (now (threshold .entry)) (now (score .entry)) (now (truechild .entry)) (now (falsechild .entry))) out)) ⌝ }
+    ensures { λ r. ⌜ ((out : List Float) → length out ≡ places → r ≡ firstFailed
+        (predictTests shape (now (values .entry)) (columnsOf (now (value .entry)) (now (feature .entry)) (now (threshold .entry)) (now (score .entry)) (now (truechild .entry))
+        (now (falsechild .entry))) out)) ⌝ }
 {
     if !checks::shape_in(shape) {
         return 1;
@@ -135,7 +140,8 @@ pub fn predict_tree(
     out: &mut [f64],
 ) -> Reply
     ensures { λ r. ⌜ _≡_ {A = Outcome Reply (List Float)} (record { answer = r; rooms = now (out .exit) })
-        (predictTree shape (now (values .entry)) (columnsOf (now (value .entry)) (now (feature .entry)) (now (threshold .entry)) (now (score .entry)) (now (truechild .entry)) (now (falsechild .entry))) (now (out .entry))) ⌝ }
+        (predictTree shape (now (values .entry)) (columnsOf (now (value .entry)) (now (feature .entry)) (now (threshold .entry)) (now (score .entry)) (now (truechild .entry))
+        (now (falsechild .entry))) (now (out .entry))) ⌝ }
 {
     let places = out.len();
     let number = predict_verdict(

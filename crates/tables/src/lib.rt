@@ -23,7 +23,8 @@ pub fn tree_good(
     falsechild: &[u32],
 ) -> bool
     requires { ⌜ Within (columnsOf (now value) (now feature) (now threshold) (now score) (now truechild) (now falsechild)) a n ⌝ }
-    ensures { λ r. ⌜ r ≡ goodTree features (entriesAt (columnsOf (now (value .entry)) (now (feature .entry)) (now (threshold .entry)) (now (score .entry)) (now (truechild .entry)) (now (falsechild .entry))) a n) ⌝ }
+    ensures { λ r. ⌜ r ≡ goodTree features (entriesAt (columnsOf (now (value .entry)) (now (feature .entry)) (now (threshold .entry)) (now (score .entry))
+        (now (truechild .entry)) (now (falsechild .entry))) a n) ⌝ }
 {
     if n == 0 {
         return false;
@@ -88,7 +89,8 @@ pub fn trees_good(
     falsechild: &[u32],
 ) -> bool
     requires { ⌜ Lying (tableOf trees (now starts) (columnsOf (now value) (now feature) (now threshold) (now score) (now truechild) (now falsechild))) ⌝ }
-    ensures { λ r. ⌜ r ≡ every (goodTree features) (treesOf (tableOf trees (now (starts .entry)) (columnsOf (now (value .entry)) (now (feature .entry)) (now (threshold .entry)) (now (score .entry)) (now (truechild .entry)) (now (falsechild .entry))))) ⌝ }
+    ensures { λ r. ⌜ r ≡ every (goodTree features) (treesOf (tableOf trees (now (starts .entry))
+        (columnsOf (now (value .entry)) (now (feature .entry)) (now (threshold .entry)) (now (score .entry)) (now (truechild .entry)) (now (falsechild .entry))))) ⌝ }
 {
     let mut t: usize = 0;
     while t < trees {
@@ -126,7 +128,8 @@ pub fn forest_good(
     falsechild: &[u32],
 ) -> bool
     requires { ⌜ Started trees (now starts) ⌝ }
-    ensures { λ r. ⌜ r ≡ goodForest features (tableOf trees (now (starts .entry)) (columnsOf (now (value .entry)) (now (feature .entry)) (now (threshold .entry)) (now (score .entry)) (now (truechild .entry)) (now (falsechild .entry)))) ⌝ }
+    ensures { λ r. ⌜ r ≡ goodForest features (tableOf trees (now (starts .entry))
+        (columnsOf (now (value .entry)) (now (feature .entry)) (now (threshold .entry)) (now (score .entry)) (now (truechild .entry)) (now (falsechild .entry)))) ⌝ }
 {
     let n = slices::shortest_of(
         value.len(),
@@ -165,7 +168,8 @@ fn tree_verdict(
     truechild: &[u32],
     falsechild: &[u32],
 ) -> u32
-    ensures { λ r. ⌜ r ≡ firstFailed (treeTableTests features (columnsOf (now (value .entry)) (now (feature .entry)) (now (threshold .entry)) (now (score .entry)) (now (truechild .entry)) (now (falsechild .entry)))) ⌝ }
+    ensures { λ r. ⌜ r ≡ firstFailed (treeTableTests features (columnsOf (now (value .entry)) (now (feature .entry)) (now (threshold .entry)) (now (score .entry))
+        (now (truechild .entry)) (now (falsechild .entry)))) ⌝ }
 {
     if !checks::features_in(features) {
         return 1;
@@ -239,7 +243,9 @@ fn forest_verdict(
     truechild: &[u32],
     falsechild: &[u32],
 ) -> u32
-    ensures { λ r. ⌜ r ≡ firstFailed (forestTableTests features (tableOf trees (now (starts .entry)) (columnsOf (now (value .entry)) (now (feature .entry)) (now (threshold .entry)) (now (score .entry)) (now (truechild .entry)) (now (falsechild .entry))))) ⌝ }
+    ensures { λ r. ⌜ r ≡ firstFailed (forestTableTests features
+        (tableOf trees (now (starts .entry)) (columnsOf (now (value .entry)) (now (feature .entry)) (now (threshold .entry)) (now (score .entry)) (now (truechild .entry))
+        (now (falsechild .entry))))) ⌝ }
 {
     if !forest_in(features, trees) {
         return 1;
@@ -275,7 +281,8 @@ pub fn check_forest(
     truechild: &[u32],
     falsechild: &[u32],
 ) -> Reply
-    ensures { λ r. ⌜ r ≡ checkForest features (tableOf trees (now (starts .entry)) (columnsOf (now (value .entry)) (now (feature .entry)) (now (threshold .entry)) (now (score .entry)) (now (truechild .entry)) (now (falsechild .entry)))) ⌝ }
+    ensures { λ r. ⌜ r ≡ checkForest features (tableOf trees (now (starts .entry))
+        (columnsOf (now (value .entry)) (now (feature .entry)) (now (threshold .entry)) (now (score .entry)) (now (truechild .entry)) (now (falsechild .entry)))) ⌝ }
 {
     let number = forest_verdict(
         features,
@@ -304,7 +311,8 @@ pub fn read_node(
     falsechild: &[u32],
     k: usize,
 ) -> NodeReply
-    ensures { λ r. ⌜ r ≡ readNode features (columnsOf (now (value .entry)) (now (feature .entry)) (now (threshold .entry)) (now (score .entry)) (now (truechild .entry)) (now (falsechild .entry))) k ⌝ }
+    ensures { λ r. ⌜ r ≡ readNode features (columnsOf (now (value .entry)) (now (feature .entry)) (now (threshold .entry)) (now (score .entry)) (now (truechild .entry))
+        (now (falsechild .entry))) k ⌝ }
 {
     let number = tree_verdict(
         features,

@@ -22,11 +22,15 @@ returns c = c .before .float-of .ensures ∙ mass-alone _ _ _ (c .if1 .taken)
 mul-result : tie.Need-mul-result
 mul-result c = search needs
 
+abbrev start-place : tie.After-shared-slice-known4 → tie.Start
+start-place c = c .before .before .before .before .before .before
+
 shared-slice-read-result : tie.Need-shared-slice-read-result
-shared-slice-read-result c = c .before .before .before .before .before .before .pre .weighed (some-long (c .before .before .before .before .before .before .args .weights .now) (c .before .if1 .left))
+shared-slice-read-result c = start-place c .pre .weighed (some-long (start-place c .args .weights .now) (c .before .if1 .left))
 
 returns-2 : tie.Need-returns-2
-returns-2 c = (λ r. mul binary64 (c .before .before .float-of .ensures r) (getD (c .before .before .before .before .before .before .args .weights .now) (c .before .before .before .before .before .before .args .i) nan)) ∙ mass-weighed _ _ _ (c .before .if1 .left)
+returns-2 c =
+    (λ r. mul binary64 (c .before .before .float-of .ensures r) (getD (start-place c .args .weights .now) (start-place c .args .i) nan)) ∙ mass-weighed _ _ _ (c .before .if1 .left)
 
 pub mass-of-spec : {M : Type 1} → statement M
 mass-of-spec =

@@ -11,10 +11,13 @@ returns-2 : tie.Need-returns-2
 unfolding score massless
 returns-2 c = simp (c .before .before .if1 .left, c .if2 .taken)
 
+abbrev else2-place : tie.After-struct-known8 → tie.Else2
+else2-place c = c .before .before .before .before .before .before
+
 returns-3 : tie.Need-returns-3
 unfolding score massless gap
 returns-3 c =
-    let at = c .before .before .before .before .before .before in
+    let at = else2-place c in
     rw (at .before .before .if1 .left, at .if2 .left)
 
 pub score-of-spec : {M : Type 1} → statement M

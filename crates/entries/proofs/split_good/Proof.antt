@@ -10,7 +10,8 @@ use Rattle.entries.proofs.split_good.Tie as tie
 
 -- widened, the numbers are the same
 same : (c : tie.After-wide3) → let a = c .before .before .before .args in
-    goodSplit (a .features) (a .n) (a .k) (c .wide3 .result) (c .before .before .wide .result) (c .before .wide2 .result) ≡ goodSplit (a .features) (a .n) (a .k) (a .feature) (a .truechild) (a .falsechild)
+    goodSplit (a .features) (a .n) (a .k) (c .wide3 .result) (c .before .before .wide .result) (c .before .wide2 .result) ≡ goodSplit (a .features) (a .n) (a .k) (a .feature)
+    (a .truechild) (a .falsechild)
 same c =
     let a = c .before .before .before .args in
     λ i. goodSplit (a .features) (a .n) (a .k) (c .wide3 .ensures i) (c .before .before .wide .ensures i) (c .before .wide2 .ensures i)
@@ -34,10 +35,14 @@ returns-2 : tie.Need-returns-2
 returns-2 c = and-on _ _ (lt-ltb _ _ (c .before .if1 .left)) (and-off _ _ (ne-eqb _ _ (λ h. c .if2 .taken (h ∙ sym (add-one _))))) ∙ same (c .before .before)
 
 returns-3 : tie.Need-returns-3
-returns-3 c = and-on _ _ (lt-ltb _ _ (c .before .before .if1 .left)) (and-on _ _ (eq-eqb _ _ (c .before .if2 .left ∙ add-one _)) (and-off _ _ (le-ltb _ _ (c .if3 .taken)))) ∙ same (c .before .before .before)
+returns-3 c =
+    and-on _ _ (lt-ltb _ _ (c .before .before .if1 .left)) (and-on _ _ (eq-eqb _ _ (c .before .if2 .left ∙ add-one _)) (and-off _ _ (le-ltb _ _ (c .if3 .taken)))) ∙ same
+    (c .before .before .before)
 
 returns-4 : tie.Need-returns-4
-returns-4 c = and-on _ _ (lt-ltb _ _ (c .before .before .if1 .left)) (and-on _ _ (eq-eqb _ _ (c .before .if2 .left ∙ add-one _)) (and-on _ _ (lt-ltb _ _ (c .if3 .left)) refl)) ∙ same (c .before .before .before)
+returns-4 c =
+    and-on _ _ (lt-ltb _ _ (c .before .before .if1 .left)) (and-on _ _ (eq-eqb _ _ (c .before .if2 .left ∙ add-one _)) (and-on _ _ (lt-ltb _ _ (c .if3 .left)) refl)) ∙ same
+    (c .before .before .before)
 
 pub split-good-spec : {M : Type 1} → statement M
 split-good-spec =

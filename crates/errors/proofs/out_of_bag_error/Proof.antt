@@ -21,7 +21,8 @@ error-verdict-requires c κs = search needs
 
 returns : tie.Need-returns
 unfolding outOfBagError
-returns c = errs-refused _ (error (c .before .before .before .before)) (c .if1 .taken) ∙ ap (λ n. errs n (error (c .before .before .before .before))) (c .before .error-verdict .ensures)
+returns c =
+    errs-refused _ (error (c .before .before .before .before)) (c .if1 .taken) ∙ ap (λ n. errs n (error (c .before .before .before .before))) (c .before .error-verdict .ensures)
 
 sum-squares-requires : tie.Need-sum-squares-requires
 sum-squares-requires c κs = passed c .targets ∙ sym (passed c .means)
@@ -32,11 +33,14 @@ cast-float-of c = omega (arith, passed (c .before) .few)
 float-of-requires : tie.Need-float-of-requires
 float-of-requires c κs = search needs
 
+abbrev start-place : tie.After-float-of → tie.Start
+start-place c = c .before .before .before .before .before .before
+
 returns-2 : tie.Need-returns-2
 unfolding outOfBagError
 returns-2 c =
-    errs-done _ (error (c .before .before .before .before .before .before)) (c .before .before .if1 .left) (λ i. div binary64 (c .before .sum-squares .ensures i) (c .float-of .ensures i))
-    ∙ ap (λ n. errs n (error (c .before .before .before .before .before .before))) (c .before .before .before .error-verdict .ensures)
+    errs-done _ (error (start-place c)) (c .before .before .if1 .left) (λ i. div binary64 (c .before .sum-squares .ensures i) (c .float-of .ensures i))
+    ∙ ap (λ n. errs n (error (start-place c))) (c .before .before .before .error-verdict .ensures)
 
 pub out-of-bag-error-spec : {M : Type 1} → statement M
 out-of-bag-error-spec =

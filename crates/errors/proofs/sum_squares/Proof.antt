@@ -44,15 +44,21 @@ add-i c = search needs
 loop-less : tie.Need-loop-less Inv-loop μ-loop
 loop-less c = search needs
 
+abbrev start-place : tie.After-with-square Inv-loop μ-loop → tie.Start Inv-loop μ-loop
+start-place c = c .before .before .before .before .before .before .before
+
 loop-again : tie.Need-loop-again Inv-loop μ-loop
 loop-again c =
     let at = c .before .before .before .before in
-    let ys = now (c .before .before .before .before .before .before .before .args .targets) in
-    let ms = now (c .before .before .before .before .before .before .before .args .means) in
-    at .loop .inv ∙ squares-next ys ms (at .loop .s) (at .loop .i) (c .before .before .before .loop-test .taken) (other (c .before .before .before)) ∙ ap (λ s. squaresOn ys ms s (at .loop .i + 1)) (sym (c .with-square .ensures))
+    let ys = now (start-place c .args .targets) in
+    let ms = now (start-place c .args .means) in
+    at .loop .inv ∙ squares-next ys ms (at .loop .s) (at .loop .i) (c .before .before .before .loop-test .taken) (other (c .before .before .before))
+    ∙ ap (λ s. squaresOn ys ms s (at .loop .i + 1)) (sym (c .with-square .ensures))
 
 returns : tie.Need-returns Inv-loop μ-loop
-returns c = sym (c .before .loop .inv ∙ squares-end (now (c .before .before .before .before .args .targets)) (now (c .before .before .before .before .args .means)) (c .before .loop .s) (c .before .loop .i) (c .loop-test .left))
+returns c =
+    sym (c .before .loop .inv ∙ squares-end (now (c .before .before .before .before .args .targets)) (now (c .before .before .before .before .args .means)) (c .before .loop .s)
+    (c .before .loop .i) (c .loop-test .left))
 
 pub sum-squares-spec : {M : Type 1} → statement M
 sum-squares-spec =

@@ -49,30 +49,49 @@ mul-add-score-4 c = search needs
 shared-slice-read-add-score-4 : tie.Need-shared-slice-read-add-score-4 Inv-loop μ-loop
 shared-slice-read-add-score-4 c = search needs
 
+abbrev start-of-loop : tie.After-loop Inv-loop μ-loop → tie.Start Inv-loop μ-loop
+start-of-loop c = c .before .before .before .before .before .before .before .before .before
+
+abbrev loop-of-add-score-arg : tie.After-add-score-arg Inv-loop μ-loop → tie.At-loop Inv-loop μ-loop
+loop-of-add-score-arg c = c .before .before .before .before .before .before
+
+abbrev start-of-add-score-arg : tie.After-add-score-arg Inv-loop μ-loop → tie.Start Inv-loop μ-loop
+start-of-add-score-arg c = loop-of-add-score-arg c .before .before .before .before .before .before .before .before
+
+abbrev loop-place : tie.After-slice-known2 Inv-loop μ-loop → tie.In-loop Inv-loop μ-loop
+loop-place c = c .before .before .before .before .before .before .before .before
+
+abbrev loop-of-slice-known2 : tie.After-slice-known2 Inv-loop μ-loop → tie.At-loop Inv-loop μ-loop
+loop-of-slice-known2 c = loop-place c .before
+
+abbrev start-of-slice-known2 : tie.After-slice-known2 Inv-loop μ-loop → tie.Start Inv-loop μ-loop
+start-of-slice-known2 c = start-of-add-score-arg (c .before .before .before)
+
 add-score-requires : tie.Need-add-score-requires Inv-loop μ-loop
 add-score-requires c κs =
-    let s = c .before .before .before .before .before .before .before .before .before .before .before .before .before .before in
-    let l = c .before .before .before .before .before .before .loop in
-    λ h. subst (λ m. getD (now (s .args .feature)) (s .args .a + l .k) 0 < m) (sym (l .inv .long)) (split-known (columns s) (s .args .a) (s .args .n) _ (l .k) (s .pre) (c .before .before .before .before .before .loop-test .taken) h)
+    let s = start-of-add-score-arg c in
+    let l = loop-of-add-score-arg c .loop in
+    λ h. subst (λ m. getD (now (s .args .feature)) (s .args .a + l .k) 0 < m) (sym (l .inv .long))
+    (split-known (columns s) (s .args .a) (s .args .n) _ (l .k) (s .pre) (c .before .before .before .before .before .loop-test .taken) h)
 
 add-k : tie.Need-add-k Inv-loop μ-loop
 add-k c = search needs
 
 loop-less : tie.Need-loop-less Inv-loop μ-loop
-loop-less c = omega (arith, c .before .before .before .before .before .before .before .before .loop-test .taken)
+loop-less c = omega (arith, loop-place c .loop-test .taken)
 
 loop-again : tie.Need-loop-again Inv-loop μ-loop
 loop-again c =
-    let s = c .before .before .before .before .before .before .before .before .before .before .before .before .before .before .before .before .before in
+    let s = start-of-slice-known2 c in
     let p = c .before .before .add-score in
-    let l = c .before .before .before .before .before .before .before .before .before .loop in
-    adding-turn (columns s) (s .args .a) (s .args .n) (now (s .args .v)) (l .v) (l .k) (l .inv) (c .before .before .before .before .before .before .before .before .loop-test .taken) (p .kept .1 .1 .1 .1 .0) (p .ensures)
+    let l = loop-of-slice-known2 c .loop in
+    adding-turn (columns s) (s .args .a) (s .args .n) (now (s .args .v)) (l .v) (l .k) (l .inv) (loop-place c .loop-test .taken) (p .kept .1 .1 .1 .1 .0) (p .ensures)
 
 same-length : tie.Need-same-length Inv-loop μ-loop
 same-length c = c .before .loop .inv .long
 
 returns : tie.Need-returns Inv-loop μ-loop
-returns c = let s = c .before .before .before .before .before .before .before .before .before in adding-done (columns s) (s .args .a) (s .args .n) _ _ _ (c .before .loop .inv) (c .loop-test .left)
+returns c = let s = start-of-loop c in adding-done (columns s) (s .args .a) (s .args .n) _ _ _ (c .before .loop .inv) (c .loop-test .left)
 
 pub add-scores-spec : {M : Type 1} → statement M
 add-scores-spec =

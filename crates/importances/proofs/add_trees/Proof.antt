@@ -16,7 +16,8 @@ use Rattle.importances.proofs.add_trees.Statement.{statement}
 use Rattle.importances.proofs.add_trees.Tie as tie
 
 abbrev Inv-loop : tie.InvT-loop
-Inv-loop trees starts value feature threshold score trues falses v₀ own₀ t₀ v own t = Gathering (tableOf trees starts (columnsOf value feature threshold score trues falses)) v₀ v own t
+Inv-loop trees starts value feature threshold score trues falses v₀ own₀ t₀ v own t =
+    Gathering (tableOf trees starts (columnsOf value feature threshold score trues falses)) v₀ v own t
 
 abbrev μ-loop : tie.MeasureT-loop
 μ-loop trees starts value feature threshold score trues falses v₀ own₀ t₀ v own t = trees - t
@@ -27,14 +28,38 @@ columns s = columnsOf (now (s .args .value)) (now (s .args .feature)) (now (s .a
 abbrev table : tie.Start Inv-loop μ-loop → ForestTable
 table s = tableOf (s .args .trees) (now (s .args .starts)) (columns s)
 
+abbrev start-of-slice-known2 : tie.After-slice-known2 Inv-loop μ-loop → tie.Start Inv-loop μ-loop
+start-of-slice-known2 c = c .before .before .before .before .before .before .before .before .before
+
+abbrev start-of-in-loop : tie.In-loop Inv-loop μ-loop → tie.Start Inv-loop μ-loop
+start-of-in-loop c = start-of-slice-known2 (c .before .before)
+
+abbrev start-of-after-loop : tie.After-loop Inv-loop μ-loop → tie.Start Inv-loop μ-loop
+start-of-after-loop c = start-of-slice-known2 (c .before .before)
+
+abbrev start-of-shared-slice-known8 : tie.After-shared-slice-known8 Inv-loop μ-loop → tie.Start Inv-loop μ-loop
+start-of-shared-slice-known8 c = start-of-in-loop (c .before)
+
+abbrev start-of-shared-slice-known9 : tie.After-shared-slice-known9 Inv-loop μ-loop → tie.Start Inv-loop μ-loop
+start-of-shared-slice-known9 c = start-of-shared-slice-known8 (c .before .before)
+
+abbrev start-of-wide2 : tie.After-wide2 Inv-loop μ-loop → tie.Start Inv-loop μ-loop
+start-of-wide2 c = start-of-shared-slice-known9 (c .before)
+
+abbrev wide2-place : tie.After-slice-known4 Inv-loop μ-loop → tie.After-wide2 Inv-loop μ-loop
+wide2-place c = c .before .before .before .before .before .before .before
+
+abbrev loop-place : tie.After-slice-known4 Inv-loop μ-loop → tie.In-loop Inv-loop μ-loop
+loop-place c = wide2-place c .before .before .before .before
+
 abbrev start : tie.After-wide2 Inv-loop μ-loop → tie.Start Inv-loop μ-loop
-start c = c .before .before .before .before .before .before .before .before .before .before .before .before .before .before .before
+start c = start-of-wide2 c
 
 abbrev turn : tie.After-wide2 Inv-loop μ-loop → ℕ
 turn c = c .before .before .before .before .before .loop .t
 
-low : (c : tie.In-loop Inv-loop μ-loop) → c .before .loop .t < c .before .before .before .before .before .before .before .before .before .before .before .args .trees × (c .before .before .before .before .before .before .before .before .before .before .before .args .trees ≤ 1024)
-low c = (c .loop-test .taken, c .before .before .before .before .before .before .before .before .before .before .before .pre .0 .lying .started .few)
+low : (c : tie.In-loop Inv-loop μ-loop) → c .before .loop .t < start-of-in-loop c .args .trees × (start-of-in-loop c .args .trees ≤ 1024)
+low c = (c .loop-test .taken, start-of-in-loop c .pre .0 .lying .started .few)
 
 -- where tree t starts, and where the next does
 starts-at : (c : tie.After-wide2 Inv-loop μ-loop) → c .before .before .wide .result ≡ getD (now (start c .args .starts)) (turn c) 0
@@ -44,7 +69,7 @@ ends-at : (c : tie.After-wide2 Inv-loop μ-loop) → c .wide2 .result ≡ getD (
 ends-at c = c .wide2 .ensures ∙ ap (λ k. getD (now (start c .args .starts)) k 0) (add-one (turn c))
 
 loop-holds : tie.Need-loop-holds Inv-loop μ-loop
-loop-holds c = gather-start _ _ _ (c .before .before .before .before .before .before .before .before .before .pre .1)
+loop-holds c = gather-start _ _ _ (start-of-slice-known2 c .pre .1)
 
 add-next : tie.Need-add-next Inv-loop μ-loop
 add-next c = omega (arith, low c)
@@ -53,7 +78,7 @@ mul-wide : tie.Need-mul-wide Inv-loop μ-loop
 mul-wide c = omega (arith, low c)
 
 shared-slice-read-wide : tie.Need-shared-slice-read-wide Inv-loop μ-loop
-shared-slice-read-wide c = omega (arith, low (c .before), c .before .before .before .before .before .before .before .before .before .before .before .before .pre .0 .lying .started .long)
+shared-slice-read-wide c = omega (arith, low (c .before), start-of-shared-slice-known8 c .pre .0 .lying .started .long)
 
 wide-requires : tie.Need-wide-requires Inv-loop μ-loop
 wide-requires c κs = search needs
@@ -62,7 +87,7 @@ mul-wide-2 : tie.Need-mul-wide-2 Inv-loop μ-loop
 mul-wide-2 c = omega (arith, low (c .before .before))
 
 shared-slice-read-wide-2 : tie.Need-shared-slice-read-wide-2 Inv-loop μ-loop
-shared-slice-read-wide-2 c = omega (arith, low (c .before .before .before), c .before .before .before .before .before .before .before .before .before .before .before .before .before .before .pre .0 .lying .started .long)
+shared-slice-read-wide-2 c = omega (arith, low (c .before .before .before), start-of-shared-slice-known9 c .pre .0 .lying .started .long)
 
 wide-requires-2 : tie.Need-wide-requires-2 Inv-loop μ-loop
 wide-requires-2 c κs = search needs
@@ -80,28 +105,29 @@ add-tree-requires c κs =
     )
 
 add-t : tie.Need-add-t Inv-loop μ-loop
-add-t c = omega (arith, low (c .before .before .before .before .before .before .before .before .before .before .before))
+add-t c = omega (arith, low (loop-place c))
 
 loop-less : tie.Need-loop-less Inv-loop μ-loop
-loop-less c = omega (arith, low (c .before .before .before .before .before .before .before .before .before .before .before))
+loop-less c = omega (arith, low (loop-place c))
 
 loop-again : tie.Need-loop-again Inv-loop μ-loop
 unfolding treeAt
 loop-again c =
-    let b = c .before .before .before .before .before .before .before in
+    let b = wide2-place c in
     let l = b .before .before .before .before .before .loop in
     let p = c .before .before .before .before .add-tree in
-    gather-turn (table (start b)) _ (l .v) (l .own) (l .t) (l .inv) (b .before .before .before .before .loop-test .taken) (p .kept .1 .1 .1 .1 .1 .1 .1 .1 .0) (p .kept .1 .1 .1 .1 .1 .1 .1 .1 .1 .0)
+    gather-turn (table (start b)) _ (l .v) (l .own) (l .t) (l .inv) (b .before .before .before .before .loop-test .taken) (p .kept .1 .1 .1 .1 .1 .1 .1 .1 .0)
+    (p .kept .1 .1 .1 .1 .1 .1 .1 .1 .1 .0)
     (p .ensures ∙ (λ i. addEach (l .v) (normalised (scoresOf (length (l .v)) (entriesAt (columns (start b)) (starts-at b i) (ends-at b i - starts-at b i))))))
 
 same-length : tie.Need-same-length Inv-loop μ-loop
 same-length c = c .before .loop .inv .long
 
 same-length-2 : tie.Need-same-length-2 Inv-loop μ-loop
-same-length-2 c = c .before .loop .inv .side ∙ sym (c .before .before .before .before .before .before .before .before .before .before .before .pre .1)
+same-length-2 c = c .before .loop .inv .side ∙ sym (start-of-after-loop c .pre .1)
 
 returns : tie.Need-returns Inv-loop μ-loop
-returns c = gather-done (table (c .before .before .before .before .before .before .before .before .before .before .before)) _ _ (c .before .loop .own) _ (c .before .loop .inv) (c .loop-test .left)
+returns c = gather-done (table (start-of-after-loop c)) _ _ (c .before .loop .own) _ (c .before .loop .inv) (c .loop-test .left)
 
 pub add-trees-spec : {M : Type 1} → statement M
 add-trees-spec =

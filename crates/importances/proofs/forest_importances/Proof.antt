@@ -16,8 +16,38 @@ columns s = columnsOf (now (s .args .value)) (now (s .args .feature)) (now (s .a
 abbrev table : tie.Start → ForestTable
 table s = tableOf (s .args .trees) (now (s .args .starts)) (columns s)
 
+abbrev start-of-else1 : tie.Else1 → tie.Start
+start-of-else1 c = c .before .before .before .before .before .before .before .before .before .before
+
+abbrev start-of-then1 : tie.Then1 → tie.Start
+start-of-then1 c = c .before .before .before .before .before .before .before .before .before .before
+
+abbrev else1-of-own : tie.After-own → tie.Else1
+else1-of-own c = c .before .before .before .before .before .before
+
+abbrev start-of-own : tie.After-own → tie.Start
+start-of-own c = start-of-else1 (else1-of-own c)
+
+abbrev else1-of-own2 : tie.After-own2 → tie.Else1
+else1-of-own2 c = else1-of-own (c .before .before .before .before)
+
+abbrev divide-place : tie.After-slice-known5 → tie.After-divide
+divide-place c = c .before .before .before .before .before .before
+
+abbrev float-of-place : tie.After-slice-known5 → tie.After-float-of
+float-of-place c = divide-place c .before .before
+
+abbrev add-trees-place : tie.After-slice-known5 → tie.After-add-trees
+add-trees-place c = float-of-place c .before .before .before .before
+
+abbrev zero-f64-place : tie.After-slice-known5 → tie.After-zero-f64
+zero-f64-place c = add-trees-place c .before .before .before .before .before
+
+abbrev else1-of-slice-known5 : tie.After-slice-known5 → tie.Else1
+else1-of-slice-known5 c = else1-of-own2 (float-of-place c .before)
+
 abbrev start : tie.Else1 → tie.Start
-start c = c .before .before .before .before .before .before .before .before .before .before
+start c = start-of-else1 c
 
 passed : (c : tie.Else1) → Passes (start c .args .features) (table (start c)) (now (start c .args .out)) (c .before .forest-verdict .ensures _ refl) (c .if1 .left)
 passed c = forest-passed (start c .args .features) (table (start c)) (now (start c .args .out)) (c .before .forest-verdict .ensures _ refl) (c .if1 .left)
@@ -26,7 +56,7 @@ forest-verdict-requires : tie.Need-forest-verdict-requires
 forest-verdict-requires c κs = search needs
 
 returns : tie.Need-returns
-returns c = let s = c .before .before .before .before .before .before .before .before .before .before in forest-refused (s .args .features) (table s) (now (s .args .out)) (c .before .forest-verdict .ensures _ refl) (c .if1 .taken)
+returns c = let s = start-of-then1 c in forest-refused (s .args .features) (table s) (now (s .args .out)) (c .before .forest-verdict .ensures _ refl) (c .if1 .taken)
 
 zero-f64-requires : tie.Need-zero-f64-requires
 zero-f64-requires c κs = search needs
@@ -35,18 +65,18 @@ array-borrow-prefix-own : tie.Need-array-borrow-prefix-own
 array-borrow-prefix-own c = passed (c .before .before .before .before .before) .few
 
 slice-aggregate-add-trees : tie.Need-slice-aggregate-add-trees
-slice-aggregate-add-trees c = sym (front-long _ (passed (c .before .before .before .before .before .before) .few))
+slice-aggregate-add-trees c = sym (front-long _ (passed (else1-of-own c) .few))
 
 add-trees-requires : tie.Need-add-trees-requires
 add-trees-requires c κs =
-    let p = passed (c .before .before .before .before .before .before) in
+    let p = passed (else1-of-own c) in
     let k = c .before .before .before .before .zero-f64 .kept .0 in (
-      subst (λ m. TreesLie m (table (c .before .before .before .before .before .before .before .before .before .before .before .before .before .before .before .before))) (sym k) (p .trees),
+      subst (λ m. TreesLie m (table (start-of-own c))) (sym k) (p .trees),
       front-long _ (p .few) ∙ sym (p .long) ∙ sym k,
     )
 
 cast-float-of : tie.Need-cast-float-of
-cast-float-of c = omega (arith, passed (c .before .before .before .before .before .before .before .before .before .before) .trees .lying .started .few)
+cast-float-of c = omega (arith, passed (else1-of-own2 c) .trees .lying .started .few)
 
 float-of-requires : tie.Need-float-of-requires
 float-of-requires c κs = search needs
@@ -62,11 +92,11 @@ same-length c = search needs
 
 returns-2 : tie.Need-returns-2
 returns-2 c =
-    let b = c .before .before .before .before .before .before .before .before .before .before .before .before .before .before .before .before .before .before .before in
+    let b = else1-of-slice-known5 c in
     let s = start b in
     forest-told (s .args .features) (table s) (now (s .args .out)) (b .before .forest-verdict .ensures _ refl) (b .if1 .left)
-    (c .before .before .before .before .before .before .before .before .before .before .before .before .before .before .before .before .before .zero-f64 .ensures) (c .before .before .before .before .before .before .before .before .before .before .before .before .add-trees .ensures)
-    (c .before .before .before .before .before .before .before .before .float-of .ensures) (c .before .before .before .before .before .before .divide .ensures) (c .before .before .normalise .ensures)
+    (zero-f64-place c .zero-f64 .ensures) (add-trees-place c .add-trees .ensures)
+    (float-of-place c .float-of .ensures) (divide-place c .divide .ensures) (c .before .before .normalise .ensures)
 
 pub forest-importances-spec : {M : Type 1} → statement M
 forest-importances-spec =

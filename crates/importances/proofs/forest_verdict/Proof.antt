@@ -14,20 +14,32 @@ use Rattle.lemmas.specs.Tests.{and-on, and-off, passes, fails, none-failed, wit
 use Rattle.importances.proofs.forest_verdict.Statement.{statement}
 use Rattle.importances.proofs.forest_verdict.Tie as tie
 
-features-inside : (c : tie.Else1) → featuresIn (c .before .before .before .before .before .before .before .before .before .args .features) ≡ true
+abbrev start-of-else1 : tie.Else1 → tie.Start
+start-of-else1 c = c .before .before .before .before .before .before .before .before .before
+
+abbrev start-of-else2 : tie.Else2 → tie.Start
+start-of-else2 c = start-of-else1 (c .before .before)
+
+abbrev start-of-else4 : tie.Else4 → tie.Start
+start-of-else4 c = start-of-else2 (c .before .before)
+
+abbrev start-of-then4 : tie.Then4 → tie.Start
+start-of-then4 c = start-of-else2 (c .before .before)
+
+features-inside : (c : tie.Else1) → featuresIn (start-of-else1 c .args .features) ≡ true
 features-inside c = sym (c .before .features-in .ensures) ∙ not-false _ (c .if1 .left)
 
-trees-inside : (c : tie.Else2) → treesIn (c .before .before .before .before .before .before .before .before .before .before .before .args .trees) ≡ true
+trees-inside : (c : tie.Else2) → treesIn (start-of-else2 c .args .trees) ≡ true
 trees-inside c = sym (c .before .trees-in .ensures) ∙ not-false _ (c .if2 .left)
 
-inside : (c : tie.Else2) → (featuresIn (c .before .before .before .before .before .before .before .before .before .before .before .args .features) && treesIn (c .before .before .before .before .before .before .before .before .before .before .before .args .trees)) ≡ true
+inside : (c : tie.Else2) → (featuresIn (start-of-else2 c .args .features) && treesIn (start-of-else2 c .args .trees)) ≡ true
 inside c = sym (and-on _ _ (features-inside (c .before .before)) (sym (trees-inside c)))
 
-few : (c : tie.Else2) → c .before .before .before .before .before .before .before .before .before .before .before .args .trees ≤ 1024
+few : (c : tie.Else2) → start-of-else2 c .args .trees ≤ 1024
 few c = within-top 1024 _ (trees-inside c)
 
-long : (c : tie.Else4) → suc (c .before .before .before .before .before .before .before .before .before .before .before .before .before .args .trees) ≤ length (now (c .before .before .before .before .before .before .before .before .before .before .before .before .before .args .starts))
-long c = subst (λ n. n ≤ length (now (c .before .before .before .before .before .before .before .before .before .before .before .before .before .args .starts))) (add-one (c .before .before .before .before .before .before .before .before .before .before .before .before .before .args .trees)) (c .if4 .left)
+long : (c : tie.Else4) → suc (start-of-else4 c .args .trees) ≤ length (now (start-of-else4 c .args .starts))
+long c = subst (λ n. n ≤ length (now (start-of-else4 c .args .starts))) (add-one (start-of-else4 c .args .trees)) (c .if4 .left)
 
 features-in-requires : tie.Need-features-in-requires
 features-in-requires c κs = search needs
@@ -54,7 +66,7 @@ returns-4 : tie.Need-returns-4
 unfolding forestImportanceTests
 returns-4 c =
     λ out l. passes 1 _ _ (inside (c .before .before)) (fails 6 _ _ (sym (and-on _ _ (eq-eqb _ _ (l ∙ c .before .if3 .left))
-    (sym (lt-leb _ _ (subst (λ n. length (now (c .before .before .before .before .before .before .before .before .before .before .before .before .before .args .starts)) < n) (add-one (c .before .before .before .before .before .before .before .before .before .before .before .before .before .args .trees)) (c .if4 .taken)))))))
+    (sym (lt-leb _ _ (subst (λ n. length (now (start-of-then4 c .args .starts)) < n) (add-one (start-of-then4 c .args .trees)) (c .if4 .taken)))))))
 
 forest-good-requires : tie.Need-forest-good-requires
 forest-good-requires c κs = record { few = few (c .before .before); long = long c }
@@ -62,13 +74,15 @@ forest-good-requires c κs = record { few = few (c .before .before); long = long
 returns-5 : tie.Need-returns-5
 unfolding forestImportanceTests
 returns-5 c =
-    λ out l. passes 1 _ _ (inside (c .before .before .before .before)) (passes 6 _ _ (sym (and-on _ _ (eq-eqb _ _ (l ∙ c .before .before .before .if3 .left)) (sym (le-leb _ _ (long (c .before .before))))))
+    λ out l. passes 1 _ _ (inside (c .before .before .before .before))
+    (passes 6 _ _ (sym (and-on _ _ (eq-eqb _ _ (l ∙ c .before .before .before .if3 .left)) (sym (le-leb _ _ (long (c .before .before))))))
     (fails 8 _ _ (sym (c .before .forest-good .ensures) ∙ not-true _ (c .if5 .taken))))
 
 returns-6 : tie.Need-returns-6
 unfolding forestImportanceTests
 returns-6 c =
-    λ out l. passes 1 _ _ (inside (c .before .before .before .before)) (passes 6 _ _ (sym (and-on _ _ (eq-eqb _ _ (l ∙ c .before .before .before .if3 .left)) (sym (le-leb _ _ (long (c .before .before))))))
+    λ out l. passes 1 _ _ (inside (c .before .before .before .before))
+    (passes 6 _ _ (sym (and-on _ _ (eq-eqb _ _ (l ∙ c .before .before .before .if3 .left)) (sym (le-leb _ _ (long (c .before .before))))))
     (passes 8 _ _ (sym (c .before .forest-good .ensures) ∙ not-false _ (c .if5 .left)) none-failed))
 
 pub forest-verdict-spec : {M : Type 1} → statement M

@@ -16,13 +16,19 @@ use Rattle.importances.proofs.tree_verdict.Tie as tie
 abbrev columns : tie.Start → Columns
 columns s = columnsOf (now (s .args .value)) (now (s .args .feature)) (now (s .args .threshold)) (now (s .args .score)) (now (s .args .truechild)) (now (s .args .falsechild))
 
-inside : (c : tie.Else1) → featuresIn (c .before .before .before .before .before .before .before .before .args .features) ≡ true
+abbrev start-of-else1 : tie.Else1 → tie.Start
+start-of-else1 c = c .before .before .before .before .before .before .before .before
+
+abbrev start-of-tree-good : tie.After-tree-good → tie.Start
+start-of-tree-good c = start-of-else1 (c .before .before .before)
+
+inside : (c : tie.Else1) → featuresIn (start-of-else1 c .args .features) ≡ true
 inside c = sym (c .before .features-in .ensures) ∙ not-false _ (c .if1 .left)
 
 -- all that is lent was looked at
-looked : (c : tie.After-tree-good) → c .tree-good .result ≡ goodTree (c .before .before .before .before .before .before .before .before .before .before .before .args .features) (treeIn (columns (c .before .before .before .before .before .before .before .before .before .before .before)))
+looked : (c : tie.After-tree-good) → c .tree-good .result ≡ goodTree (start-of-tree-good c .args .features) (treeIn (columns (start-of-tree-good c)))
 unfolding treeIn
-looked c = c .tree-good .ensures ∙ ap (λ m. goodTree (c .before .before .before .before .before .before .before .before .before .before .before .args .features) (entriesAt (columns (c .before .before .before .before .before .before .before .before .before .before .before)) 0 m)) (c .before .shortest-of .ensures)
+looked c = c .tree-good .ensures ∙ ap (λ m. goodTree (start-of-tree-good c .args .features) (entriesAt (columns (start-of-tree-good c)) 0 m)) (c .before .shortest-of .ensures)
 
 features-in-requires : tie.Need-features-in-requires
 features-in-requires c κs = search needs
@@ -43,11 +49,15 @@ tree-good-requires c κs = record { inside = omega (arith, c .shortest-of .ensur
 
 returns-3 : tie.Need-returns-3
 unfolding treeImportanceTests
-returns-3 c = λ out l. passes 1 _ _ (inside (c .before .before .before .before)) (passes 6 _ _ (eq-eqb _ _ (l ∙ c .before .before .before .if2 .left)) (fails 8 _ _ (sym (looked (c .before)) ∙ not-true _ (c .if3 .taken))))
+returns-3 c =
+    λ out l. passes 1 _ _ (inside (c .before .before .before .before))
+    (passes 6 _ _ (eq-eqb _ _ (l ∙ c .before .before .before .if2 .left)) (fails 8 _ _ (sym (looked (c .before)) ∙ not-true _ (c .if3 .taken))))
 
 returns-4 : tie.Need-returns-4
 unfolding treeImportanceTests
-returns-4 c = λ out l. passes 1 _ _ (inside (c .before .before .before .before)) (passes 6 _ _ (eq-eqb _ _ (l ∙ c .before .before .before .if2 .left)) (passes 8 _ _ (sym (looked (c .before)) ∙ not-false _ (c .if3 .left)) none-failed))
+returns-4 c =
+    λ out l. passes 1 _ _ (inside (c .before .before .before .before))
+    (passes 6 _ _ (eq-eqb _ _ (l ∙ c .before .before .before .if2 .left)) (passes 8 _ _ (sym (looked (c .before)) ∙ not-false _ (c .if3 .left)) none-failed))
 
 pub tree-verdict-spec : {M : Type 1} → statement M
 tree-verdict-spec =

@@ -43,7 +43,8 @@ marked seen behind x long low marks r h = go (eqb r x) refl
     inside n x e h = omega arith
 
     go : (t : Bool) → eqb r x ≡ t → getD (set seen x true) r false ≡ (eqb r x || member r behind)
-    go true t = ap (λ k. getD (set seen x true) k false) (eqb-true r x t) ∙ getD-set-same seen x true false (inside (length seen) x long low) ∙ sym (ap (λ b. b || member r behind) t)
+    go true t =
+        ap (λ k. getD (set seen x true) k false) (eqb-true r x t) ∙ getD-set-same seen x true false (inside (length seen) x long low) ∙ sym (ap (λ b. b || member r behind) t)
     go false t = getD-set-other seen x r true false (eqb-false r x t) ∙ marks r h ∙ sym (ap (λ b. b || member r behind) t)
 
 again : (l : List ℕ) (rows : ℕ) (seen : List Bool) (i : ℕ) → Seen l rows seen i → i < length l → getD l i 0 < rows → rows ≤ 65535 → getD seen (getD l i 0) false ≡ false
@@ -87,7 +88,8 @@ returns-2 : tie.Need-returns-2 Inv-loop μ-loop
 returns-2 c =
     let at = c .before .before .before in
     let a = at .before .before .args in
-    answers (now (a .listing)) (a .rows) _ (omega arith) (fresh-out (a .rows) (now (a .listing)) (at .loop .inv .behind) (at .loop .i) (omega arith) (at .loop .inv .left) (omega arith))
+    answers (now (a .listing)) (a .rows) _ (omega arith) (fresh-out (a .rows) (now (a .listing)) (at .loop .inv .behind) (at .loop .i) (omega arith) (at .loop .inv .left)
+    (omega arith))
 
 array-read-if3 : tie.Need-array-read-if3 Inv-loop μ-loop
 array-read-if3 c = omega arith
@@ -97,7 +99,8 @@ returns-3 c =
     let at = c .before .before .before .before in
     let a = at .before .before .args in
     let x = getD (now (a .listing)) (at .loop .i) 0 in
-    answers (now (a .listing)) (a .rows) _ (omega arith) (fresh-twice (a .rows) (now (a .listing)) (at .loop .inv .behind) (at .loop .i) (omega arith) (at .loop .inv .left) (omega arith)
+    answers (now (a .listing)) (a .rows) _ (omega arith) (fresh-twice (a .rows) (now (a .listing)) (at .loop .inv .behind) (at .loop .i) (omega arith) (at .loop .inv .left)
+    (omega arith)
     (sym (at .loop .inv .marks x (omega (arith, at .before .before .pre))) ∙ c .if3 .taken))
 
 array-write-seen : tie.Need-array-write-seen Inv-loop μ-loop

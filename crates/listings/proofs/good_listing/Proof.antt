@@ -15,9 +15,12 @@ use Rattle.listings.proofs.good_listing.Tie as tie
 
 -- feature j's listing ends within the listings
 ends : (a : tie.Start) → a .args .j * a .args .shape .rows + a .args .shape .rows ≤ length (now (a .args .listings))
-ends a = subst (λ n. a .args .j * a .args .shape .rows + a .args .shape .rows ≤ n) (sym (a .pre .laid .listingsLong)) (stretch-within (a .args .j) (a .args .shape .features) (a .args .shape .rows) (a .pre .known))
+ends a =
+    subst (λ n. a .args .j * a .args .shape .rows + a .args .shape .rows ≤ n) (sym (a .pre .laid .listingsLong))
+    (stretch-within (a .args .j) (a .args .shape .features) (a .args .shape .rows) (a .pre .known))
 
-part : (a : tie.Start) → take (a .args .j * a .args .shape .rows + a .args .shape .rows - a .args .j * a .args .shape .rows) (drop (a .args .j * a .args .shape .rows) (now (a .args .listings)))
+part : (a : tie.Start) → take (a .args .j * a .args .shape .rows + a .args .shape .rows - a .args .j * a .args .shape .rows)
+    (drop (a .args .j * a .args .shape .rows) (now (a .args .listings)))
     ≡ listingAt (a .args .shape .rows) (now (a .args .listings)) (a .args .j)
 part a = listing-lies (a .args .shape .rows) (a .args .j) (now (a .args .listings))
 
@@ -54,15 +57,25 @@ part-never-falls-start c = omega (arith, ends (c .before .before .before .before
 part-never-falls-end : tie.Need-part-never-falls-end
 part-never-falls-end c = omega (arith, ends (c .before .before .before .before .before))
 
+abbrev start-of-never-falls-arg : tie.After-never-falls-arg → tie.Start
+start-of-never-falls-arg c = c .before .before .before .before .before .before
+
+abbrev start-of-never-falls : tie.After-never-falls → tie.Start
+start-of-never-falls c = start-of-never-falls-arg (c .before)
+
 never-falls-requires : tie.Need-never-falls-requires
 never-falls-requires c κs =
-    let a = c .before .before .before .before .before .before in
-    record { long = a .pre .laid .valuesLong; below = once-below (a .args .shape .rows) _ (subst T (sym (sym (c .before .before .each-once .ensures) ∙ c .before .if1 .taken)) tt); known = a .pre .known }
+    let a = start-of-never-falls-arg c in
+    record {
+      long = a .pre .laid .valuesLong;
+      below = once-below (a .args .shape .rows) _ (subst T (sym (sym (c .before .before .each-once .ensures) ∙ c .before .if1 .taken)) tt);
+      known = a .pre .known;
+    }
 
 returns : tie.Need-returns
 unfolding goodListing
 returns c =
-    let a = c .before .before .before .before .before .before .before in
+    let a = start-of-never-falls c in
     let once = sym (c .before .before .before .each-once .ensures) ∙ c .before .before .if1 .taken in
     rw (sym (part a)) (and-on _ _ once (c .never-falls .ensures))
 

@@ -54,6 +54,12 @@ Inv-loop listing values rows features j first last₀ i₀ last i = Rising (cell
 abbrev μ-loop : tie.MeasureT-loop
 μ-loop listing values rows features j first last₀ i₀ last i = length listing - i
 
+abbrev start-place : tie.At-loop Inv-loop μ-loop → tie.Start Inv-loop μ-loop
+start-place c = c .before .before .before .before .before .before
+
+abbrev start-at : tie.At-loop Inv-loop μ-loop → tie.Start Inv-loop μ-loop
+start-at c = start-place c
+
 abbrev value : tie.Start Inv-loop μ-loop → ℕ → Float
 value a = cell (a .args .features) (now (a .args .values)) (a .args .j)
 
@@ -71,7 +77,8 @@ cast-first c = omega (arith, c .shared-slice-known3 .given 0)
 cell-at-requires : tie.Need-cell-at-requires Inv-loop μ-loop
 cell-at-requires c κs =
     let a = c .before .before .before .before in
-    cell-inside (a .args .rows) (a .args .features) _ (a .args .j) (now (a .args .values)) (a .pre .long) (every-at _ (now (a .args .listing)) 0 0 (a .pre .below) (omega arith)) (a .pre .known)
+    cell-inside (a .args .rows) (a .args .features) _ (a .args .j) (now (a .args .values)) (a .pre .long) (every-at _ (now (a .args .listing)) 0 0 (a .pre .below) (omega arith))
+    (a .pre .known)
 
 loop-holds : tie.Need-loop-holds Inv-loop μ-loop
 loop-holds c =
@@ -90,13 +97,14 @@ cast-row c = omega (arith, c .shared-slice-known4 .given (c .before .before .loo
 cell-at-requires-2 : tie.Need-cell-at-requires-2 Inv-loop μ-loop
 cell-at-requires-2 c κs =
     let at = c .before .before in
-    let a = at .before .before .before .before .before .before in
-    cell-inside (a .args .rows) (a .args .features) _ (a .args .j) (now (a .args .values)) (a .pre .long) (every-at _ (now (a .args .listing)) 0 (at .loop .i) (a .pre .below) (omega arith)) (a .pre .known)
+    let a = start-at at in
+    cell-inside (a .args .rows) (a .args .features) _ (a .args .j) (now (a .args .values)) (a .pre .long)
+    (every-at _ (now (a .args .listing)) 0 (at .loop .i) (a .pre .below) (omega arith)) (a .pre .known)
 
 returns-2 : tie.Need-returns-2 Inv-loop μ-loop
 returns-2 c =
     let at = c .before .before .before .before in
-    let a = at .before .before .before .before .before .before in
+    let a = start-at at in
     falls (value a) (now (a .args .listing)) (at .loop .last) _ (at .loop .i) (at .loop .inv) (omega arith) (c .before .cell-at2 .ensures) (c .if2 .taken)
 
 add-i : tie.Need-add-i Inv-loop μ-loop
@@ -108,13 +116,13 @@ loop-less c = search needs
 loop-again : tie.Need-loop-again Inv-loop μ-loop
 loop-again c =
     let at = c .before .before .before .before in
-    let a = at .before .before .before .before .before .before in
+    let a = start-at at in
     again (value a) (now (a .args .listing)) (at .loop .last) _ (at .loop .i) (at .loop .inv) (omega arith) (c .before .cell-at2 .ensures) (c .if2 .left)
 
 returns-3 : tie.Need-returns-3 Inv-loop μ-loop
 returns-3 c =
     let at = c .before in
-    let a = at .before .before .before .before .before .before in
+    let a = start-at at in
     ends (value a) (now (a .args .listing)) (at .loop .last) (at .loop .i) (at .loop .inv) (omega arith)
 
 pub never-falls-spec : {M : Type 1} → statement M

@@ -10,7 +10,10 @@ use Rattle.means.specs.Means.{ranges}
 use Rattle.means.proofs.mean_verdict.Statement.{statement}
 use Rattle.means.proofs.mean_verdict.Tie as tie
 
-inside : (c : tie.Else1) → (shapeIn (c .before .before .before .before .before .before .before .before .before .before .args .shape) && treesIn (c .before .before .before .before .before .before .before .before .before .before .args .trees)) ≡ true
+abbrev start-place : tie.Else1 → tie.Start
+start-place c = c .before .before .before .before .before .before .before .before .before .before
+
+inside : (c : tie.Else1) → (shapeIn (start-place c .args .shape) && treesIn (start-place c .args .trees)) ≡ true
 inside c = sym (c .before .forest-in .ensures) ∙ not-false _ (c .if1 .left)
 
 forest-in-requires : tie.Need-forest-in-requires
@@ -21,7 +24,7 @@ unfolding meanTests
 returns c = λ out e. fails 1 _ _ (sym (c .before .forest-in .ensures) ∙ not-true _ (c .if1 .taken))
 
 table-verdict-requires : tie.Need-table-verdict-requires
-table-verdict-requires c κs = ranges (c .before .before .before .before .before .before .before .before .before .before .args .shape) (c .before .before .before .before .before .before .before .before .before .before .args .trees) (inside c)
+table-verdict-requires c κs = ranges (start-place c .args .shape) (start-place c .args .trees) (inside c)
 
 returns-2 : tie.Need-returns-2
 unfolding meanTests

@@ -16,16 +16,32 @@ use Rattle.predict.proofs.predict_verdict.Tie as tie
 abbrev columns : tie.Start → Columns
 columns s = columnsOf (now (s .args .value)) (now (s .args .feature)) (now (s .args .threshold)) (now (s .args .score)) (now (s .args .truechild)) (now (s .args .falsechild))
 
-shaped : (c : tie.Else1) → shapeIn (c .before .before .before .before .before .before .before .before .before .args .shape) ≡ true
+abbrev start-of-else1 : tie.Else1 → tie.Start
+start-of-else1 c = c .before .before .before .before .before .before .before .before .before
+
+abbrev start-of-else2 : tie.Else2 → tie.Start
+start-of-else2 c = start-of-else1 (c .before .before)
+
+abbrev start-of-tree-good : tie.After-tree-good → tie.Start
+start-of-tree-good c = start-of-else2 (c .before .before .before .before)
+
+abbrev else1-of-then4 : tie.Then4 → tie.Else1
+else1-of-then4 c = c .before .before .before .before .before .before .before
+
+abbrev else1-of-else4 : tie.Else4 → tie.Else1
+else1-of-else4 c = c .before .before .before .before .before .before .before
+
+shaped : (c : tie.Else1) → shapeIn (start-of-else1 c .args .shape) ≡ true
 shaped c = sym (c .before .shape-in .ensures) ∙ not-false _ (c .if1 .left)
 
-long : (c : tie.Else2) → valuesLong (c .before .before .before .before .before .before .before .before .before .before .before .args .shape) (now (c .before .before .before .before .before .before .before .before .before .before .before .args .values)) ≡ true
+long : (c : tie.Else2) → valuesLong (start-of-else2 c .args .shape) (now (start-of-else2 c .args .values)) ≡ true
 long c = sym (c .before .values-long .ensures) ∙ not-false _ (c .if2 .left)
 
 -- all that is lent was looked at
-looked : (c : tie.After-tree-good) → c .tree-good .result ≡ goodTree (c .before .before .before .before .before .before .before .before .before .before .before .before .before .before .before .args .shape .features) (treeIn (columns (c .before .before .before .before .before .before .before .before .before .before .before .before .before .before .before)))
+looked : (c : tie.After-tree-good) → c .tree-good .result ≡ goodTree (start-of-tree-good c .args .shape .features) (treeIn (columns (start-of-tree-good c)))
 unfolding treeIn
-looked c = c .tree-good .ensures ∙ ap (λ m. goodTree (c .before .before .before .before .before .before .before .before .before .before .before .before .before .before .before .args .shape .features) (entriesAt (columns (c .before .before .before .before .before .before .before .before .before .before .before .before .before .before .before)) 0 m)) (c .before .shortest-of .ensures)
+looked c =
+    c .tree-good .ensures ∙ ap (λ m. goodTree (start-of-tree-good c .args .shape .features) (entriesAt (columns (start-of-tree-good c)) 0 m)) (c .before .shortest-of .ensures)
 
 shape-in-requires : tie.Need-shape-in-requires
 shape-in-requires c κs = search needs
@@ -43,7 +59,8 @@ returns-2 c = λ out e. passes 1 _ _ (shaped (c .before .before)) (fails 2 _ _ (
 
 returns-3 : tie.Need-returns-3
 unfolding predictTests
-returns-3 c = λ out e. passes 1 _ _ (shaped (c .before .before .before .before)) (passes 2 _ _ (long (c .before .before)) (fails 6 _ _ (ne-eqb _ _ (λ h. c .if3 .taken (sym e ∙ h)))))
+returns-3 c =
+    λ out e. passes 1 _ _ (shaped (c .before .before .before .before)) (passes 2 _ _ (long (c .before .before)) (fails 6 _ _ (ne-eqb _ _ (λ h. c .if3 .taken (sym e ∙ h)))))
 
 shortest-of-requires : tie.Need-shortest-of-requires
 shortest-of-requires c κs = search needs
@@ -53,11 +70,15 @@ tree-good-requires c κs = record { inside = omega (arith, c .shortest-of .ensur
 
 returns-4 : tie.Need-returns-4
 unfolding predictTests
-returns-4 c = λ out e. passes 1 _ _ (shaped (c .before .before .before .before .before .before .before)) (passes 2 _ _ (long (c .before .before .before .before .before)) (passes 6 _ _ (eq-eqb _ _ (e ∙ c .before .before .before .if3 .left)) (fails 8 _ _ (sym (looked (c .before)) ∙ not-true _ (c .if4 .taken)))))
+returns-4 c =
+    λ out e. passes 1 _ _ (shaped (else1-of-then4 c)) (passes 2 _ _ (long (c .before .before .before .before .before))
+    (passes 6 _ _ (eq-eqb _ _ (e ∙ c .before .before .before .if3 .left)) (fails 8 _ _ (sym (looked (c .before)) ∙ not-true _ (c .if4 .taken)))))
 
 returns-5 : tie.Need-returns-5
 unfolding predictTests
-returns-5 c = λ out e. passes 1 _ _ (shaped (c .before .before .before .before .before .before .before)) (passes 2 _ _ (long (c .before .before .before .before .before)) (passes 6 _ _ (eq-eqb _ _ (e ∙ c .before .before .before .if3 .left)) (passes 8 _ _ (sym (looked (c .before)) ∙ not-false _ (c .if4 .left)) none-failed)))
+returns-5 c =
+    λ out e. passes 1 _ _ (shaped (else1-of-else4 c)) (passes 2 _ _ (long (c .before .before .before .before .before))
+    (passes 6 _ _ (eq-eqb _ _ (e ∙ c .before .before .before .if3 .left)) (passes 8 _ _ (sym (looked (c .before)) ∙ not-false _ (c .if4 .left)) none-failed)))
 
 pub predict-verdict-spec : {M : Type 1} → statement M
 predict-verdict-spec =

@@ -15,9 +15,12 @@ divide-if-requires c κs = search needs
 same-length : tie.Need-same-length
 same-length c = search needs
 
+abbrev start-place : tie.After-slice-known2 → tie.Start
+start-place c = c .before .before .before .before .before .before .before
+
 returns : tie.Need-returns
 unfolding normalised
-returns c = c .before .before .divide-if .ensures ∙ ap (λ s. dividedIf s (now (c .before .before .before .before .before .before .before .args .v))) (c .before .before .before .before .sum-of .ensures)
+returns c = c .before .before .divide-if .ensures ∙ ap (λ s. dividedIf s (now (start-place c .args .v))) (c .before .before .before .before .sum-of .ensures)
 
 pub normalise-spec : {M : Type 1} → statement M
 normalise-spec = tie.close (tie.spec sum-of-requires divide-if-requires same-length returns)

@@ -17,19 +17,38 @@ table s = tableOf (s .args .trees) (now (s .args .starts)) (columns s)
 shortest-of-requires : tie.Need-shortest-of-requires
 shortest-of-requires c κs = search needs
 
+abbrev start-of-shortest-of : tie.After-shortest-of → tie.Start
+start-of-shortest-of c = c .before .before .before .before .before .before .before .before
+
+abbrev start-of-then1 : tie.Then1 → tie.Start
+start-of-then1 c = start-of-shortest-of (c .before .before)
+
+abbrev start-of-else1 : tie.Else1 → tie.Start
+start-of-else1 c = start-of-shortest-of (c .before .before)
+
+abbrev start-of-trees-good : tie.After-trees-good → tie.Start
+start-of-trees-good c = start-of-then1 (c .before)
+
 starts-good-requires : tie.Need-starts-good-requires
-starts-good-requires c κs = c .before .before .before .before .before .before .before .before .pre
+starts-good-requires c κs = start-of-shortest-of c .pre
 
 trees-good-requires : tie.Need-trees-good-requires
-trees-good-requires c κs = record { started = c .before .before .before .before .before .before .before .before .before .before .pre; good = sym (c .before .starts-good .ensures (columns (c .before .before .before .before .before .before .before .before .before .before)) (sym (c .before .before .shortest-of .ensures))) ∙ c .if1 .taken }
+trees-good-requires c κs =
+    record {
+      started = start-of-then1 c .pre;
+      good = sym (c .before .starts-good .ensures (columns (start-of-then1 c)) (sym (c .before .before .shortest-of .ensures))) ∙ c .if1
+          .taken;
+    }
 
 returns : tie.Need-returns
 unfolding goodForest
-returns c = and-on _ _ (sym (c .before .before .starts-good .ensures (columns (c .before .before .before .before .before .before .before .before .before .before .before)) (sym (c .before .before .before .shortest-of .ensures))) ∙ c .before .if1 .taken) (c .trees-good .ensures)
+returns c =
+    and-on _ _ (sym (c .before .before .starts-good .ensures (columns (start-of-trees-good c)) (sym (c .before .before .before .shortest-of .ensures))) ∙ c .before .if1 .taken)
+    (c .trees-good .ensures)
 
 returns-2 : tie.Need-returns-2
 unfolding goodForest
-returns-2 c = and-off _ _ (sym (c .before .starts-good .ensures (columns (c .before .before .before .before .before .before .before .before .before .before)) (sym (c .before .before .shortest-of .ensures))) ∙ c .if1 .left)
+returns-2 c = and-off _ _ (sym (c .before .starts-good .ensures (columns (start-of-else1 c)) (sym (c .before .before .shortest-of .ensures))) ∙ c .if1 .left)
 
 pub forest-good-spec : {M : Type 1} → statement M
 forest-good-spec =

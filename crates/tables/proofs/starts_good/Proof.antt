@@ -36,15 +36,30 @@ slice-aggregate-starts-rise c = sym (length-take-le _ (now (c .before .before .b
 starts-rise-requires : tie.Need-starts-rise-requires
 starts-rise-requires c κs = search needs
 
+abbrev start-of-then2 : tie.Then2 → tie.Start
+start-of-then2 c = c .before .before .before .before .before .before
+
+abbrev start-of-else2 : tie.Else2 → tie.Start
+start-of-else2 c = c .before .before .before .before .before .before
+
+abbrev start-of-shared-slice-known3 : tie.After-shared-slice-known3 → tie.Start
+start-of-shared-slice-known3 c = start-of-else2 (c .before)
+
+abbrev start-of-wide : tie.After-wide → tie.Start
+start-of-wide c = start-of-shared-slice-known3 (c .before)
+
 returns-2 : tie.Need-returns-2
 unfolding startsGood
-returns-2 c = λ cs e. and-on _ _ (eq-eqb _ _ (same-default (now (c .before .before .before .before .before .before .args .starts)) 0 1 0 (some (c .before .before .before .before .before .before)) ∙ c .before .before .before .if1 .left)) (and-off _ _ (ap (λ m. along ltb (take m (now (c .before .before .before .before .before .before .args .starts)))) (sym (add-one (c .before .before .before .before .before .before .args .trees))) ∙ sym (c .before .starts-rise .ensures) ∙ not-true _ (c .if2 .taken)))
+returns-2 c =
+    λ cs e. and-on _ _ (eq-eqb _ _ (same-default (now (start-of-then2 c .args .starts)) 0 1 0 (some (start-of-then2 c)) ∙ c .before .before .before .if1 .left))
+    (and-off _ _ (ap (λ m. along ltb (take m (now (start-of-then2 c .args .starts)))) (sym (add-one (start-of-then2 c .args .trees))) ∙ sym (c .before .starts-rise .ensures)
+    ∙ not-true _ (c .if2 .taken)))
 
 mul-wide : tie.Need-mul-wide
-mul-wide c = omega (arith, c .before .before .before .before .before .before .pre .few)
+mul-wide c = omega (arith, start-of-else2 c .pre .few)
 
 shared-slice-read-wide : tie.Need-shared-slice-read-wide
-shared-slice-read-wide c = omega (arith, c .before .before .before .before .before .before .before .pre .long)
+shared-slice-read-wide c = omega (arith, start-of-shared-slice-known3 c .pre .long)
 
 wide-requires : tie.Need-wide-requires
 wide-requires c κs = search needs
@@ -53,8 +68,10 @@ returns-3 : tie.Need-returns-3
 unfolding startsGood
 returns-3 c =
     λ cs e.
-    let s = c .before .before .before .before .before .before .before .before in
-    and-on _ _ (eq-eqb _ _ (same-default (now (c .before .before .before .before .before .before .before .before .args .starts)) 0 1 0 (some (c .before .before .before .before .before .before .before .before)) ∙ c .before .before .before .before .before .if1 .left)) (and-on _ _ (ap (λ m. along ltb (take m (now (c .before .before .before .before .before .before .before .before .args .starts)))) (sym (add-one (c .before .before .before .before .before .before .before .before .args .trees))) ∙ sym (c .before .before .before .starts-rise .ensures) ∙ not-false _ (c .before .before .if2 .left))
+    let s = start-of-wide c in
+    and-on _ _ (eq-eqb _ _ (same-default (now (start-of-wide c .args .starts)) 0 1 0 (some (start-of-wide c)) ∙ c .before .before .before .before .before .if1 .left))
+    (and-on _ _ (ap (λ m. along ltb (take m (now (start-of-wide c .args .starts)))) (sym (add-one (start-of-wide c .args .trees))) ∙ sym
+    (c .before .before .before .starts-rise .ensures) ∙ not-false _ (c .before .before .if2 .left))
     (λ i. leb ((c .wide .ensures ∙ same-default (now (s .args .starts)) (s .args .trees) 0 (suc (shortest cs)) (s .pre .long)) i) (sym e i)))
 
 pub starts-good-spec : {M : Type 1} → statement M

@@ -13,10 +13,13 @@ use Rattle.tables.proofs.tree_verdict.Tie as tie
 abbrev columns : tie.Start → Columns
 columns s = columnsOf (now (s .args .value)) (now (s .args .feature)) (now (s .args .threshold)) (now (s .args .score)) (now (s .args .truechild)) (now (s .args .falsechild))
 
+abbrev start-place : tie.After-tree-good → tie.Start
+start-place c = c .before .before .before .before .before .before .before .before .before .before
+
 -- all that is lent was looked at
-looked : (c : tie.After-tree-good) → c .tree-good .result ≡ goodTree (c .before .before .before .before .before .before .before .before .before .before .args .features) (treeIn (columns (c .before .before .before .before .before .before .before .before .before .before)))
+looked : (c : tie.After-tree-good) → c .tree-good .result ≡ goodTree (start-place c .args .features) (treeIn (columns (start-place c)))
 unfolding treeIn
-looked c = c .tree-good .ensures ∙ ap (λ m. goodTree (c .before .before .before .before .before .before .before .before .before .before .args .features) (entriesAt (columns (c .before .before .before .before .before .before .before .before .before .before)) 0 m)) (c .before .shortest-of .ensures)
+looked c = c .tree-good .ensures ∙ ap (λ m. goodTree (start-place c .args .features) (entriesAt (columns (start-place c)) 0 m)) (c .before .shortest-of .ensures)
 
 features-in-requires : tie.Need-features-in-requires
 features-in-requires c κs = search needs
@@ -33,11 +36,15 @@ tree-good-requires c κs = record { inside = omega (arith, c .shortest-of .ensur
 
 returns-2 : tie.Need-returns-2
 unfolding treeTableTests
-returns-2 c = passes 1 _ _ (sym (c .before .before .before .before .features-in .ensures) ∙ not-false _ (c .before .before .before .if1 .left)) (fails 8 _ _ (sym (looked (c .before)) ∙ not-true _ (c .if2 .taken)))
+returns-2 c =
+    passes 1 _ _ (sym (c .before .before .before .before .features-in .ensures) ∙ not-false _ (c .before .before .before .if1 .left))
+    (fails 8 _ _ (sym (looked (c .before)) ∙ not-true _ (c .if2 .taken)))
 
 returns-3 : tie.Need-returns-3
 unfolding treeTableTests
-returns-3 c = passes 1 _ _ (sym (c .before .before .before .before .features-in .ensures) ∙ not-false _ (c .before .before .before .if1 .left)) (passes 8 _ _ (sym (looked (c .before)) ∙ not-false _ (c .if2 .left)) none-failed)
+returns-3 c =
+    passes 1 _ _ (sym (c .before .before .before .before .features-in .ensures) ∙ not-false _ (c .before .before .before .if1 .left))
+    (passes 8 _ _ (sym (looked (c .before)) ∙ not-false _ (c .if2 .left)) none-failed)
 
 pub tree-verdict-spec : {M : Type 1} → statement M
 tree-verdict-spec =

@@ -4,11 +4,17 @@ use Rattle.lemmas.specs.Tests.{and-on, and-off}
 use Rattle.checks.proofs.forest.forest_long.Statement.{statement}
 use Rattle.checks.proofs.forest.forest_long.Tie as tie
 
+abbrev start-of-shared-slice-known7 : tie.After-shared-slice-known7 → tie.Start
+start-of-shared-slice-known7 c = c .before .before .before .before .before .before .before
+
+abbrev start-of-then1 : tie.Then1 → tie.Start
+start-of-then1 c = start-of-shared-slice-known7 (c .before .before)
+
 lengths-good-requires : tie.Need-lengths-good-requires
-lengths-good-requires c κs = c .before .before .before .before .before .before .before .pre
+lengths-good-requires c κs = start-of-shared-slice-known7 c .pre
 
 both-cuts-requires : tie.Need-both-cuts-requires
-both-cuts-requires c κs = c .before .before .before .before .before .before .before .before .before .pre .few
+both-cuts-requires c κs = start-of-then1 c .pre .few
 
 returns : tie.Need-returns
 returns c = and-on _ _ (sym (c .before .before .lengths-good .ensures) ∙ c .before .if1 .taken) (c .both-cuts .ensures)

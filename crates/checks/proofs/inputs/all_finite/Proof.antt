@@ -43,8 +43,11 @@ loop-less c = search needs
 
 loop-again : tie.Need-loop-again Inv-loop μ-loop
 loop-again c =
-    let at = c .before .before .before .before in
-    (omega arith, every-goes finite (now (at .before .before .args .xs)) (at .loop .i) _ (omega arith) (at .loop .inv .1) (sym (c .before .is-finite .ensures) ∙ not-false _ (c .if1 .left)))
+    let at = c .before .before .before .before in (
+      omega arith,
+      every-goes finite (now (at .before .before .args .xs)) (at .loop .i) _ (omega arith) (at .loop .inv .1)
+          (sym (c .before .is-finite .ensures) ∙ not-false _ (c .if1 .left)),
+    )
 
 returns-2 : tie.Need-returns-2 Inv-loop μ-loop
 returns-2 c = every-ends finite (now (c .before .before .before .args .xs)) (c .before .loop .i) (omega arith) (c .before .loop .inv .1)

@@ -36,10 +36,16 @@ returns-2 c =
 cuts-rise-requires : tie.Need-cuts-rise-requires
 cuts-rise-requires c κs = search needs
 
+abbrev start-of-then3 : tie.Then3 → tie.Start
+start-of-then3 c = c .before .before .before .before .before .before
+
+abbrev start-of-shared-slice-known3 : tie.After-shared-slice-known3 → tie.Start
+start-of-shared-slice-known3 c = c .before .before .before .before .before .before .before
+
 returns-3 : tie.Need-returns-3
 unfolding goodStarts
 returns-3 c =
-    let cuts = now (c .before .before .before .before .before .before .args .cuts) in
+    let cuts = now (start-of-then3 c .args .cuts) in
     and-on _ _ (long _ _ (c .before .before .before .before .if1 .left)) (and-on _ _ (eq-eqb _ _ (same-default cuts 0 1 0 (omega arith) ∙ c .before .before .if2 .left))
     (and-off _ _ (sym (c .before .cuts-rise .ensures) ∙ not-true _ (c .if3 .taken))))
 
@@ -52,10 +58,12 @@ shared-slice-read-result c = omega arith
 returns-4 : tie.Need-returns-4
 unfolding goodStarts
 returns-4 c =
-    let a = c .before .before .before .before .before .before .before .args in
+    let a = start-of-shared-slice-known3 c .args in
     let cuts = now (a .cuts) in
-    and-on _ _ (long _ _ (c .before .before .before .before .before .if1 .left)) (and-on _ _ (eq-eqb _ _ (same-default cuts 0 1 0 (omega arith) ∙ c .before .before .before .if2 .left))
-    (and-on _ _ (sym (c .before .before .cuts-rise .ensures) ∙ not-false _ (c .before .if3 .left)) (ap (λ k. eqb k (a .tape)) (same-default cuts (a .trees) 0 (suc (a .tape)) (omega arith)))))
+    and-on _ _ (long _ _ (c .before .before .before .before .before .if1 .left))
+    (and-on _ _ (eq-eqb _ _ (same-default cuts 0 1 0 (omega arith) ∙ c .before .before .before .if2 .left))
+    (and-on _ _ (sym (c .before .before .cuts-rise .ensures) ∙ not-false _ (c .before .if3 .left))
+    (ap (λ k. eqb k (a .tape)) (same-default cuts (a .trees) 0 (suc (a .tape)) (omega arith)))))
 
 pub cuts-good-spec : {M : Type 1} → statement M
 cuts-good-spec =

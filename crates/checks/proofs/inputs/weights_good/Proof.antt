@@ -33,7 +33,8 @@ weight-good-requires c κs = search needs
 returns : tie.Need-returns Inv-loop μ-loop
 returns c =
     let at = c .before .before .before .before in
-    every-stops goodWeight (now (at .before .before .args .weights)) (at .loop .i) _ (omega arith) (at .loop .inv .1) (sym (c .before .weight-good .ensures) ∙ not-true _ (c .if1 .taken))
+    every-stops goodWeight (now (at .before .before .args .weights)) (at .loop .i) _ (omega arith) (at .loop .inv .1)
+    (sym (c .before .weight-good .ensures) ∙ not-true _ (c .if1 .taken))
 
 add-i : tie.Need-add-i Inv-loop μ-loop
 add-i c = search needs
@@ -43,8 +44,11 @@ loop-less c = search needs
 
 loop-again : tie.Need-loop-again Inv-loop μ-loop
 loop-again c =
-    let at = c .before .before .before .before in
-    (omega arith, every-goes goodWeight (now (at .before .before .args .weights)) (at .loop .i) _ (omega arith) (at .loop .inv .1) (sym (c .before .weight-good .ensures) ∙ not-false _ (c .if1 .left)))
+    let at = c .before .before .before .before in (
+      omega arith,
+      every-goes goodWeight (now (at .before .before .args .weights)) (at .loop .i) _ (omega arith) (at .loop .inv .1)
+          (sym (c .before .weight-good .ensures) ∙ not-false _ (c .if1 .left)),
+    )
 
 returns-2 : tie.Need-returns-2 Inv-loop μ-loop
 returns-2 c = every-ends goodWeight (now (c .before .before .before .args .weights)) (c .before .loop .i) (omega arith) (c .before .loop .inv .1)

@@ -13,7 +13,10 @@ use Rattle.checks.proofs.listing.listing_verdict.Tie as tie
 shaped : (c : tie.Else1) → shapeIn (c .before .before .before .before .args .shape) ≡ true
 shaped c = sym (c .before .shape-in .ensures) ∙ not-false _ (c .if1 .left)
 
-long : (c : tie.Else2) → let a = c .before .before .before .before .before .before .args in (valuesLong (a .shape) (now (a .values)) && listingsLong (a .shape) (now (a .listings))) ≡ true
+abbrev start-place : tie.Else2 → tie.Start
+start-place c = c .before .before .before .before .before .before
+
+long : (c : tie.Else2) → let a = start-place c .args in (valuesLong (a .shape) (now (a .values)) && listingsLong (a .shape) (now (a .listings))) ≡ true
 long c = sym (c .before .both-long .ensures) ∙ not-false _ (c .if2 .left)
 
 shape-in-requires : tie.Need-shape-in-requires
@@ -37,11 +40,15 @@ listings-good-requires c κs =
 
 returns-3 : tie.Need-returns-3
 unfolding listingTests
-returns-3 c = passes 1 _ _ (shaped (c .before .before .before .before)) (passes 2 _ _ (long (c .before .before)) (fails 5 _ _ (sym (c .before .listings-good .ensures) ∙ not-true _ (c .if3 .taken))))
+returns-3 c =
+    passes 1 _ _ (shaped (c .before .before .before .before)) (passes 2 _ _ (long (c .before .before))
+    (fails 5 _ _ (sym (c .before .listings-good .ensures) ∙ not-true _ (c .if3 .taken))))
 
 returns-4 : tie.Need-returns-4
 unfolding listingTests
-returns-4 c = passes 1 _ _ (shaped (c .before .before .before .before)) (passes 2 _ _ (long (c .before .before)) (passes 5 _ _ (sym (c .before .listings-good .ensures) ∙ not-false _ (c .if3 .left)) none-failed))
+returns-4 c =
+    passes 1 _ _ (shaped (c .before .before .before .before)) (passes 2 _ _ (long (c .before .before))
+    (passes 5 _ _ (sym (c .before .listings-good .ensures) ∙ not-false _ (c .if3 .left)) none-failed))
 
 pub listing-verdict-spec : {M : Type 1} → statement M
 listing-verdict-spec =

@@ -20,7 +20,8 @@ abbrev μ-loop : tie.MeasureT-loop
 ends : (c : tie.In-loop Inv-loop μ-loop) → let a = c .before .before .before .before .args in c .before .loop .t * a .rows + a .rows ≤ length (now (a .counts))
 ends c =
     let s = c .before .before .before .before in
-    subst (λ n. c .before .loop .t * s .args .rows + s .args .rows ≤ n) (sym (s .pre .counted)) (stretch-within (c .before .loop .t) (s .args .trees) (s .args .rows) (c .loop-test .taken))
+    subst (λ n. c .before .loop .t * s .args .rows + s .args .rows ≤ n) (sym (s .pre .counted))
+    (stretch-within (c .before .loop .t) (s .args .trees) (s .args .rows) (c .loop-test .taken))
 
 loop-holds : tie.Need-loop-holds Inv-loop μ-loop
 loop-holds c =
@@ -54,8 +55,11 @@ tree-room-requires c κs =
       weighed = s .pre .weighed;
     }
 
+abbrev start-place : tie.After-tree-room Inv-loop μ-loop → tie.Start Inv-loop μ-loop
+start-place c = c .before .before .before .before .before .before
+
 add-sum : tie.Need-add-sum Inv-loop μ-loop
-add-sum c = omega (arith, c .before .before .before .loop .inv .1, c .tree-room .ensures .low, c .before .before .before .before .before .before .pre .few, c .before .before .before .before .before .before .pre .fewTrees)
+add-sum c = omega (arith, c .before .before .before .loop .inv .1, c .tree-room .ensures .low, start-place c .pre .few, start-place c .pre .fewTrees)
 
 add-t : tie.Need-add-t Inv-loop μ-loop
 add-t c = search needs
@@ -66,18 +70,23 @@ loop-less c = search needs
 loop-again : tie.Need-loop-again Inv-loop μ-loop
 loop-again c =
     let at = c .before .before .before in
-    let a = c .before .before .before .before .before .before .args in
+    let a = start-place c .args in
     let room = c .tree-room .ensures .exact ∙ ap (roomIn (a .rows) (now (a .weights))) (part-lies (at .loop .t * a .rows) (a .rows) (now (a .counts))) in (
       omega arith,
-      omega (arith, at .loop .inv .1, c .tree-room .ensures .low, c .before .before .before .before .before .before .pre .few),
-      total-adds (roomOf (a .rows) (now (a .weights)) (now (a .counts))) (a .trees) (at .loop .t) (at .loop .sum) (c .tree-room .result) (c .before .before .loop-test .taken) (at .loop .inv .2) room,
+      omega (arith, at .loop .inv .1, c .tree-room .ensures .low, start-place c .pre .few),
+      total-adds (roomOf (a .rows) (now (a .weights)) (now (a .counts))) (a .trees) (at .loop .t) (at .loop .sum) (c .tree-room .result) (c .before .before .loop-test .taken)
+          (at .loop .inv .2) room,
     )
 
 returns : tie.Need-returns Inv-loop μ-loop
 returns c =
     let at = c .before in
     let a = c .before .before .before .before .args in
-    record { exact = total-ends (roomOf (a .rows) (now (a .weights)) (now (a .counts))) (a .trees) (at .loop .t) (at .loop .sum) (omega arith) (at .loop .inv .2); low = omega (arith, at .loop .inv .0, at .loop .inv .1) }
+    record {
+      exact = total-ends (roomOf (a .rows) (now (a .weights)) (now (a .counts))) (a .trees) (at .loop .t) (at .loop .sum) (omega arith) (at .loop .inv .2);
+      low = omega
+          (arith, at .loop .inv .0, at .loop .inv .1);
+    }
 
 pub forest-room-spec : {M : Type 1} → statement M
 forest-room-spec =

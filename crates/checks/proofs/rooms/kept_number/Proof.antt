@@ -41,14 +41,29 @@ add-i c = search needs
 loop-less : tie.Need-loop-less Inv-loop μ-loop
 loop-less c = search needs
 
+abbrev start-place : tie.Joined1 Inv-loop μ-loop → tie.Start Inv-loop μ-loop
+start-place c = c .before .before .before .before .before .before
+
 loop-again : tie.Need-loop-again Inv-loop μ-loop
 loop-again c =
     let at = c .before .before .before in
-    let a = c .before .before .before .before .before .before .args in
+    let a = start-place c .args in
     let kept = sym (c .before .is-kept .ensures) in
     ⊎-elim
-    (λ w. (omega arith, omega (arith, w .1), kept-on (keptIn (now (a .weights)) (now (a .counts))) (a .rows) (at .loop .i) (kept-counts (keptIn (now (a .weights)) (now (a .counts))) (a .rows) (at .loop .i) (at .loop .n) (c .before .before .loop-test .taken) (at .loop .inv .2) (kept ∙ w .0 .taken)) (w .1)))
-    (λ w. (omega arith, omega (arith, w .1), kept-on (keptIn (now (a .weights)) (now (a .counts))) (a .rows) (at .loop .i) (kept-passes (keptIn (now (a .weights)) (now (a .counts))) (a .rows) (at .loop .i) (at .loop .n) (c .before .before .loop-test .taken) (at .loop .inv .2) (kept ∙ w .0 .left)) (w .1)))
+    (λ w. (
+      omega arith,
+      omega (arith, w .1),
+      kept-on (keptIn (now (a .weights)) (now (a .counts))) (a .rows) (at .loop .i)
+          (kept-counts (keptIn (now (a .weights)) (now (a .counts))) (a .rows) (at .loop .i) (at .loop .n) (c .before .before .loop-test .taken) (at .loop .inv .2) (kept ∙ w .0 .taken))
+          (w .1),
+    ))
+    (λ w. (
+      omega arith,
+      omega (arith, w .1),
+      kept-on (keptIn (now (a .weights)) (now (a .counts))) (a .rows) (at .loop .i)
+          (kept-passes (keptIn (now (a .weights)) (now (a .counts))) (a .rows) (at .loop .i) (at .loop .n) (c .before .before .loop-test .taken) (at .loop .inv .2) (kept ∙ w .0 .left))
+          (w .1),
+    ))
     (c .if1 .came)
 
 returns : tie.Need-returns Inv-loop μ-loop

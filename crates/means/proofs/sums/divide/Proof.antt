@@ -45,15 +45,18 @@ mul-out-2 c = omega (arith, placed (c .before .before .before), c .before .befor
 slice-write-out : tie.Need-slice-write-out Inv-loop μ-loop
 slice-write-out c = omega (arith, placed (c .before .before .before), c .before .before .before .before .loop .inv .1 .long)
 
+abbrev start-place : tie.After-slice-known2 Inv-loop μ-loop → tie.Start Inv-loop μ-loop
+start-place c = c .before .before .before .before .before .before .before
+
 add-i : tie.Need-add-i Inv-loop μ-loop
-add-i c = omega (arith, c .before .before .before .loop-test .taken, c .before .before .before .before .before .before .before .pre .0)
+add-i c = omega (arith, c .before .before .before .loop-test .taken, start-place c .pre .0)
 
 loop-less : tie.Need-loop-less Inv-loop μ-loop
 loop-less c = omega (arith, c .before .before .before .loop-test .taken)
 
 loop-again : tie.Need-loop-again Inv-loop μ-loop
 loop-again c =
-    let s = c .before .before .before .before .before .before .before in
+    let s = start-place c in
     let at = c .before .before .before .before in (
       omega (arith, c .before .before .before .loop-test .taken),
       row-next (divided s) (now (s .args .out)) (at .loop .out) (at .loop .i) _ (placed (c .before .before .before)) (at .loop .inv .1)
@@ -64,7 +67,9 @@ same-length : tie.Need-same-length Inv-loop μ-loop
 same-length c = c .before .loop .inv .1 .long
 
 returns : tie.Need-returns Inv-loop μ-loop
-returns c = let s = c .before .before .before .before in row-last (divided s) (now (s .args .out)) (c .before .loop .out) (c .before .loop .i) (s .args .rows) (c .before .loop .inv .0) (c .loop-test .left) (c .before .loop .inv .1)
+returns c =
+    let s = c .before .before .before .before in row-last (divided s) (now (s .args .out)) (c .before .loop .out) (c .before .loop .i) (s .args .rows) (c .before .loop .inv .0)
+    (c .loop-test .left) (c .before .loop .inv .1)
 
 pub divide-spec : {M : Type 1} → statement M
 divide-spec =
