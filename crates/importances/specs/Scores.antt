@@ -19,7 +19,7 @@ use Rattle.lemmas.specs.Scans.{range-next, range-end, range-all}
 use Rattle.entries.specs.Entries.{noChild}
 use Rattle.tables.specs.Table.{TreeLies}
 use Rattle.tables.specs.Laws.{entries-long}
-use Rattle.scores.specs.Scores.{marked}
+use Rattle.scores.specs.Nodes.{marked}
 
 -- ---- entry by entry
 

@@ -3,6 +3,8 @@ pub mod Once
 pub mod Outs
 -- loops over the entries of a list, and over the numbers below n
 pub mod Scans
+-- marks of the numbers that a loop has met
+pub mod Marks
 -- chains of tests, how a call ends by its verdict, and what a shape in range says
 pub mod Tests
 -- where a cell lies among the values, and a listing among the listings

@@ -1,4 +1,4 @@
 -- a node by what is read of it to add its score
-pub mod Scores
+pub mod Nodes
 -- loops that add a list up, or write one in place from the front
 pub mod Lists

@@ -7,7 +7,7 @@ ghost use Rattle.rules.specs.Words.{nought};
 ghost use Rattle.rules.specs.Table.{isLeaf};
 ghost use Rattle.rules.specs.Reading.{scored, sumFrom, dividedIf, normalised, scaled, addEach};
 ghost use Rattle.entries.specs.Entries.{noChild};
-ghost use Rattle.scores.specs.Scores.{marked};
+ghost use Rattle.scores.specs.Nodes.{marked};
 ghost use Rattle.scores.specs.Lists.{dividedBy};
 use rules::Scale;
 

@@ -6,7 +6,7 @@ use denote.Ref.{now}
 use lib.ListN.{length, getD, set}
 use lib.Ieee.{nan, binary64, add}
 use Rattle.rules.specs.Reading.{scored}
-use Rattle.scores.specs.Scores.{scored-by}
+use Rattle.scores.specs.Nodes.{scored-by}
 use Rattle.scores.proofs.add_score.Statement.{statement}
 use Rattle.scores.proofs.add_score.Tie as tie
 

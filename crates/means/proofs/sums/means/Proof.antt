@@ -5,7 +5,7 @@ use Prim.Native.Nat.{ℕ}
 use denote.Ref.{now}
 use lib.ListN.{length}
 use lib.Ieee.{Float, binary64, div}
-use Rattle.rules.specs.Words.{nought, float}
+use Rattle.rules.specs.Words.{float}
 use Rattle.rules.specs.Lent.{columnsOf}
 use Rattle.rules.specs.Table.{ForestTable, tableOf}
 use Rattle.predict.specs.Rows.{rewritten, length-rewritten}
