@@ -2,7 +2,9 @@
 ghost use mathlib.Core.Path.{_≡_};
 ghost use Prim.Native.Nat.{_≤_, max};
 ghost use lib.ListN.{length};
-ghost use Rattle.node_growth.specs.Rooms.{LongAll};
+ghost use Rattle.rules.specs.Lent.{columnsOf};
+ghost use Rattle.node_entries.specs.Entries.{LongAll};
+ghost use Rattle.node_growth.specs.Rooms.{groundOf};
 ghost use Rattle.tree_growth.specs.Places.{TurnAsks, TurnDone};
 ghost use Rattle.tree_growth.specs.Loop.{GrowAsks, GrowDone};
 ghost use Rattle.tree_growth.specs.Tree.{TreeAsks, StartDone, TreeDone};
@@ -58,13 +60,21 @@ pub fn turn(
     p: Params,
     at: At,
 ) -> Turned
-    requires { ⌜ TurnAsks (record { rows = rows; features = features; tables = (record { values = now values; targets = now targets; weights = now weights; counts = now counts }); order = now order }) p (now words) (length (now scratch)) (length (now flags)) (record { value = now (value); feature = now (feature); threshold = now (threshold); score = now (score); trueChild = now (truechild); falseChild = now (falsechild) }) (now wholes) (now reals) at ⌝ }
-    ensures { λ r. ⌜ TurnDone (record { rows = rows; features = features; tables = (record { values = now (values .entry); targets = now (targets .entry); weights = now (weights .entry); counts = now (counts .entry) }); order = now (order .entry) }) (record { rows = rows; features = features; tables = (record { values = now (values .entry); targets = now (targets .entry); weights = now (weights .entry); counts = now (counts .entry) }); order = now (order .exit) }) p (now (words .entry)) (now (thresholds .entry)) (record { value = now (value .entry); feature = now (feature .entry); threshold = now (threshold .entry); score = now (score .entry); trueChild = now (truechild .entry); falseChild = now (falsechild .entry) }) (record { value = now (value .exit); feature = now (feature .exit); threshold = now (threshold .exit); score = now (score .exit); trueChild = now (truechild .exit); falseChild = now (falsechild .exit) }) (now (wholes .entry)) (now (reals .entry)) (now (wholes .exit)) (now (reals .exit)) at r ⌝ }
+    requires { ⌜
+        TurnAsks (groundOf rows features (now values) (now targets) (now weights) (now counts) (now order)) p (now words) (length (now scratch)) (length (now flags))
+        (columnsOf (now value) (now feature) (now threshold) (now score) (now truechild) (now falsechild)) (now wholes) (now reals) at ⌝ }
+    ensures { λ r. ⌜
+        TurnDone (groundOf rows features (now (values .entry)) (now (targets .entry)) (now (weights .entry)) (now (counts .entry)) (now (order .entry)))
+        (groundOf rows features (now (values .entry)) (now (targets .entry)) (now (weights .entry)) (now (counts .entry)) (now (order .exit))) p (now (words .entry))
+        (now (thresholds .entry))
+        (columnsOf (now (value .entry)) (now (feature .entry)) (now (threshold .entry)) (now (score .entry)) (now (truechild .entry)) (now (falsechild .entry)))
+        (columnsOf (now (value .exit)) (now (feature .exit)) (now (threshold .exit)) (now (score .exit)) (now (truechild .exit)) (now (falsechild .exit)))
+        (now (wholes .entry)) (now (reals .entry)) (now (wholes .exit)) (now (reals .exit)) at r ⌝ }
 {
     let m = at.waiting - 1;
     let n = at.nodes;
     let d = at.drawn;
-    let w = node_growth::nodes::top(wholes, reals, m);
+    let w = node_entries::top(wholes, reals, m);
     let h = node_growth::split_node(
         values,
         targets,
@@ -148,8 +158,15 @@ pub fn grow(
     p: Params,
     start: At,
 ) -> Turned
-    requires { ⌜ GrowAsks (record { rows = rows; features = features; tables = (record { values = now values; targets = now targets; weights = now weights; counts = now counts }); order = now order }) p (now words) most (length (now scratch)) (length (now flags)) (record { value = now (value); feature = now (feature); threshold = now (threshold); score = now (score); trueChild = now (truechild); falseChild = now (falsechild) }) (now wholes) (now reals) start ⌝ }
-    ensures { λ r. ⌜ GrowDone (record { rows = rows; features = features; tables = (record { values = now (values .entry); targets = now (targets .entry); weights = now (weights .entry); counts = now (counts .entry) }); order = now (order .entry) }) p (now (words .entry)) (now (thresholds .entry)) most (record { value = now (value .entry); feature = now (feature .entry); threshold = now (threshold .entry); score = now (score .entry); trueChild = now (truechild .entry); falseChild = now (falsechild .entry) }) (record { value = now (value .exit); feature = now (feature .exit); threshold = now (threshold .exit); score = now (score .exit); trueChild = now (truechild .exit); falseChild = now (falsechild .exit) }) (now (wholes .entry)) (now (reals .entry)) start r ⌝ }
+    requires { ⌜
+        GrowAsks (groundOf rows features (now values) (now targets) (now weights) (now counts) (now order)) p (now words) most (length (now scratch)) (length (now flags))
+        (columnsOf (now value) (now feature) (now threshold) (now score) (now truechild) (now falsechild)) (now wholes) (now reals) start ⌝ }
+    ensures { λ r. ⌜
+        GrowDone (groundOf rows features (now (values .entry)) (now (targets .entry)) (now (weights .entry)) (now (counts .entry)) (now (order .entry))) p
+        (now (words .entry)) (now (thresholds .entry)) most
+        (columnsOf (now (value .entry)) (now (feature .entry)) (now (threshold .entry)) (now (score .entry)) (now (truechild .entry)) (now (falsechild .entry)))
+        (columnsOf (now (value .exit)) (now (feature .exit)) (now (threshold .exit)) (now (score .exit)) (now (truechild .exit)) (now (falsechild .exit)))
+        (now (wholes .entry)) (now (reals .entry)) start r ⌝ }
 {
     let mut at = start;
     while 0 < at.waiting {
@@ -206,8 +223,11 @@ pub fn start_tree(
     kept: u32,
     root: Side,
 ) -> Step
-    requires { ⌜ TreeAsks (record { rows = rows; features = features; tables = (record { values = now values; targets = now targets; weights = now weights; counts = now counts }); order = now order }) p most kept root (length (now wholes)) (length (now reals)) ⌝ }
-    ensures { λ r. ⌜ StartDone (record { rows = rows; features = features; tables = (record { values = now (values .entry); targets = now (targets .entry); weights = now (weights .entry); counts = now (counts .entry) }); order = now (order .entry) }) p (now (words .entry)) (now (thresholds .entry)) (now (wholes .exit)) (now (reals .exit)) kept root r ⌝ }
+    requires { ⌜
+        TreeAsks (groundOf rows features (now values) (now targets) (now weights) (now counts) (now order)) p most kept root (length (now wholes)) (length (now reals)) ⌝ }
+    ensures { λ r. ⌜
+        StartDone (groundOf rows features (now (values .entry)) (now (targets .entry)) (now (weights .entry)) (now (counts .entry)) (now (order .entry))) p
+        (now (words .entry)) (now (thresholds .entry)) (now (wholes .exit)) (now (reals .exit)) kept root r ⌝ }
 {
     let s = Stand {
         waiting: 0,
@@ -268,12 +288,19 @@ pub fn grow_tree(
     kept: u32,
     root: Side,
 ) -> Turned
-    requires { ⌜ TreeAsks (record { rows = rows; features = features; tables = (record { values = now values; targets = now targets; weights = now weights; counts = now counts }); order = now order }) p most kept root (length (now wholes)) (length (now reals)) ⌝ }
-    requires { ⌜ (rows ≤ length (now scratch)) × (rows ≤ length (now flags)) × LongAll most (record { value = now (value); feature = now (feature); threshold = now (threshold); score = now (score); trueChild = now (truechild); falseChild = now (falsechild) }) ⌝ }
-    ensures { λ r. ⌜ TreeDone (record { rows = rows; features = features; tables = (record { values = now (values .entry); targets = now (targets .entry); weights = now (weights .entry); counts = now (counts .entry) }); order = now (order .entry) }) p (now (words .entry)) (now (thresholds .entry)) (record { value = now (value .entry); feature = now (feature .entry); threshold = now (threshold .entry); score = now (score .entry); trueChild = now (truechild .entry); falseChild = now (falsechild .entry) }) (record { value = now (value .exit); feature = now (feature .exit); threshold = now (threshold .exit); score = now (score .exit); trueChild = now (truechild .exit); falseChild = now (falsechild .exit) }) kept root r ⌝ }
+    requires { ⌜
+        TreeAsks (groundOf rows features (now values) (now targets) (now weights) (now counts) (now order)) p most kept root (length (now wholes)) (length (now reals)) ⌝ }
+    requires { ⌜
+        (rows ≤ length (now scratch)) × (rows ≤ length (now flags)) × LongAll most
+        (columnsOf (now value) (now feature) (now threshold) (now score) (now truechild) (now falsechild)) ⌝ }
+    ensures { λ r. ⌜
+        TreeDone (groundOf rows features (now (values .entry)) (now (targets .entry)) (now (weights .entry)) (now (counts .entry)) (now (order .entry))) p
+        (now (words .entry)) (now (thresholds .entry))
+        (columnsOf (now (value .entry)) (now (feature .entry)) (now (threshold .entry)) (now (score .entry)) (now (truechild .entry)) (now (falsechild .entry)))
+        (columnsOf (now (value .exit)) (now (feature .exit)) (now (threshold .exit)) (now (score .exit)) (now (truechild .exit)) (now (falsechild .exit))) kept root r ⌝ }
 {
     let t = root.totals;
-    node_growth::nodes::put_leaf(
+    node_entries::put_leaf(
         value,
         feature,
         threshold,
