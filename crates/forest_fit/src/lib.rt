@@ -108,7 +108,7 @@ pub fn fit_forest(
         truechild.len(),
         falsechild.len(),
     );
-    let waiting = search::lesser(wholes.len(), reals.len());
+    let waiting = slices::least(wholes.len(), reals.len());
     let room = Lengths {
         nodes: places,
         order: order.len(),

@@ -102,8 +102,8 @@ fn report_of(at: At, mass: f64, words: usize, thresholds: usize) -> Report
     ensures { λ r. ⌜ r ≡ reportAt mass words thresholds at ⌝ }
 {
     let d = at.drawn;
-    let w = search::lesser(d.words, words);
-    let t = search::lesser(d.thresholds, thresholds);
+    let w = slices::least(d.words, words);
+    let t = slices::least(d.thresholds, thresholds);
     let searches = narrow(d.searches);
     let used = narrow(w);
     let taken = narrow(t);

@@ -112,7 +112,7 @@ pub fn fit_tree(
         truechild.len(),
         falsechild.len(),
     );
-    let waiting = search::lesser(wholes.len(), reals.len());
+    let waiting = slices::least(wholes.len(), reals.len());
     let room = Lengths {
         nodes,
         order: order.len(),

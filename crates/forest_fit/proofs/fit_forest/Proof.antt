@@ -74,7 +74,7 @@ verdict b =
       wordStarts = refl;
       thresholdStarts = refl;
       nodes = b .before .before .shortest-of .ensures;
-      work = record { order = refl; scratch = refl; flags = refl; waiting = sym (b .before .lesser .ensures) };
+      work = record { order = refl; scratch = refl; flags = refl; waiting = sym (b .before .least .ensures) };
       starts = refl;
       reports = record { nodes = refl; depth = refl; mass = refl; searches = refl; words = refl; thresholds = refl };
     })
@@ -88,8 +88,8 @@ made b = subst (λ k. ParamsMade (begun (b .before .before .before) .args .setti
 shortest-of-requires : tie.Need-shortest-of-requires
 shortest-of-requires c κs = search needs
 
-lesser-requires : tie.Need-lesser-requires
-lesser-requires c κs = search needs
+least-requires : tie.Need-least-requires
+least-requires c κs = search needs
 
 forest-verdict-requires : tie.Need-forest-verdict-requires
 forest-verdict-requires c κs = search needs
@@ -193,4 +193,4 @@ returns-2 c =
     _ (verdict (c .before .before .before .before .before .before .before .before .before .before .before .before .before .before .before .before .before .before .before .before .before .before .before .before .before .before .before .before .before .before .before .before .before .before .before .before .before .before .before .before .before .before .before .before .before .before .before .before .before .before .before .before .before .before .before .before .before .before .before .before .before .before .before .before .before .before .before .before .before .before .before .before .before .before .before .before .before .before .before .before .before .before .before .before .before .before .before .before .before .before .before .before .before .before .before .before .before .before .before .before .before .before .before .before .before .before .before .before .before .before)) (passed (c .before .before .before .before .before .before .before .before .before .before .before .before .before .before .before .before .before .before .before .before .before .before .before .before .before .before .before .before .before .before .before .before .before .before .before .before .before .before .before .before .before .before .before .before .before .before .before .before .before .before .before .before .before .before .before .before .before .before .before .before .before .before .before .before .before .before .before .before .before .before .before .before .before .before .before .before .before .before .before .before .before .before .before .before .before .before .before .before .before .before .before .before .before .before .before .before .before .before .before .before .before .before .before .before .before .before .before .before .before)) _ (made (c .before .before .before .before .before .before .before .before .before .before .before .before .before .before .before .before .before .before .before .before .before .before .before .before .before .before .before .before .before .before .before .before .before .before .before .before .before .before .before .before .before .before .before .before .before .before .before .before .before .before .before .before .before .before .before .before .before .before .before .before .before .before .before .before .before .before .before .before .before .before .before .before .before .before .before .before .before .before .before .before .before .before .before .before .before .before .before .before .before .before .before .before .before .before .before .before .before .before .before .before .before .before .before .before .before .before .before)) _ (c .before .before .before .before .before .before .before .before .before .before .before .before .before .before .before .before .before .before .before .before .before .before .before .before .before .before .before .before .before .before .before .before .before .before .before .before .before .before .before .before .before .before .before .before .before .before .before .before .before .before .before .before .before .before .before .before .before .before .before .before .before .before .before .before .before .before .before .before .before .before .before .before .before .before .before .before .before .before .before .before .before .before .before .before .before .before .before .before .plant-all .ensures) _ (c .before .before .before .before .before .before .before .before .before .before .before .before .before .before .before .before .before .before .before .before .before .before .before .before .before .before .leave .ensures) _ (c .before .before .before .before .before .before .before .before .before .before .before .before .before .before .before .before .before .before .before .before .before .before .before .before .before .before .before .before .before .before .before .before .before .before .before .before .before .before .before .before .before .before .before .before .before .before .before .before .zero-work .ensures)
 
 pub fit-forest-spec : {M : Type 1} → statement M
-fit-forest-spec = tie.close (tie.spec shortest-of-requires lesser-requires forest-verdict-requires returns mul-size cast-tried-of tried-of-requires params-of-requires sub-plant-all part-plant-all-start part-plant-all-end plant-all-requires zero-work-requires leave-requires same-length same-length-2 same-length-3 same-length-4 same-length-5 same-length-6 same-length-7 same-length-8 same-length-9 same-length-10 same-length-11 same-length-12 same-length-13 same-length-14 same-length-15 same-length-16 same-length-17 same-length-18 returns-2)
+fit-forest-spec = tie.close (tie.spec shortest-of-requires least-requires forest-verdict-requires returns mul-size cast-tried-of tried-of-requires params-of-requires sub-plant-all part-plant-all-start part-plant-all-end plant-all-requires zero-work-requires leave-requires same-length same-length-2 same-length-3 same-length-4 same-length-5 same-length-6 same-length-7 same-length-8 same-length-9 same-length-10 same-length-11 same-length-12 same-length-13 same-length-14 same-length-15 same-length-16 same-length-17 same-length-18 returns-2)

@@ -5,11 +5,11 @@ use Rattle.tree_build.specs.Plant.{report-made}
 use Rattle.tree_build.proofs.report_of.Statement.{statement}
 use Rattle.tree_build.proofs.report_of.Tie as tie
 
-lesser-requires : tie.Need-lesser-requires
-lesser-requires c κs = search needs
+least-requires : tie.Need-least-requires
+least-requires c κs = search needs
 
-lesser-requires-2 : tie.Need-lesser-requires-2
-lesser-requires-2 c κs = search needs
+least-requires-2 : tie.Need-least-requires-2
+least-requires-2 c κs = search needs
 
 narrow-requires : tie.Need-narrow-requires
 narrow-requires c κs = search needs
@@ -21,7 +21,7 @@ narrow-requires-3 : tie.Need-narrow-requires-3
 narrow-requires-3 c κs = search needs
 
 returns : tie.Need-returns
-returns c = report-made _ _ _ (c .before .before .before .before .before .before .args .at) (c .before .before .narrow .ensures) (c .before .narrow2 .ensures ∙ c .before .before .before .before .lesser .ensures) (c .narrow3 .ensures ∙ c .before .before .before .lesser2 .ensures)
+returns c = report-made _ _ _ (c .before .before .before .before .before .before .args .at) (c .before .before .narrow .ensures) (c .before .narrow2 .ensures ∙ c .before .before .before .before .least .ensures) (c .narrow3 .ensures ∙ c .before .before .before .least2 .ensures)
 
 pub report-of-spec : {M : Type 1} → statement M
-report-of-spec = tie.close (tie.spec lesser-requires lesser-requires-2 narrow-requires narrow-requires-2 narrow-requires-3 returns)
+report-of-spec = tie.close (tie.spec least-requires least-requires-2 narrow-requires narrow-requires-2 narrow-requires-3 returns)

@@ -48,7 +48,7 @@ begun b = b .before .before .before .before .before .before .before .before .bef
 verdict : (b : tie.After-tree-verdict) → b .tree-verdict .result ≡ firstFailed (treeTests waitingRoom (call (begun b)) (rooms (begun b)))
 verdict b =
     b .tree-verdict .ensures (call (begun b)) (rooms (begun b))
-    (record { shape = refl; given = refl; nodes = b .before .before .shortest-of .ensures; work = record { order = refl; scratch = refl; flags = refl; waiting = sym (b .before .lesser .ensures) } })
+    (record { shape = refl; given = refl; nodes = b .before .before .shortest-of .ensures; work = record { order = refl; scratch = refl; flags = refl; waiting = sym (b .before .least .ensures) } })
 
 passed : (e : tie.Else1) → e .before .tree-verdict .result ≤ 0
 passed e = omega (arith, e .if1 .left)
@@ -56,8 +56,8 @@ passed e = omega (arith, e .if1 .left)
 shortest-of-requires : tie.Need-shortest-of-requires
 shortest-of-requires c κs = search needs
 
-lesser-requires : tie.Need-lesser-requires
-lesser-requires c κs = search needs
+least-requires : tie.Need-least-requires
+least-requires c κs = search needs
 
 tree-verdict-requires : tie.Need-tree-verdict-requires
 tree-verdict-requires c κs = search needs
@@ -132,7 +132,7 @@ fit-tree-spec =
     tie.close
     (tie.spec
     shortest-of-requires
-    lesser-requires
+    least-requires
     tree-verdict-requires
     returns
     mul-size
