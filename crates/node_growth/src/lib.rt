@@ -76,6 +76,8 @@ pub fn push_found(
 
 // What the search of a child finds joins the waiting list.
 pub fn search_child(
+    wholes: &mut [[u32; 6]],
+    reals: &mut [[f64; 3]],
     values: &[f64],
     targets: &[f64],
     weights: &[f64],
@@ -83,8 +85,6 @@ pub fn search_child(
     order: &[u32],
     words: &[u32],
     thresholds: &[f64],
-    wholes: &mut [[u32; 6]],
-    reals: &mut [[f64; 3]],
     rows: usize,
     features: usize,
     p: Params,
@@ -127,11 +127,6 @@ pub fn search_child(
 
 // A node's split: its rows get their flags, and the node and its children are written. The score takes totals that are added up afresh.
 pub fn split_node(
-    values: &[f64],
-    targets: &[f64],
-    weights: &[f64],
-    counts: &[u32],
-    order: &[u32],
     flags: &mut [bool],
     value: &mut [f64],
     feature: &mut [u32],
@@ -139,6 +134,11 @@ pub fn split_node(
     score: &mut [f64],
     truechild: &mut [u32],
     falsechild: &mut [u32],
+    values: &[f64],
+    targets: &[f64],
+    weights: &[f64],
+    counts: &[u32],
+    order: &[u32],
     rows: usize,
     features: usize,
     w: WaitingNode,
@@ -195,6 +195,8 @@ pub fn split_node(
 
 // Both children are searched, the true one first.
 pub fn search_both(
+    wholes: &mut [[u32; 6]],
+    reals: &mut [[f64; 3]],
     values: &[f64],
     targets: &[f64],
     weights: &[f64],
@@ -202,8 +204,6 @@ pub fn search_both(
     order: &[u32],
     words: &[u32],
     thresholds: &[f64],
-    wholes: &mut [[u32; 6]],
-    reals: &mut [[f64; 3]],
     rows: usize,
     features: usize,
     p: Params,
@@ -224,6 +224,8 @@ pub fn search_both(
         (now (words .entry)) (now (thresholds .entry)) (now (wholes .entry)) (now (reals .entry)) (now (wholes .exit)) (now (reals .exit)) node level from mid to a b s r ⌝ }
 {
     let r = search_child(
+        wholes,
+        reals,
         values,
         targets,
         weights,
@@ -231,8 +233,6 @@ pub fn search_both(
         order,
         words,
         thresholds,
-        wholes,
-        reals,
         rows,
         features,
         p,
@@ -246,6 +246,8 @@ pub fn search_both(
     match r {
         Step::Refused(k) => Step::Refused(k),
         Step::Goes(t) => search_child(
+            wholes,
+            reals,
             values,
             targets,
             weights,
@@ -253,8 +255,6 @@ pub fn search_both(
             order,
             words,
             thresholds,
-            wholes,
-            reals,
             rows,
             features,
             p,
@@ -270,6 +270,10 @@ pub fn search_both(
 
 // The children of a node whose rows have their flags. Where neither is searched, nothing reads those rows again, and the columns stay as they are.
 pub fn search_sides(
+    order: &mut [u32],
+    scratch: &mut [u32],
+    wholes: &mut [[u32; 6]],
+    reals: &mut [[f64; 3]],
     values: &[f64],
     targets: &[f64],
     weights: &[f64],
@@ -277,10 +281,6 @@ pub fn search_sides(
     words: &[u32],
     thresholds: &[f64],
     flags: &[bool],
-    order: &mut [u32],
-    scratch: &mut [u32],
-    wholes: &mut [[u32; 6]],
-    reals: &mut [[f64; 3]],
     rows: usize,
     features: usize,
     p: Params,
@@ -313,6 +313,8 @@ pub fn search_sides(
         );
         let mid = w.start + h.rows;
         return search_both(
+            wholes,
+            reals,
             values,
             targets,
             weights,
@@ -320,8 +322,6 @@ pub fn search_sides(
             order,
             words,
             thresholds,
-            wholes,
-            reals,
             rows,
             features,
             p,

@@ -38,12 +38,6 @@ pub fn greater(a: u32, b: u32) -> u32
 
 // One turn: the last to join is split, and its children are searched.
 pub fn turn(
-    values: &[f64],
-    targets: &[f64],
-    weights: &[f64],
-    counts: &[u32],
-    words: &[u32],
-    thresholds: &[f64],
     order: &mut [u32],
     scratch: &mut [u32],
     flags: &mut [bool],
@@ -55,6 +49,12 @@ pub fn turn(
     falsechild: &mut [u32],
     wholes: &mut [[u32; 6]],
     reals: &mut [[f64; 3]],
+    values: &[f64],
+    targets: &[f64],
+    weights: &[f64],
+    counts: &[u32],
+    words: &[u32],
+    thresholds: &[f64],
     rows: usize,
     features: usize,
     p: Params,
@@ -76,11 +76,6 @@ pub fn turn(
     let d = at.drawn;
     let w = node_entries::top(wholes, reals, m);
     let h = node_growth::split_node(
-        values,
-        targets,
-        weights,
-        counts,
-        order,
         flags,
         value,
         feature,
@@ -88,12 +83,21 @@ pub fn turn(
         score,
         truechild,
         falsechild,
+        values,
+        targets,
+        weights,
+        counts,
+        order,
         rows,
         features,
         w,
         n,
     );
     let r = node_growth::search_sides(
+        order,
+        scratch,
+        wholes,
+        reals,
         values,
         targets,
         weights,
@@ -101,10 +105,6 @@ pub fn turn(
         words,
         thresholds,
         flags,
-        order,
-        scratch,
-        wholes,
-        reals,
         rows,
         features,
         p,
@@ -135,12 +135,6 @@ pub fn turn(
 
 // The growth: turns until nothing waits. `most` is how many nodes there may be.
 pub fn grow(
-    values: &[f64],
-    targets: &[f64],
-    weights: &[f64],
-    counts: &[u32],
-    words: &[u32],
-    thresholds: &[f64],
     order: &mut [u32],
     scratch: &mut [u32],
     flags: &mut [bool],
@@ -152,6 +146,12 @@ pub fn grow(
     falsechild: &mut [u32],
     wholes: &mut [[u32; 6]],
     reals: &mut [[f64; 3]],
+    values: &[f64],
+    targets: &[f64],
+    weights: &[f64],
+    counts: &[u32],
+    words: &[u32],
+    thresholds: &[f64],
     rows: usize,
     features: usize,
     most: usize,
@@ -171,12 +171,6 @@ pub fn grow(
     let mut at = start;
     while 0 < at.waiting {
         let r = turn(
-            values,
-            targets,
-            weights,
-            counts,
-            words,
-            thresholds,
             order,
             scratch,
             flags,
@@ -188,6 +182,12 @@ pub fn grow(
             falsechild,
             wholes,
             reals,
+            values,
+            targets,
+            weights,
+            counts,
+            words,
+            thresholds,
             rows,
             features,
             p,
@@ -207,6 +207,8 @@ pub fn grow(
 
 // The root is searched if something is kept, the limit is above 1 and its count reaches the least split.
 pub fn start_tree(
+    wholes: &mut [[u32; 6]],
+    reals: &mut [[f64; 3]],
     values: &[f64],
     targets: &[f64],
     weights: &[f64],
@@ -214,8 +216,6 @@ pub fn start_tree(
     order: &[u32],
     words: &[u32],
     thresholds: &[f64],
-    wholes: &mut [[u32; 6]],
-    reals: &mut [[f64; 3]],
     rows: usize,
     features: usize,
     most: usize,
@@ -239,6 +239,8 @@ pub fn start_tree(
     };
     if 0 < root.count {
         return node_growth::search_child(
+            wholes,
+            reals,
             values,
             targets,
             weights,
@@ -246,8 +248,6 @@ pub fn start_tree(
             order,
             words,
             thresholds,
-            wholes,
-            reals,
             rows,
             features,
             p,
@@ -311,6 +311,8 @@ pub fn grow_tree(
         t,
     );
     let r = start_tree(
+        wholes,
+        reals,
         values,
         targets,
         weights,
@@ -318,8 +320,6 @@ pub fn grow_tree(
         order,
         words,
         thresholds,
-        wholes,
-        reals,
         rows,
         features,
         most,
@@ -338,12 +338,6 @@ pub fn grow_tree(
                 drawn: d,
             };
             grow(
-                values,
-                targets,
-                weights,
-                counts,
-                words,
-                thresholds,
                 order,
                 scratch,
                 flags,
@@ -355,6 +349,12 @@ pub fn grow_tree(
                 falsechild,
                 wholes,
                 reals,
+                values,
+                targets,
+                weights,
+                counts,
+                words,
+                thresholds,
                 rows,
                 features,
                 most,

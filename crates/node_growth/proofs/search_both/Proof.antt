@@ -48,8 +48,8 @@ search-child-requires-2 c κs =
     let a = start-to-search-child c .args in
     second-asks (ground (start-to-search-child c)) (a .p) (a .words .now) (a .thresholds .now) (a .wholes .now) (a .reals .now) _ _ (a .node) (a .level)
     (a .from) (a .mid) (a .to) (a .a) (a .b) (a .s) _ (c .before .before .before .r2 .given .1) (start-to-search-child c .pre)
-    (search-child-to-search-child c .search-child .ensures) (search-child-to-search-child c .search-child .kept .1 .1 .1 .1 .1 .1 .1 .0)
-    (search-child-to-search-child c .search-child .kept .1 .1 .1 .1 .1 .1 .1 .1 .0)
+    (search-child-to-search-child c .search-child .ensures) (search-child-to-search-child c .search-child .kept .0)
+    (search-child-to-search-child c .search-child .kept .1 .0)
 
 same-length : tie.Need-same-length
 same-length c = search needs

@@ -11,8 +11,8 @@ use Rattle.tree_growth.proofs.grow.Statement.{statement}
 use Rattle.tree_growth.proofs.grow.Tie as tie
 
 abbrev Inv-loop : tie.InvT-loop
-Inv-loop values targets weights counts tape marks
-    order₀ scratch₀ flags₀ value₀ feature₀ threshold₀ score₀ truechild₀ falsechild₀ wholes₀ reals₀ rows features most p at₀
+Inv-loop order₀ scratch₀ flags₀ value₀ feature₀ threshold₀ score₀ truechild₀ falsechild₀ wholes₀ reals₀
+    values targets weights counts tape marks rows features most p at₀
     order scratch flags value feature threshold score truechild' falsechild' wholes reals at =
     Growing (groundOf rows features values targets weights counts order₀) p tape marks most (length scratch₀) (length flags₀)
     (columnsOf value₀ feature₀ threshold₀ score₀ truechild₀ falsechild₀) wholes₀ reals₀ at₀
@@ -20,12 +20,12 @@ Inv-loop values targets weights counts tape marks
     (columnsOf value feature threshold score (truechild') (falsechild')) wholes reals at
 
 abbrev μ-loop : tie.MeasureT-loop
-μ-loop values targets weights counts tape marks
-    order₀ scratch₀ flags₀ value₀ feature₀ threshold₀ score₀ truechild₀ falsechild₀ wholes₀ reals₀ rows features most p at₀
+μ-loop order₀ scratch₀ flags₀ value₀ feature₀ threshold₀ score₀ truechild₀ falsechild₀ wholes₀ reals₀
+    values targets weights counts tape marks rows features most p at₀
     order scratch flags value feature threshold score truechild' falsechild' wholes reals at =
     most - at .nodes
 
-abbrev start-of : tie.After-slice-known9 Inv-loop μ-loop → tie.Start Inv-loop μ-loop
+abbrev start-of : tie.After-shared-slice-known6 Inv-loop μ-loop → tie.Start Inv-loop μ-loop
 start-of c = c .before .before .before .before .before .before .before .before .before .before .before .before .before .before .before
 
 -- a turn is called: that a node waits, and how the loop stands
@@ -67,37 +67,37 @@ enum-known-r : tie.Need-enum-known-r Inv-loop μ-loop
 enum-known-r c = search needs
 
 same-length : tie.Need-same-length Inv-loop μ-loop
-same-length c = turned-bad c .turn .kept .1 .1 .1 .1 .1 .1 .0 ∙ loop-bad c .loop .inv .order
+same-length c = turned-bad c .turn .kept .0 ∙ loop-bad c .loop .inv .order
 
 same-length-2 : tie.Need-same-length-2 Inv-loop μ-loop
-same-length-2 c = turned-bad c .turn .kept .1 .1 .1 .1 .1 .1 .1 .0 ∙ loop-bad c .loop .inv .scratch
+same-length-2 c = turned-bad c .turn .kept .1 .0 ∙ loop-bad c .loop .inv .scratch
 
 same-length-3 : tie.Need-same-length-3 Inv-loop μ-loop
-same-length-3 c = turned-bad c .turn .kept .1 .1 .1 .1 .1 .1 .1 .1 .0 ∙ loop-bad c .loop .inv .flags
+same-length-3 c = turned-bad c .turn .kept .1 .1 .0 ∙ loop-bad c .loop .inv .flags
 
 same-length-4 : tie.Need-same-length-4 Inv-loop μ-loop
-same-length-4 c = turned-bad c .turn .kept .1 .1 .1 .1 .1 .1 .1 .1 .1 .0 ∙ loop-bad c .loop .inv .value
+same-length-4 c = turned-bad c .turn .kept .1 .1 .1 .0 ∙ loop-bad c .loop .inv .value
 
 same-length-5 : tie.Need-same-length-5 Inv-loop μ-loop
-same-length-5 c = turned-bad c .turn .kept .1 .1 .1 .1 .1 .1 .1 .1 .1 .1 .0 ∙ loop-bad c .loop .inv .feature
+same-length-5 c = turned-bad c .turn .kept .1 .1 .1 .1 .0 ∙ loop-bad c .loop .inv .feature
 
 same-length-6 : tie.Need-same-length-6 Inv-loop μ-loop
-same-length-6 c = turned-bad c .turn .kept .1 .1 .1 .1 .1 .1 .1 .1 .1 .1 .1 .0 ∙ loop-bad c .loop .inv .threshold
+same-length-6 c = turned-bad c .turn .kept .1 .1 .1 .1 .1 .0 ∙ loop-bad c .loop .inv .threshold
 
 same-length-7 : tie.Need-same-length-7 Inv-loop μ-loop
-same-length-7 c = turned-bad c .turn .kept .1 .1 .1 .1 .1 .1 .1 .1 .1 .1 .1 .1 .0 ∙ loop-bad c .loop .inv .score
+same-length-7 c = turned-bad c .turn .kept .1 .1 .1 .1 .1 .1 .0 ∙ loop-bad c .loop .inv .score
 
 same-length-8 : tie.Need-same-length-8 Inv-loop μ-loop
-same-length-8 c = turned-bad c .turn .kept .1 .1 .1 .1 .1 .1 .1 .1 .1 .1 .1 .1 .1 .0 ∙ loop-bad c .loop .inv .truechild
+same-length-8 c = turned-bad c .turn .kept .1 .1 .1 .1 .1 .1 .1 .0 ∙ loop-bad c .loop .inv .truechild
 
 same-length-9 : tie.Need-same-length-9 Inv-loop μ-loop
-same-length-9 c = turned-bad c .turn .kept .1 .1 .1 .1 .1 .1 .1 .1 .1 .1 .1 .1 .1 .1 .0 ∙ loop-bad c .loop .inv .falsechild
+same-length-9 c = turned-bad c .turn .kept .1 .1 .1 .1 .1 .1 .1 .1 .0 ∙ loop-bad c .loop .inv .falsechild
 
 same-length-10 : tie.Need-same-length-10 Inv-loop μ-loop
-same-length-10 c = turned-bad c .turn .kept .1 .1 .1 .1 .1 .1 .1 .1 .1 .1 .1 .1 .1 .1 .1 .0 ∙ loop-bad c .loop .inv .waiting-wholes
+same-length-10 c = turned-bad c .turn .kept .1 .1 .1 .1 .1 .1 .1 .1 .1 .0 ∙ loop-bad c .loop .inv .waiting-wholes
 
 same-length-11 : tie.Need-same-length-11 Inv-loop μ-loop
-same-length-11 c = turned-bad c .turn .kept .1 .1 .1 .1 .1 .1 .1 .1 .1 .1 .1 .1 .1 .1 .1 .1 .0 ∙ loop-bad c .loop .inv .waiting-reals
+same-length-11 c = turned-bad c .turn .kept .1 .1 .1 .1 .1 .1 .1 .1 .1 .1 .0 ∙ loop-bad c .loop .inv .waiting-reals
 
 returns : tie.Need-returns Inv-loop μ-loop
 returns c =
@@ -117,10 +117,10 @@ loop-again c =
     let k = turned-good c .turn .kept in
     growing-on _ _ _ _ _ _ _ _ _ _ _ _ _ _ _ _ _ _ (loop-good c .loop .inv) (omega (arith, waits-good c .if1 .taken)) _ _ _ _ _
     (turned-good c .turn .ensures) _ (c .before .r2 .given .1)
-    (k .1 .1 .1 .1 .1 .1 .1 .0) (k .1 .1 .1 .1 .1 .1 .1 .1 .0)
-    (k .1 .1 .1 .1 .1 .1 .1 .1 .1 .1 .1 .1 .1 .1 .1 .0) (k .1 .1 .1 .1 .1 .1 .1 .1 .1 .1 .1 .1 .1 .1 .1 .1 .0)
-    (k .1 .1 .1 .1 .1 .1 .1 .1 .1 .0) (k .1 .1 .1 .1 .1 .1 .1 .1 .1 .1 .0) (k .1 .1 .1 .1 .1 .1 .1 .1 .1 .1 .1 .0)
-    (k .1 .1 .1 .1 .1 .1 .1 .1 .1 .1 .1 .1 .0) (k .1 .1 .1 .1 .1 .1 .1 .1 .1 .1 .1 .1 .1 .0) (k .1 .1 .1 .1 .1 .1 .1 .1 .1 .1 .1 .1 .1 .1 .0)
+    (k .1 .0) (k .1 .1 .0)
+    (k .1 .1 .1 .1 .1 .1 .1 .1 .1 .0) (k .1 .1 .1 .1 .1 .1 .1 .1 .1 .1 .0)
+    (k .1 .1 .1 .0) (k .1 .1 .1 .1 .0) (k .1 .1 .1 .1 .1 .0)
+    (k .1 .1 .1 .1 .1 .1 .0) (k .1 .1 .1 .1 .1 .1 .1 .0) (k .1 .1 .1 .1 .1 .1 .1 .1 .0)
 
 same-length-12 : tie.Need-same-length-12 Inv-loop μ-loop
 same-length-12 c = c .before .before .loop .inv .order

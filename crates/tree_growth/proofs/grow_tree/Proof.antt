@@ -62,7 +62,7 @@ grow-requires c κs =
       truechild = omega (arith, p .truechild, k .1 .1 .1 .1 .0);
       falsechild = omega (arith, p .falsechild, k .1 .1 .1 .1 .1 .0);
     })
-    (r .kept .1 .1 .1 .1 .1 .1 .1 .0) (r .kept .1 .1 .1 .1 .1 .1 .1 .1 .0)
+    (r .kept .0) (r .kept .1 .0)
 
 same-length : tie.Need-same-length
 same-length c = search needs
@@ -97,38 +97,38 @@ returns c =
     (searched-bad c .start-tree .ensures) _ _ _ (c .before .r .given .1)
 
 same-length-10 : tie.Need-same-length-10
-same-length-10 c = grown c .grow .kept .1 .1 .1 .1 .1 .1 .0
+same-length-10 c = grown c .grow .kept .0
 
 same-length-11 : tie.Need-same-length-11
-same-length-11 c = grown c .grow .kept .1 .1 .1 .1 .1 .1 .1 .0
+same-length-11 c = grown c .grow .kept .1 .0
 
 same-length-12 : tie.Need-same-length-12
-same-length-12 c = grown c .grow .kept .1 .1 .1 .1 .1 .1 .1 .1 .0
+same-length-12 c = grown c .grow .kept .1 .1 .0
 
 same-length-13 : tie.Need-same-length-13
-same-length-13 c = grown c .grow .kept .1 .1 .1 .1 .1 .1 .1 .1 .1 .0 ∙ root-put (searched-end c) .put-leaf .kept .0
+same-length-13 c = grown c .grow .kept .1 .1 .1 .0 ∙ root-put (searched-end c) .put-leaf .kept .0
 
 same-length-14 : tie.Need-same-length-14
-same-length-14 c = grown c .grow .kept .1 .1 .1 .1 .1 .1 .1 .1 .1 .1 .0 ∙ root-put (searched-end c) .put-leaf .kept .1 .0
+same-length-14 c = grown c .grow .kept .1 .1 .1 .1 .0 ∙ root-put (searched-end c) .put-leaf .kept .1 .0
 
 same-length-15 : tie.Need-same-length-15
-same-length-15 c = grown c .grow .kept .1 .1 .1 .1 .1 .1 .1 .1 .1 .1 .1 .0 ∙ root-put (searched-end c) .put-leaf .kept .1 .1 .0
+same-length-15 c = grown c .grow .kept .1 .1 .1 .1 .1 .0 ∙ root-put (searched-end c) .put-leaf .kept .1 .1 .0
 
 same-length-16 : tie.Need-same-length-16
-same-length-16 c = grown c .grow .kept .1 .1 .1 .1 .1 .1 .1 .1 .1 .1 .1 .1 .0 ∙ root-put (searched-end c) .put-leaf .kept .1 .1 .1 .0
+same-length-16 c = grown c .grow .kept .1 .1 .1 .1 .1 .1 .0 ∙ root-put (searched-end c) .put-leaf .kept .1 .1 .1 .0
 
 same-length-17 : tie.Need-same-length-17
-same-length-17 c = grown c .grow .kept .1 .1 .1 .1 .1 .1 .1 .1 .1 .1 .1 .1 .1 .0 ∙ root-put (searched-end c) .put-leaf .kept .1 .1 .1 .1 .0
+same-length-17 c = grown c .grow .kept .1 .1 .1 .1 .1 .1 .1 .0 ∙ root-put (searched-end c) .put-leaf .kept .1 .1 .1 .1 .0
 
 same-length-18 : tie.Need-same-length-18
-same-length-18 c = grown c .grow .kept .1 .1 .1 .1 .1 .1 .1 .1 .1 .1 .1 .1 .1 .1 .0 ∙ root-put (searched-end c) .put-leaf .kept .1 .1 .1 .1 .1 .0
+same-length-18 c = grown c .grow .kept .1 .1 .1 .1 .1 .1 .1 .1 .0 ∙ root-put (searched-end c) .put-leaf .kept .1 .1 .1 .1 .1 .0
 
 same-length-19 : tie.Need-same-length-19
-same-length-19 c = grown c .grow .kept .1 .1 .1 .1 .1 .1 .1 .1 .1 .1 .1 .1 .1 .1 .1 .0 ∙ searched-end c .start-tree .kept .1 .1 .1 .1 .1 .1 .1 .0
+same-length-19 c = grown c .grow .kept .1 .1 .1 .1 .1 .1 .1 .1 .1 .0 ∙ searched-end c .start-tree .kept .0
 
 same-length-20 : tie.Need-same-length-20
 same-length-20 c =
-    grown c .grow .kept .1 .1 .1 .1 .1 .1 .1 .1 .1 .1 .1 .1 .1 .1 .1 .1 .0 ∙ searched-end c .start-tree .kept .1 .1 .1 .1 .1 .1 .1 .1 .0
+    grown c .grow .kept .1 .1 .1 .1 .1 .1 .1 .1 .1 .1 .0 ∙ searched-end c .start-tree .kept .1 .0
 
 returns-2 : tie.Need-returns-2
 returns-2 c =

@@ -78,7 +78,7 @@ search-sides-requires : tie.Need-search-sides-requires
 search-sides-requires c κs =
     let b = start-to-search c in
     let p = split-to-search c .split-node in
-    code-sides _ _ _ _ (now (b .args .flags)) _ _ _ _ (b .pre) _ (p .kept .1 .1 .1 .1 .1 .0) (top-to-search c .top .ensures) _ (p .ensures .0)
+    code-sides _ _ _ _ (now (b .args .flags)) _ _ _ _ (b .pre) _ (p .kept .0) (top-to-search c .top .ensures) _ (p .ensures .0)
 
 enum-known-r : tie.Need-enum-known-r
 enum-known-r c = search needs
@@ -98,83 +98,83 @@ add-nodes : tie.Need-add-nodes
 add-nodes c = omega (arith, start-good c .pre .node-small)
 
 same-length : tie.Need-same-length
-same-length c = searched-bad c .search-sides .kept .1 .1 .1 .1 .1 .1 .1 .0
+same-length c = searched-bad c .search-sides .kept .0
 
 same-length-2 : tie.Need-same-length-2
-same-length-2 c = searched-bad c .search-sides .kept .1 .1 .1 .1 .1 .1 .1 .1 .0
+same-length-2 c = searched-bad c .search-sides .kept .1 .0
 
 same-length-3 : tie.Need-same-length-3
-same-length-3 c = split-bad c .split-node .kept .1 .1 .1 .1 .1 .0
+same-length-3 c = split-bad c .split-node .kept .0
 
 same-length-4 : tie.Need-same-length-4
-same-length-4 c = split-bad c .split-node .kept .1 .1 .1 .1 .1 .1 .0
+same-length-4 c = split-bad c .split-node .kept .1 .0
 
 same-length-5 : tie.Need-same-length-5
-same-length-5 c = split-bad c .split-node .kept .1 .1 .1 .1 .1 .1 .1 .0
+same-length-5 c = split-bad c .split-node .kept .1 .1 .0
 
 same-length-6 : tie.Need-same-length-6
-same-length-6 c = split-bad c .split-node .kept .1 .1 .1 .1 .1 .1 .1 .1 .0
+same-length-6 c = split-bad c .split-node .kept .1 .1 .1 .0
 
 same-length-7 : tie.Need-same-length-7
-same-length-7 c = split-bad c .split-node .kept .1 .1 .1 .1 .1 .1 .1 .1 .1 .0
+same-length-7 c = split-bad c .split-node .kept .1 .1 .1 .1 .0
 
 same-length-8 : tie.Need-same-length-8
-same-length-8 c = split-bad c .split-node .kept .1 .1 .1 .1 .1 .1 .1 .1 .1 .1 .0
+same-length-8 c = split-bad c .split-node .kept .1 .1 .1 .1 .1 .0
 
 same-length-9 : tie.Need-same-length-9
-same-length-9 c = split-bad c .split-node .kept .1 .1 .1 .1 .1 .1 .1 .1 .1 .1 .1 .0
+same-length-9 c = split-bad c .split-node .kept .1 .1 .1 .1 .1 .1 .0
 
 same-length-10 : tie.Need-same-length-10
-same-length-10 c = searched-bad c .search-sides .kept .1 .1 .1 .1 .1 .1 .1 .1 .1 .0
+same-length-10 c = searched-bad c .search-sides .kept .1 .1 .0
 
 same-length-11 : tie.Need-same-length-11
-same-length-11 c = searched-bad c .search-sides .kept .1 .1 .1 .1 .1 .1 .1 .1 .1 .1 .0
+same-length-11 c = searched-bad c .search-sides .kept .1 .1 .1 .0
 
 returns : tie.Need-returns
 returns c =
     let b = start-bad c in
     let p = split-bad c .split-node in
-    code-stop _ _ _ _ (now (b .args .flags)) _ _ _ _ (b .pre) _ (p .kept .1 .1 .1 .1 .1 .0) (top-bad c .top .ensures) _ (p .ensures .0) _
+    code-stop _ _ _ _ (now (b .args .flags)) _ _ _ _ (b .pre) _ (p .kept .0) (top-bad c .top .ensures) _ (p .ensures .0) _
     (p .ensures .1) _ (now (b .args .thresholds)) _ _ _ (searched-bad c .search-sides .ensures) _ (c .before .r .given .1)
 
 same-length-12 : tie.Need-same-length-12
-same-length-12 c = searched-good c .search-sides .kept .1 .1 .1 .1 .1 .1 .1 .0
+same-length-12 c = searched-good c .search-sides .kept .0
 
 same-length-13 : tie.Need-same-length-13
-same-length-13 c = searched-good c .search-sides .kept .1 .1 .1 .1 .1 .1 .1 .1 .0
+same-length-13 c = searched-good c .search-sides .kept .1 .0
 
 same-length-14 : tie.Need-same-length-14
-same-length-14 c = split-good c .split-node .kept .1 .1 .1 .1 .1 .0
+same-length-14 c = split-good c .split-node .kept .0
 
 same-length-15 : tie.Need-same-length-15
-same-length-15 c = split-good c .split-node .kept .1 .1 .1 .1 .1 .1 .0
+same-length-15 c = split-good c .split-node .kept .1 .0
 
 same-length-16 : tie.Need-same-length-16
-same-length-16 c = split-good c .split-node .kept .1 .1 .1 .1 .1 .1 .1 .0
+same-length-16 c = split-good c .split-node .kept .1 .1 .0
 
 same-length-17 : tie.Need-same-length-17
-same-length-17 c = split-good c .split-node .kept .1 .1 .1 .1 .1 .1 .1 .1 .0
+same-length-17 c = split-good c .split-node .kept .1 .1 .1 .0
 
 same-length-18 : tie.Need-same-length-18
-same-length-18 c = split-good c .split-node .kept .1 .1 .1 .1 .1 .1 .1 .1 .1 .0
+same-length-18 c = split-good c .split-node .kept .1 .1 .1 .1 .0
 
 same-length-19 : tie.Need-same-length-19
-same-length-19 c = split-good c .split-node .kept .1 .1 .1 .1 .1 .1 .1 .1 .1 .1 .0
+same-length-19 c = split-good c .split-node .kept .1 .1 .1 .1 .1 .0
 
 same-length-20 : tie.Need-same-length-20
-same-length-20 c = split-good c .split-node .kept .1 .1 .1 .1 .1 .1 .1 .1 .1 .1 .1 .0
+same-length-20 c = split-good c .split-node .kept .1 .1 .1 .1 .1 .1 .0
 
 same-length-21 : tie.Need-same-length-21
-same-length-21 c = searched-good c .search-sides .kept .1 .1 .1 .1 .1 .1 .1 .1 .1 .0
+same-length-21 c = searched-good c .search-sides .kept .1 .1 .0
 
 same-length-22 : tie.Need-same-length-22
-same-length-22 c = searched-good c .search-sides .kept .1 .1 .1 .1 .1 .1 .1 .1 .1 .1 .0
+same-length-22 c = searched-good c .search-sides .kept .1 .1 .1 .0
 
 returns-2 : tie.Need-returns-2
 returns-2 c =
     let b = start-good c in
     let p = split-good c .split-node in
-    code-goes _ _ _ _ (now (b .args .flags)) _ _ _ _ (b .pre) _ (p .kept .1 .1 .1 .1 .1 .0) (top-good c .top .ensures) _ (p .ensures .0) _ (p .ensures .1) _
+    code-goes _ _ _ _ (now (b .args .flags)) _ _ _ _ (b .pre) _ (p .kept .0) (top-good c .top .ensures) _ (p .ensures .0) _ (p .ensures .1) _
     (now (b .args .thresholds)) _ _ _ (searched-good c .search-sides .ensures) _ (c .before .before .before .before .r2 .given .1) _
     (c .before .greater .ensures)
 
