@@ -84,7 +84,9 @@ add-above f (fin false m e) (fin false n d) t g c = up-from f m e (n * up d * do
 add-above f (fin true m e) (fin false n d) t g c =
     go (ltb (m * up e * down d) (n * up d * down e)) (ltb (n * up d * down e) (m * up e * down d))
   where
-    go : (x y : Bool) → T (le (fin true m e) (cond x (round f false (n * up d * down e - m * up e * down d) (down e * down d)) (round f (true && y) (m * up e * down d - n * up d * down e) (down e * down d))))
+    go : (x y : Bool)
+        → T (le (fin true m e) (cond x (round f false (n * up d * down e - m * up e * down d) (down e * down d))
+        (round f (true && y) (m * up e * down d - n * up d * down e) (down e * down d))))
     go true y = neg-below m e (round f false (n * up d * down e - m * up e * down d) (down e * down d)) (round-clear f (n * up d * down e - m * up e * down d) (down e * down d))
     go false true = down-from f m e (m * up e * down d - n * up d * down e) (down d) (down-pos d) (less-le (m * up e * down d) (n * up d * down e)) t
     go false false = neg-below m e (round f false (m * up e * down d - n * up d * down e) (down e * down d)) (round-clear f (m * up e * down d - n * up d * down e) (down e * down d))
@@ -109,7 +111,9 @@ sub-clear f (fin false m e) (fin false n d) g k h = go (ltb (m * up e * down d) 
     go false p q = round-clear f (m * up e * down d - n * up d * down e) (down e * down d)
 sub-clear f (fin true m e) (fin true n d) g k h = go (ltb (m * up e * down d) (n * up d * down e)) h
   where
-    go : (x : Bool) → T x → T (clear (cond x (round f false (n * up d * down e - m * up e * down d) (down e * down d)) (round f (true && ltb (n * up d * down e) (m * up e * down d)) (m * up e * down d - n * up d * down e) (down e * down d))))
+    go : (x : Bool) → T x
+        → T (clear (cond x (round f false (n * up d * down e - m * up e * down d) (down e * down d))
+        (round f (true && ltb (n * up d * down e) (m * up e * down d)) (m * up e * down d - n * up d * down e) (down e * down d))))
     go true t = round-clear f (n * up d * down e - m * up e * down d) (down e * down d)
     go false t = absurd t
 

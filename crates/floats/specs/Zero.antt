@@ -100,7 +100,8 @@ mul-zero64 (fin s m e) nan p h = absurd h
 mul-zero64 (fin s m e) (inf t) p h = absurd h
 mul-zero64 (fin s m e) (fin t (suc n) d) p h = absurd h
 mul-zero64 (fin s m e) (fin t zero d) p h =
-    subst (λ (z : Float). T (isZero z)) (sym (round-zero (unlike s t) (m * up e * (0 * up d)) (down e * down d) (mul-pos (down-pos e) (down-pos d)) (ap (λ (z : ℕ). m * up e * z) (zero-mul (up d)) ∙ mul-zero (m * up e)))) tt
+    subst (λ (z : Float). T (isZero z)) (sym (round-zero (unlike s t) (m * up e * (0 * up d)) (down e * down d) (mul-pos (down-pos e) (down-pos d))
+    (ap (λ (z : ℕ). m * up e * z) (zero-mul (up d)) ∙ mul-zero (m * up e)))) tt
 
 pub zero-mul64 : (z x : Float) → T (isZero z) → T (finite x) → T (isZero (mul binary64 z x))
 unfolding mul
@@ -110,7 +111,8 @@ zero-mul64 (fin s (suc m) e) x h p = absurd h
 zero-mul64 (fin s zero e) nan h p = absurd p
 zero-mul64 (fin s zero e) (inf t) h p = absurd p
 zero-mul64 (fin s zero e) (fin t n d) h p =
-    subst (λ (z : Float). T (isZero z)) (sym (round-zero (unlike s t) (0 * up e * (n * up d)) (down e * down d) (mul-pos (down-pos e) (down-pos d)) (ap (λ (z : ℕ). z * (n * up d)) (zero-mul (up e)) ∙ zero-mul (n * up d)))) tt
+    subst (λ (z : Float). T (isZero z)) (sym (round-zero (unlike s t) (0 * up e * (n * up d)) (down e * down d) (mul-pos (down-pos e) (down-pos d))
+    (ap (λ (z : ℕ). z * (n * up d)) (zero-mul (up e)) ∙ zero-mul (n * up d)))) tt
 
 -- 0 over what is above it
 pub zero-div64 : (x : Float) → T (above x) → div binary64 (fin false 0 (pos 0)) x ≡ fin false 0 (pos 0)
@@ -239,7 +241,8 @@ add-not-minus f (fin true (suc m) e) (fin false n d) p q h =
     go (ltb (suc m * up e * down d) (n * up d * down e)) (ltb (n * up d * down e) (suc m * up e * down d)) (ltb→lt (n * up d * down e) (suc m * up e * down d))
   where
     go : (x y : Bool) → (T y → n * up d * down e < suc m * up e * down d)
-        → T (not (isMinusZero (cond x (round f false (n * up d * down e - suc m * up e * down d) (down e * down d)) (round f (true && y) (suc m * up e * down d - n * up d * down e) (down e * down d)))))
+        → T (not (isMinusZero (cond x (round f false (n * up d * down e - suc m * up e * down d) (down e * down d))
+        (round f (true && y) (suc m * up e * down d - n * up d * down e) (down e * down d)))))
     go true y l = pos-round f (n * up d * down e - suc m * up e * down d) (down e * down d)
     go false false l = pos-round f (suc m * up e * down d - n * up d * down e) (down e * down d)
     go false true l =
@@ -262,7 +265,9 @@ sum-self s a c C = both s (ltb a a) (ltb→lt a a)
     zero-of : round binary64 false (a - a) c ≡ fin false 0 (pos 0)
     zero-of = round-zero false (a - a) c C (gone a)
 
-    both : (s : Bool) (x : Bool) → (T x → a < a) → cond (Bool·beq s (not s)) (round binary64 s (a + a) c) (cond x (round binary64 (not s) (a - a) c) (round binary64 (s && x) (a - a) c)) ≡ fin false 0 (pos 0)
+    both : (s : Bool) (x : Bool) → (T x → a < a)
+        → cond (Bool·beq s (not s)) (round binary64 s (a + a) c) (cond x (round binary64 (not s) (a - a) c) (round binary64 (s && x) (a - a) c)) ≡ fin false 0
+        (pos 0)
     both s true h = absurd (no-less a (h tt))
     both true false h = zero-of
     both false false h = zero-of

@@ -18,7 +18,7 @@ use Rattle.lemmas.specs.Lists.{length-from, getD-from}
 use Rattle.lemmas.specs.Passed.{CutAt}
 use Rattle.lemmas.specs.Written.{starts-length}
 use Rattle.lemmas.specs.Outs.{Then, then-of}
-use Rattle.node_growth.specs.Rooms.{LongAll}
+use Rattle.node_entries.specs.Entries.{LongAll}
 use Rattle.tree_build.specs.declared.Planted.{Planted}
 use Rattle.tree_build.specs.declared.Planted.the-variants.{BadDraw, Grown}
 use Rattle.tree_build.specs.Plant.{NodesLong, PlantAsks, PlantDone, long-all}

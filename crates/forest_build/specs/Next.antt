@@ -14,7 +14,7 @@ use Rattle.rules.specs.Checks.{roomFor}
 use Rattle.rules.specs.Fit.{element, listing}
 use Rattle.rules.specs.Forest.{part}
 use Rattle.lemmas.specs.Passed.{CutAt}
-use Rattle.node_growth.specs.Rooms.{LongAll}
+use Rattle.node_entries.specs.Entries.{LongAll}
 use Rattle.tree_build.specs.declared.Planted.{Planted}
 use Rattle.tree_build.specs.Plant.{frameIn, PlantAsks, PlantDone}
 use Rattle.forest_build.specs.Standing.{dropAll, takeAll}

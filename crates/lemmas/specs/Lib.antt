@@ -1,3 +1,6 @@
+-- Laws of the definitions, for the demands and for the proofs of the code. Nothing is assumed.
+
+-- lists in the words of the rules; a list that has each number below n once; answers that a bad draw may cut short
 pub mod Lists
 pub mod Once
 pub mod Outs
@@ -9,20 +12,36 @@ pub mod Marks
 pub mod Tests
 -- where a cell lies among the values, and a listing among the listings
 pub mod Cells
+-- growth over any way to choose: the last to wait is split first
 pub mod WaitingOrder
+-- a change of what is left to choose by goes through the whole growth
 pub mod Lifted
+-- a limit that a growth stays below does not show
 pub mod Unmet
+-- values that a fit accepts, and the threshold between two of them
 pub mod Values
+-- a cut that is found leaves rows on both sides, and both are good nodes again
 pub mod Cuts
+-- how many nodes a growth makes at most
 pub mod Room
+-- what a growth draws from the tapes
 pub mod Spent
+-- one growth follows another, over any two sources; and it looks at no more of its tapes than it uses
 pub mod Follows
 pub mod Tapes
+-- what each split leaves
 pub mod Splits
+-- the root of a fit that passes its checks is good
 pub mod Root
+-- what a fit knows once its checks have passed
 pub mod Passed
+-- good tables: a walk ends at a leaf, and what a fit grows is one
 pub mod Tables
+-- what is written can be read back
 pub mod Written
+-- what a fit that answers has passed, grown and written
 pub mod Answered
+-- the number of features tried by default
 pub mod Tried
+-- the work columns as code lays them
 pub mod Work

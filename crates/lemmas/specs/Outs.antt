@@ -9,6 +9,11 @@ unfolding bind
 bind-assoc (bad n) f g = refl
 bind-assoc (ok a) f g = refl
 
+pub bind-through {ℓ κ μ} : {A : Type ℓ} {B : Type κ} {C : Type μ} (m : Out A) (f : A → B) (g : B → Out C) → bind (bind m (λ a. ok (f a))) g ≡ bind m (λ a. g (f a))
+unfolding bind
+bind-through (bad n) f g = refl
+bind-through (ok a) f g = refl
+
 abbrev pub Ends {ℓ} : {A : Type ℓ} → Out A → (A → Type 0) → (ℕ → Type 0) → Type 0
 Ends (bad n) Q B = B n
 Ends (ok a) Q B = Q a
@@ -30,6 +35,9 @@ ends-then (ok a) f Q R B h k = k a h
 
 pub then-then {ℓ κ} : {A : Type ℓ} {B : Type κ} (m : Out A) (f : A → Out B) (Q : A → Type 0) (R : B → Type 0) → Then m Q → ((a : A) → Q a → Then (f a) R) → Then (bind m f) R
 then-then m f Q R h k = ends-then m f Q R (λ n. Unit {0}) h k
+
+pub then-bind {ℓ κ} : {A : Type ℓ} {B : Type κ} (m : Out A) (f : A → Out B) (R : B → Type 0) → Then m (λ a. Then (f a) R) → Then (bind m f) R
+then-bind m f R h = then-then m f (λ a. Then (f a) R) R h (λ a k. k)
 
 -- whatever the answer is
 pub then-any {ℓ κ} : {A : Type ℓ} {B : Type κ} (m : Out A) (f : A → Out B) (R : B → Type 0) → ((a : A) → Then (f a) R) → Then (bind m f) R

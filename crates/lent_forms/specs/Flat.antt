@@ -13,9 +13,10 @@ use lib.Ieee.{Float}
 use Rattle.rules.specs.Words.{nought}
 use Rattle.rules.specs.Lent.{WaitingRoom, waitingRoom}
 use Rattle.lemmas.specs.Lists.{is-true}
-use Rattle.node_growth.specs.declared.WaitingNode.{WaitingNode}
-use Rattle.node_growth.specs.Rooms.{Ground, wholesOf, realsOf, waitOf, waitAt, waitingOf, stackOf}
-use Rattle.node_growth.specs.Steps.{stack-new}
+use Rattle.node_entries.specs.declared.WaitingNode.{WaitingNode}
+use Rattle.node_entries.specs.Entries.{wholesOf, realsOf, waitingIn, waitingAt}
+use Rattle.node_growth.specs.Rooms.{Ground, waitingOf, waitingList}
+use Rattle.node_growth.specs.Steps.{list-new}
 use Rattle.lent_forms.specs.declared.Waiting.{Waiting}
 use Rattle.lent_forms.specs.declared.Popped.the-variants.{Nothing, Top}
 use Rattle.lent_forms.specs.WaitingList.{noEntry, pushed, popped, listed}
@@ -67,7 +68,7 @@ pushedFlat s n w = record { wholes = set (s .wholes) n (wholesOf w); reals = set
 abbrev pub unflat : List (List ℕ) → List (List Float) → List Waiting
 unflat [] rs = []
 unflat (w ∷ ws) [] = []
-unflat (w ∷ ws) (r ∷ rs) = together (waitOf w r) ∷ unflat ws rs
+unflat (w ∷ ws) (r ∷ rs) = together (waitingIn w r) ∷ unflat ws rs
 
 -- ---- nothing is lost
 
@@ -104,13 +105,13 @@ room-agrees l n w = ap (ltb n) (sym (places-agree l))
 
 -- ---- a pop
 
-read-agrees : (l : List Waiting) (m : ℕ) → waitAt (wholesIn l) (realsIn l) m ≡ apart (getD l m noEntry)
+read-agrees : (l : List Waiting) (m : ℕ) → waitingAt (wholesIn l) (realsIn l) m ≡ apart (getD l m noEntry)
 read-agrees [] m = refl
 read-agrees (w ∷ l) zero = refl
 read-agrees (w ∷ l) (suc m) = read-agrees l m
 
 -- where one of n nodes waits, the one that growth reads at n - 1
-pub pop-agrees : (l : List Waiting) (n : ℕ) → 0 < n → n ≤ length l → popped l n ≡ Top (together (waitAt (wholesIn l) (realsIn l) (n - 1)))
+pub pop-agrees : (l : List Waiting) (n : ℕ) → 0 < n → n ≤ length l → popped l n ≡ Top (together (waitingAt (wholesIn l) (realsIn l) (n - 1)))
 pop-agrees l n g h =
     ap (λ c. cond (c && leb n (length l)) (Top (getD l (n - 1) noEntry)) Nothing) (is-true (ltb 0 n) (lt→ltb 0 n g))
     ∙ ap (λ c. cond c (Top (getD l (n - 1) noEntry)) Nothing) (is-true (leb n (length l)) (le→leb n (length l) h))
@@ -120,11 +121,11 @@ pop-agrees l n g h =
 
 -- a node that joins the list joins the definition's waiting nodes
 pub joins-agree : (g : Ground) (l : List Waiting) (n : ℕ) (w : Waiting) → n < length l
-    → stackOf g (wholesIn (pushed l n w .rooms)) (realsIn (pushed l n w .rooms)) (n + 1) ≡ waitingOf g (apart w) ∷ stackOf g (wholesIn l) (realsIn l) n
+    → waitingList g (wholesIn (pushed l n w .rooms)) (realsIn (pushed l n w .rooms)) (n + 1) ≡ waitingOf g (apart w) ∷ waitingList g (wholesIn l) (realsIn l) n
 joins-agree g l n w h =
-    ap (λ (s : WaitingRoom). stackOf g (s .wholes) (s .reals) (n + 1)) (push-agrees l n w)
-    ∙ stack-new g (wholesIn l) (realsIn l) n (apart w) (subst (λ k. n < k) (sym (length-map l (λ v. wholesOf (apart v)))) h) (subst (λ k. n < k) (sym (length-map l (λ v. realsOf (apart v)))) h)
+    ap (λ (s : WaitingRoom). waitingList g (s .wholes) (s .reals) (n + 1)) (push-agrees l n w)
+    ∙ list-new g (wholesIn l) (realsIn l) n (apart w) (subst (λ k. n < k) (sym (length-map l (λ v. wholesOf (apart v)))) h) (subst (λ k. n < k) (sym (length-map l (λ v. realsOf (apart v)))) h)
 
 -- the one that is taken off the list is their first
-pub taken-agree : (g : Ground) (l : List Waiting) (m : ℕ) → stackOf g (wholesIn l) (realsIn l) (suc m) ≡ waitingOf g (apart (getD l m noEntry)) ∷ stackOf g (wholesIn l) (realsIn l) m
-taken-agree g l m = ap (λ e. waitingOf g e ∷ stackOf g (wholesIn l) (realsIn l) m) (read-agrees l m)
+pub taken-agree : (g : Ground) (l : List Waiting) (m : ℕ) → waitingList g (wholesIn l) (realsIn l) (suc m) ≡ waitingOf g (apart (getD l m noEntry)) ∷ waitingList g (wholesIn l) (realsIn l) m
+taken-agree g l m = ap (λ e. waitingOf g e ∷ waitingList g (wholesIn l) (realsIn l) m) (read-agrees l m)

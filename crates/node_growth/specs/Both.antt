@@ -1,53 +1,22 @@
--- The node columns and the two children by the code's steps. Assumes nothing.
+-- The two children by the code's steps. Assumes nothing.
 use Prim.Native.Nat.{ℕ, suc, _+_, _≤_}
-use native.Mathlib.Nat.{le-trans, le-refl}
+use native.Mathlib.Nat.{le-refl}
 use native.Mathlib.Omega.{arith}
 use native.Mathlib.Numerals.{add-one}
 use mathlib.Core.Path.{_≡_, refl, sym, ap, _∙_, subst}
 use mathlib.Core.List.{List, _++_, append-assoc}
 use lib.ListN.{length}
 use lib.Ieee.{Float}
-use Rattle.rules.specs.declared.Totals.{Totals}
 use Rattle.rules.specs.declared.Params.{Params}
-use Rattle.rules.specs.Lent.{Columns}
 use Rattle.rules.specs.Search.{search}
 use Rattle.rules.specs.Growth.{Waiting, searchable, searchIf}
 use Rattle.rules.specs.Draws.{Out, bad, ok, bind, Tapes, tape}
-use Rattle.rules.specs.Words.{nought}
-use Rattle.rules.specs.Totals.{valueOf}
 use Rattle.criterion.specs.declared.Side.{Side}
 use Rattle.search.specs.Flat.{drawsAt}
-use Rattle.node_growth.specs.declared.WaitingNode.{WaitingNode}
 use Rattle.node_growth.specs.declared.Stand.{Stand}
 use Rattle.node_growth.specs.declared.Step.{Step}
 use Rattle.node_growth.specs.declared.Step.the-variants.{Refused, Goes}
-use Rattle.node_growth.specs.Rooms.{Ground, nodeTask, stackOf, meantStep, LaidStep, MostStep, FairStep, ChildAsks, ChildDone, LongAll, putRow, leafRow, wroteSplit, BothAsks, searchTwo, BothDone}
-
-pub leaf-is : (i : ℕ) (t : Totals) (c : Columns) {v : Float} {c′ : Columns} → v ≡ valueOf t → c′ ≡ putRow i (record { value = v; feature = 0; threshold = nought; score = nought; truechild = 0; falsechild = 0 }) c → c′ ≡ putRow i (leafRow t) c
-leaf-is i t c {v} ev e = e ∙ ap (λ z. putRow i (record { value = z; feature = 0; threshold = nought; score = nought; truechild = 0; falsechild = 0 }) c) ev
-
-pub long-less : (m n : ℕ) (c : Columns) → m ≤ n → LongAll n c → LongAll m c
-long-less m n c h l =
-    record {
-      value = le-trans h (l .value);
-      feature = le-trans h (l .feature);
-      threshold = le-trans h (l .threshold);
-      score = le-trans h (l .score);
-      truechild = le-trans h (l .truechild);
-      falsechild = le-trans h (l .falsechild);
-    }
-
-pub wrote : (w : WaitingNode) (t f : Totals) (q : Float) (n : ℕ) (c : Columns) {k i : ℕ} {v : Float} {c₁ c₂ c₃ : Columns} → v ≡ valueOf (record { sum = w .sum; mass = w .mass }) → k ≡ n → i ≡ w .node
-    → c₁ ≡ putRow i (record { value = v; feature = w .feature; threshold = w .cut; score = q; truechild = n; falsechild = n + 1 }) c → c₂ ≡ putRow k (leafRow t) c₁ → c₃ ≡ putRow (k + 1) (leafRow f) c₂
-    → c₃ ≡ wroteSplit w t f q n c
-unfolding wroteSplit
-wrote w t f q n c {k} {i} {v} {c₁} {c₂} {c₃} ev ek ei e₁ e₂ e₃ =
-    e₃ ∙ ap (putRow (k + 1) (leafRow f)) (e₂ ∙ ap (putRow k (leafRow t)) (e₁
-    ∙ ap (λ z. putRow z (record { value = v; feature = w .feature; threshold = w .cut; score = q; truechild = n; falsechild = n + 1 }) c) ei
-    ∙ ap (λ z. putRow (w .node) (record { value = z; feature = w .feature; threshold = w .cut; score = q; truechild = n; falsechild = n + 1 }) c) ev))
-    ∙ ap (λ z. putRow (z + 1) (leafRow f) (putRow z (leafRow t) (putRow (w .node) (record { value = valueOf (record { sum = w .sum; mass = w .mass }); feature = w .feature; threshold = w .cut; score = q; truechild = n; falsechild = n + 1 }) c))) ek
-
--- ---- two searches
+use Rattle.node_growth.specs.Rooms.{Ground, nodeRows, waitingList, meantStep, LaidStep, MostStep, FairStep, ChildAsks, ChildDone, BothAsks, searchTwo, BothDone}
 
 abbrev pub onto : {D : Type 0} → List Waiting → List Waiting × D → Out (List Waiting × D)
 onto ws o = ok (o .0 ++ ws, o .1)
@@ -65,7 +34,8 @@ unfolding bind
 two (bad n) k ws = refl
 two (ok t) k ws = two-end (k (t .1)) (t .0) ws
 
-pub second-asks : (g : Ground) (P : Params) (W : List ℕ) (M : List Float) (wholes : List (List ℕ)) (reals : List (List Float)) (wholes′ : List (List ℕ)) (reals′ : List (List Float)) (node level a m e : ℕ) (q r : Side) (s : Stand)
+pub second-asks : (g : Ground) (P : Params) (W : List ℕ) (M : List Float) (wholes : List (List ℕ)) (reals : List (List Float)) (wholes′ : List (List ℕ))
+    (reals′ : List (List Float)) (node level a m e : ℕ) (q r : Side) (s : Stand)
     (t : Stand) {step : Step} → step ≡ Goes t → BothAsks g P W node a m e q r s (length wholes) (length reals) → ChildDone g P W M wholes reals wholes′ reals′ node level a m q s step
     → length wholes′ ≡ length wholes → length reals′ ≡ length reals → ChildAsks g P W m e r t (length wholes′) (length reals′)
 second-asks g P W M wholes reals wholes′ reals′ node level a m e q r s t {step} es b d lw lr =
@@ -81,15 +51,16 @@ second-asks g P W M wholes reals wholes′ reals′ node level a m e q r s t {st
 
 module _ (g : Ground) (P : Params) (W : List ℕ) (M : List Float) (wholes : List (List ℕ)) (reals : List (List Float)) (node level a m e : ℕ) (q r : Side) (s : Stand) where
   abbrev then : Tapes → Out (List Waiting × Tapes)
-  then d = searchIf P (search (tape (P .features)) P) (searchable P level (nodeTask g m e r)) (suc node) level (nodeTask g m e r) d
+  then d = searchIf P (search (tape (P .features)) P) (searchable P level (nodeRows g m e r)) (suc node) level (nodeRows g m e r) d
 
   abbrev on : List Waiting × Tapes → Out (List Waiting × Tapes)
   on o = bind (then (o .1)) (λ f. ok (f .0 ++ o .0, f .1))
 
   first : {wholes₁ : List (List ℕ)} {reals₁ : List (List Float)} {step : Step} → ChildDone g P W M wholes reals wholes₁ reals₁ node level a m q s step
-      → bind (searchTwo P node level (nodeTask g a m q) (nodeTask g m e r) (drawsAt W M (s .drawn))) (λ o. ok (o .0 ++ stackOf g wholes reals (s .waiting), o .1)) ≡ bind (meantStep g W M wholes₁ reals₁ step) on
+      → bind (searchTwo P node level (nodeRows g a m q) (nodeRows g m e r) (drawsAt W M (s .drawn)))
+      (λ o. ok (o .0 ++ waitingList g wholes reals (s .waiting), o .1)) ≡ bind (meantStep g W M wholes₁ reals₁ step) on
   first d =
-      two (searchIf P (search (tape (P .features)) P) (searchable P level (nodeTask g a m q)) node level (nodeTask g a m q) (drawsAt W M (s .drawn))) then (stackOf g wholes reals (s .waiting))
+      two (searchIf P (search (tape (P .features)) P) (searchable P level (nodeRows g a m q)) node level (nodeRows g a m q) (drawsAt W M (s .drawn))) then (waitingList g wholes reals (s .waiting))
       ∙ ap (λ z. bind z on) (d .same)
 
   pub both-stop : {wholes₁ : List (List ℕ)} {reals₁ : List (List Float)} {step : Step} {k : ℕ} → step ≡ Refused k → ChildDone g P W M wholes reals wholes₁ reals₁ node level a m q s step
@@ -98,13 +69,15 @@ module _ (g : Ground) (P : Params) (W : List ℕ) (M : List Float) (wholes : Lis
   both-stop {wholes₁} {reals₁} {step} {k} es d =
       record { same = first d ∙ ap (λ z. bind (meantStep g W M wholes₁ reals₁ z) on) es; laid = λ low l x y z u. tt; fair = tt }
 
-  pub both-goes : {wholes₁ wholes₂ : List (List ℕ)} {reals₁ reals₂ : List (List Float)} {step step₂ : Step} (t : Stand) → step ≡ Goes t → ChildDone g P W M wholes reals wholes₁ reals₁ node level a m q s step
+  pub both-goes : {wholes₁ wholes₂ : List (List ℕ)} {reals₁ reals₂ : List (List Float)} {step step₂ : Step} (t : Stand) → step ≡ Goes t
+      → ChildDone g P W M wholes reals wholes₁ reals₁ node level a m q s step
       → ChildDone g P W M wholes₁ reals₁ wholes₂ reals₂ (node + 1) level m e r t step₂ → BothDone g P W M wholes reals wholes₂ reals₂ node level a m e q r s step₂
   unfolding bind
   both-goes {wholes₁} {wholes₂} {reals₁} {reals₂} {step} {step₂} t es d d₂ =
       record {
         same = first d ∙ ap (λ z. bind (meantStep g W M wholes₁ reals₁ z) on) es
-            ∙ ap (λ n. bind (searchIf P (search (tape (P .features)) P) (searchable P level (nodeTask g m e r)) n level (nodeTask g m e r) (drawsAt W M (t .drawn))) (λ f. ok (f .0 ++ stackOf g wholes₁ reals₁ (t .waiting), f .1))) (sym (add-one node))
+            ∙ ap (λ n. bind (searchIf P (search (tape (P .features)) P) (searchable P level (nodeRows g m e r)) n level (nodeRows g m e r) (drawsAt W M
+            (t .drawn))) (λ f. ok (f .0 ++ waitingList g wholes₁ reals₁ (t .waiting), f .1))) (sym (add-one node))
             ∙ d₂ .same;
         laid = λ low l x y z u.
             let b : t .waiting ≤ s .waiting + 1 = subst (MostStep (s .waiting + 1)) es (d .most) in

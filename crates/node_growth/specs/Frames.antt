@@ -4,8 +4,8 @@ use native.Mathlib.Nat.{le-trans, zero-add}
 use native.Mathlib.Omega.{arith}
 use mathlib.Core.Path.{_≡_, refl, sym, ap, _∙_, subst}
 use mathlib.Core.Bool.{Bool, true, false, not}
-use mathlib.Core.List.{List, [], _∷_, _++_, map, map-map, append-assoc}
-use lib.ListN.{length, getD, set, length-set, length-append, length-take}
+use mathlib.Core.List.{List, [], _∷_, map, map-map}
+use lib.ListN.{length, getD, length-take}
 use lib.Dec.{T}
 use lib.Ieee.{Float, le}
 use Rattle.floats.specs.Order.{stays-out}
@@ -13,7 +13,7 @@ use Rattle.rules.specs.declared.Params.{Params}
 use Rattle.rules.specs.declared.Cut.{Cut}
 use Rattle.rules.specs.Fit.{elementIn}
 use Rattle.rules.specs.Search.{Element, Column, at, goesTrue, tally, totalsOf, sideOf}
-use Rattle.rules.specs.Growth.{TreeNode, child}
+use Rattle.rules.specs.Growth.{child}
 use Rattle.rules.specs.Words.{keep, putIf, total, from}
 use Rattle.rules.specs.Totals.{empty}
 use Rattle.lemmas.specs.Lists.{is-false, Every, every-at, every-imp, map-same, keep-map, getD-from, from-below}
@@ -25,12 +25,12 @@ use Rattle.work_columns.specs.Stretches.{part-every}
 use Rattle.criterion.specs.declared.Side.{Side}
 use Rattle.criterion.specs.Sides.{sideOn}
 use Rattle.search.specs.Flat.{Tables, Shaped, elementOf, NodeAsks}
-use Rattle.node_growth.specs.declared.WaitingNode.{WaitingNode}
-use Rattle.node_growth.specs.Rooms.{Ground, waitAt, cutOf, nodeTask, waitingOf, stackOf, Laid, BelowTo}
-use Rattle.node_growth.specs.Nodes.{columnOf, store-node, add-node}
+use Rattle.node_entries.specs.declared.WaitingNode.{WaitingNode}
+use Rattle.node_entries.specs.Entries.{waitingAt}
+use Rattle.node_growth.specs.Rooms.{Ground, cutOf, nodeRows, waitingOf, waitingList, Laid, BelowTo}
 
-abbrev pub withCols : Ground → List ℕ → Ground
-withCols g order = record { rows = g .rows; features = g .features; tables = g .tables; order = order }
+abbrev pub withOrder : Ground → List ℕ → Ground
+withOrder g order = record { rows = g .rows; features = g .features; tables = g .tables; order = order }
 
 -- ---- columns, one by one
 
@@ -57,12 +57,12 @@ column-at g a e k h = sym (getD-from mine 0 (g .features) k [] h ∙ ap mine (ze
     mine j = map (elementOf (g .features) (g .tables)) (part (g .rows) j a e (g .order))
 
 -- a side of a split is the definition's child
-pub task-of : (g : Ground) (e : WaitingNode) (order′ : List ℕ) (b : Bool → Bool) (a′ e′ : ℕ) (h : Side) → e .feature < g .features
+pub child-rows : (g : Ground) (e : WaitingNode) (order′ : List ℕ) (b : Bool → Bool) (a′ e′ : ℕ) (h : Side) → e .feature < g .features
     → ((k : ℕ) → k < g .features → part (g .rows) k a′ e′ order′ ≡ keep (λ r. b (goesTrue (cutOf e) (elementOf (g .features) (g .tables) r))) (part (g .rows) k (e .start) (e .end) (g .order)))
     → h ≡ sideOn (sideOf b (cutOf e) (map (elementOf (g .features) (g .tables)) (part (g .rows) (e .feature) (e .start) (e .end) (g .order))))
-    → nodeTask (withCols g order′) a′ e′ h ≡ child b (waitingOf g e)
+    → nodeRows (withOrder g order′) a′ e′ h ≡ child b (waitingOf g e)
 unfolding child columnsAt
-task-of g e order′ b a′ e′ h hj hp eh = λ i.
+child-rows g e order′ b a′ e′ h hj hp eh = λ i.
     record {
       columns = side-columns el (cutOf e) b (g .features) (λ k. part (g .rows) k (e .start) (e .end) (g .order)) (λ k. part (g .rows) k a′ e′ order′) hp i;
       totals = (ap (λ (z : Side). z .totals) eh ∙ ap (λ z. totalsOf empty (sideOf b (cutOf e) z)) mine) i;
@@ -77,15 +77,21 @@ task-of g e order′ b a′ e′ h hj hp eh = λ i.
 
 -- what lies below the split stretch is as it was
 pub frame : (g : Ground) (order′ : List ℕ) (a : ℕ) → ((k b f : ℕ) → b ≤ f → f ≤ a → part (g .rows) k b f order′ ≡ part (g .rows) k b f (g .order))
-    → (wholes : List (List ℕ)) (reals : List (List Float)) (high m : ℕ) → high ≤ a → Laid wholes reals high m → stackOf (withCols g order′) wholes reals m ≡ stackOf g wholes reals m
+    → (wholes : List (List ℕ)) (reals : List (List Float)) (high m : ℕ) → high ≤ a → Laid wholes reals high m → waitingList (withOrder g order′) wholes reals m ≡ waitingList g wholes reals m
 frame g order′ a beside wholes reals high zero hh l = refl
 frame g order′ a beside wholes reals high (suc m) hh l =
-    ap (λ z. record { number = x .node; level = x .level; node = record { columns = z; totals = record { sum = x .sum; mass = x .mass }; count = x .count }; cut = cutOf x } ∷ stackOf (withCols g order′) wholes reals m)
+    ap (λ z. record {
+      number = x .node;
+      level = x .level;
+      node = record { columns = z; totals = record { sum = x .sum; mass = x .mass }; count = x .count };
+      cut
+          = cutOf x;
+    } ∷ waitingList (withOrder g order′) wholes reals m)
     (cols-alike (elementOf (g .features) (g .tables)) (g .rows) (g .features) order′ (g .order) (x .start) (x .end) (λ k u. beside k (x .start) (x .end) (l .1) (le-trans (l .2) hh)))
     ∙ ap (λ z. waitingOf g x ∷ z) (frame g order′ a beside wholes reals (x .start) m (le-trans (l .1) (le-trans (l .2) hh)) (l .3))
   where
     x : WaitingNode
-    x = waitAt wholes reals m
+    x = waitingAt wholes reals m
 
 -- ---- what a good node gives the code
 
@@ -104,7 +110,7 @@ rising-cleft el c (x ∷ l) r = (λ out. after l (subst (λ b. T (not b)) (sym o
     after [] out h = tt
     after (y ∷ l) out h = (is-false _ (stays-out (at (c .feature) (el x)) _ _ out (h .0)), after l out (h .1))
 
-module _ (g : Ground) (P : Params) (sm : g .features ≡ P .features) (a e : ℕ) (q : Side) (gd : Good P (nodeTask g a e q)) where
+module _ (g : Ground) (P : Params) (sm : g .features ≡ P .features) (a e : ℕ) (q : Side) (gd : Good P (nodeRows g a e q)) where
   pub good-alike : (i j : ℕ) → i < g .features → j < g .features → Alike (part (g .rows) i a e (g .order)) (part (g .rows) j a e (g .order))
   good-alike i j hi hj f =
       sym (level-sum (g .features) (g .tables) f (part (g .rows) i a e (g .order)))
@@ -132,25 +138,6 @@ module _ (g : Ground) (P : Params) (sm : g .features ≡ P .features) (a e : ℕ
         below = λ j l i u. every-at (λ r. r < g .rows) (part (g .rows) j a e (g .order)) 0 i (part-every (λ r. r < g .rows) (g .rows) j 0 n a e (g .order) (omega arith) en h (bl j l)) u;
         room = good-room;
       }
-
--- ---- the node columns
-
-module _ {A : Type 0} (f : TreeNode → A) where
-  pub three : (ns : List TreeNode) (old : List A) (d : A) (i : ℕ) (a b c : TreeNode) {x y z : A} → x ≡ f a → y ≡ f b → z ≡ f c → i < length ns → length ns + 2 ≤ length old
-      → set (set (set (columnOf f ns old) i x) (length ns) y) (length ns + 1) z ≡ columnOf f (set ns i a ++ (b ∷ c ∷ [])) old
-  three ns old d i a b c {x} {y} {z} ex ey ez hi ho =
-      ap (λ u. set (set (set (columnOf f ns old) i u) (length ns) y) (length ns + 1) z) ex
-      ∙ ap (λ u. set (set u (length ns) y) (length ns + 1) z) (store-node f ns old i a hi)
-      ∙ ap (λ u. set (set (columnOf f (set ns i a) old) (length ns) u) (length ns + 1) z) ey
-      ∙ ap (λ n. set (set (columnOf f (set ns i a) old) n (f b)) (length ns + 1) z) (sym (length-set ns i a))
-      ∙ ap (λ u. set u (length ns + 1) z) (add-node f (set ns i a) old d b (subst (λ n. n < length old) (sym (length-set ns i a)) (omega arith)))
-      ∙ ap (λ u. set (columnOf f (set ns i a ++ (b ∷ [])) old) (length ns + 1) u) ez
-      ∙ ap (λ n. set (columnOf f (set ns i a ++ (b ∷ [])) old) n (f c)) (sym more)
-      ∙ add-node f (set ns i a ++ (b ∷ [])) old d c (subst (λ n. n < length old) (sym more) (omega arith))
-      ∙ ap (λ u. columnOf f u old) (append-assoc (set ns i a) (b ∷ []) (c ∷ []))
-    where
-      more : length (set ns i a ++ (b ∷ [])) ≡ length ns + 1
-      more = length-append (set ns i a) (b ∷ []) ∙ ap (λ n. n + 1) (length-set ns i a)
 
 -- ---- rows of a stretch
 

@@ -1,11 +1,14 @@
 -- A node in the lent rooms: what the rooms stand for, and the laws that the steps on one node cite. Nothing is assumed.
 
--- node columns, and the numbers of those that join
-pub mod Nodes
+-- the numbers of those that join
+pub mod Numbers
 -- the rooms, and what each step promises of them
 pub mod Rooms
--- the waiting list by the code's steps, both children, stretches after a split, and a split node's children
+-- the waiting list by the code's steps
 pub mod Steps
+-- both children searched, one after the other
 pub mod Both
+-- a node's stretch of the columns, and what a good node gives the code
 pub mod Frames
+-- a split node's children
 pub mod Sides

@@ -2,21 +2,17 @@
 -- Definitions only. Assumes nothing.
 use Prim.Native.Nat.{ℕ, zero, suc, _+_, _*_, _<_, _≤_}
 use mathlib.Core.Path.{_≡_}
-use mathlib.Core.Bool.{Bool, not}
+use mathlib.Core.Bool.{Bool}
 use mathlib.Core.List.{List, [], _∷_, _++_}
-use lib.ListN.{length, getD, set}
-use lib.Ieee.{Float, nan}
-use Rattle.rules.specs.declared.Totals.{Totals}
+use lib.ListN.{length}
+use lib.Ieee.{Float}
 use Rattle.rules.specs.declared.Params.{Params}
 use Rattle.rules.specs.declared.Cut.{Cut}
-use Rattle.rules.specs.declared.Kind.{Kind}
-use Rattle.rules.specs.declared.Kind.the-variants.{Leaf, Split}
-use Rattle.rules.specs.Lent.{Columns, Entry, leafEntry}
+use Rattle.rules.specs.Lent.{Columns}
 use Rattle.rules.specs.Search.{NodeRows, search, onTrue, onFalse}
-use Rattle.rules.specs.Growth.{Waiting, TreeNode, child, joins, searchable, searchIf}
+use Rattle.rules.specs.Growth.{Waiting, child, joins, searchable, searchIf}
 use Rattle.rules.specs.Draws.{Out, bad, ok, bind, Tapes, tape}
-use Rattle.rules.specs.Words.{nought}
-use Rattle.rules.specs.Totals.{valueOf, score}
+use Rattle.rules.specs.Totals.{score}
 use Rattle.lemmas.specs.Lists.{Every}
 use Rattle.lemmas.specs.Cuts.{Ripe}
 use Rattle.lemmas.specs.Work.{part}
@@ -25,13 +21,12 @@ use Rattle.work_columns.specs.Split.{SplitDone}
 use Rattle.criterion.specs.declared.Side.{Side}
 use Rattle.search.specs.declared.Drawn.{Drawn}
 use Rattle.search.specs.declared.Search.{Search}
-use Rattle.search.specs.Flat.{Tables, Shaped, NodeAsks, elementOf, taskAt, drawsAt, Fair, FairAfter, meant}
-use Rattle.node_growth.specs.declared.WaitingNode.{WaitingNode}
-use Rattle.node_growth.specs.declared.Row.{Row}
+use Rattle.search.specs.Flat.{Tables, tablesOf, Shaped, NodeAsks, elementOf, nodeRowsAt, drawsAt, Fair, FairAfter, meant}
+use Rattle.node_entries.specs.declared.WaitingNode.{WaitingNode}
+use Rattle.node_entries.specs.Entries.{waitingAt, wroteSplit}
 use Rattle.node_growth.specs.declared.Stand.{Stand}
 use Rattle.node_growth.specs.declared.Step.{Step}
 use Rattle.node_growth.specs.declared.Step.the-variants.{Refused, Goes}
-use Rattle.node_growth.specs.Nodes.{columnOf}
 
 -- what a waiting node's rows are read off
 pub record Ground : Type 0 where
@@ -40,32 +35,14 @@ pub record Ground : Type 0 where
   pub tables : Tables
   pub order : List ℕ
 
+-- from slices
+abbrev pub groundOf : ℕ → ℕ → List Float → List Float → List Float → List ℕ → List ℕ → Ground
+groundOf rows features values targets weights counts order =
+    record { rows = rows; features = features; tables = tablesOf values targets weights counts; order = order }
+
 -- the rows of the first n places of every column
 abbrev pub BelowTo : Ground → ℕ → Type 0
 BelowTo g n = (k : ℕ) → k < g .features → Every (λ r. r < g .rows) (part (g .rows) k 0 n (g .order))
-
-abbrev pub wholesOf : WaitingNode → List ℕ
-wholesOf w = w .node ∷ w .start ∷ w .end ∷ w .level ∷ w .count ∷ w .feature ∷ []
-
-abbrev pub realsOf : WaitingNode → List Float
-realsOf w = w .sum ∷ w .mass ∷ w .cut ∷ []
-
-abbrev pub waitOf : List ℕ → List Float → WaitingNode
-waitOf w r =
-    record {
-      node = getD w 0 0;
-      start = getD w 1 0;
-      end = getD w 2 0;
-      level = getD w 3 0;
-      count = getD w 4 0;
-      feature = getD w 5 0;
-      sum = getD r 0 nan;
-      mass = getD r 1 nan;
-      cut = getD r 2 nan;
-    }
-
-abbrev pub waitAt : List (List ℕ) → List (List Float) → ℕ → WaitingNode
-waitAt wholes reals i = waitOf (getD wholes i []) (getD reals i [])
 
 abbrev pub askedOf : WaitingNode → Side
 askedOf e = record { totals = record { sum = e .sum; mass = e .mass }; count = e .count }
@@ -73,87 +50,35 @@ askedOf e = record { totals = record { sum = e .sum; mass = e .mass }; count = e
 abbrev pub cutOf : WaitingNode → Cut
 cutOf e = record { feature = e .feature; threshold = e .cut }
 
-abbrev pub nodeTask : Ground → ℕ → ℕ → Side → NodeRows
-nodeTask g a e q = taskAt (g .rows) (g .features) a e (g .tables) (g .order) q
+abbrev pub nodeRows : Ground → ℕ → ℕ → Side → NodeRows
+nodeRows g a e q = nodeRowsAt (g .rows) (g .features) a e (g .tables) (g .order) q
 
 abbrev pub waitingOf : Ground → WaitingNode → Waiting
-waitingOf g e = record { number = e .node; level = e .level; node = nodeTask g (e .start) (e .end) (askedOf e); cut = cutOf e }
+waitingOf g e = record { number = e .node; level = e .level; node = nodeRows g (e .start) (e .end) (askedOf e); cut = cutOf e }
 
 -- the waiting list, its top first
-abbrev pub stackOf : Ground → List (List ℕ) → List (List Float) → ℕ → List Waiting
-stackOf g wholes reals zero = []
-stackOf g wholes reals (suc m) = waitingOf g (waitAt wholes reals m) ∷ stackOf g wholes reals m
+abbrev pub waitingList : Ground → List (List ℕ) → List (List Float) → ℕ → List Waiting
+waitingList g wholes reals zero = []
+waitingList g wholes reals (suc m) = waitingOf g (waitingAt wholes reals m) ∷ waitingList g wholes reals m
 
 -- the stretches lie one after another, the top one last, and entry m starts at m or later
 abbrev pub Laid : List (List ℕ) → List (List Float) → ℕ → ℕ → Type 0
 Laid wholes reals high zero = Unit {0}
 Laid wholes reals high (suc m) =
-    (m ≤ waitAt wholes reals m .start) × (waitAt wholes reals m .start ≤ waitAt wholes reals m .end) × (waitAt wholes reals m .end ≤ high)
-    × Laid wholes reals (waitAt wholes reals m .start) m
+    (m ≤ waitingAt wholes reals m .start) × (waitingAt wholes reals m .start ≤ waitingAt wholes reals m .end) × (waitingAt wholes reals m .end ≤ high)
+    × Laid wholes reals (waitingAt wholes reals m .start) m
 
--- ---- node columns
-
-pub record LongAll (n : ℕ) (c : Columns) : Type 0 where
-  pub value : n ≤ length (c .value)
-  pub feature : n ≤ length (c .feature)
-  pub threshold : n ≤ length (c .threshold)
-  pub score : n ≤ length (c .score)
-  pub truechild : n ≤ length (c .trueChild)
-  pub falsechild : n ≤ length (c .falseChild)
-
-unfoldable pub putRow : ℕ → Row → Columns → Columns
-putRow i r c =
-    record {
-      value = set (c .value) i (r .value);
-      feature = set (c .feature) i (r .feature);
-      threshold = set (c .threshold) i (r .threshold);
-      score = set (c .score) i (r .score);
-      trueChild = set (c .trueChild) i (r .truechild);
-      falseChild = set (c .falseChild) i (r .falsechild);
-    }
-
-abbrev pub leafRow : Totals → Row
-leafRow t = record { value = valueOf t; feature = 0; threshold = nought; score = nought; truechild = 0; falsechild = 0 }
-
-unfoldable pub wroteSplit : WaitingNode → Totals → Totals → Float → ℕ → Columns → Columns
-wroteSplit w t f q n c =
-    putRow (n + 1) (leafRow f) (putRow n (leafRow t)
-    (putRow (w .node) (record { value = valueOf (record { sum = w .sum; mass = w .mass }); feature = w .feature; threshold = w .cut; score = q; truechild = n; falsechild = n + 1 }) c))
+-- ---- a split
 
 -- by the sides that its split pass gave
 abbrev pub wroteSides : WaitingNode → Sides → ℕ → Columns → Columns
 wroteSides w h n c = wroteSplit w (h .trueside .totals) (h .falseside .totals) (score (h .trueside .totals) (h .falseside .totals) (h .all .mass)) n c
 
--- a node of the definition as it stands in the columns
-abbrev pub rowIn : Float → Kind → Entry
-rowIn v Leaf = leafEntry v
-rowIn v (Split s) =
-    record {
-      value = v;
-      feature = s .cut .feature;
-      threshold = s .cut .threshold;
-      score = s .score;
-      trueChild = s .children;
-      falseChild = suc (s .children);
-    }
-
-abbrev pub rowFor : TreeNode → Entry
-rowFor n = rowIn (valueOf (n .totals)) (n .kind)
-
--- the columns hold the nodes, and past them what they held
-pub record NodesIn (old : Columns) (ns : List TreeNode) (c : Columns) : Type 0 where
-  pub value : c .value ≡ columnOf (λ n. rowFor n .value) ns (old .value)
-  pub feature : c .feature ≡ columnOf (λ n. rowFor n .feature) ns (old .feature)
-  pub threshold : c .threshold ≡ columnOf (λ n. rowFor n .threshold) ns (old .threshold)
-  pub score : c .score ≡ columnOf (λ n. rowFor n .score) ns (old .score)
-  pub truechild : c .trueChild ≡ columnOf (λ n. rowFor n .trueChild) ns (old .trueChild)
-  pub falsechild : c .falseChild ≡ columnOf (λ n. rowFor n .falseChild) ns (old .falseChild)
-
 -- ---- what a child's search leaves
 
 abbrev pub meantStep : Ground → List ℕ → List Float → List (List ℕ) → List (List Float) → Step → Out (List Waiting × Tapes)
 meantStep g W M wholes reals (Refused k) = bad k
-meantStep g W M wholes reals (Goes s) = ok (stackOf g wholes reals (s .waiting), drawsAt W M (s .drawn))
+meantStep g W M wholes reals (Goes s) = ok (waitingList g wholes reals (s .waiting), drawsAt W M (s .drawn))
 
 abbrev pub LaidStep : List (List ℕ) → List (List Float) → ℕ → Step → Type 0
 LaidStep wholes reals high (Refused k) = Unit {0}
@@ -167,8 +92,10 @@ abbrev pub FairStep : List ℕ → Step → Type 0
 FairStep W (Refused k) = Unit {0}
 FairStep W (Goes s) = Fair W (s .drawn)
 
-pub record PushDone (wholes : List (List ℕ)) (reals : List (List Float)) (wholes′ : List (List ℕ)) (reals′ : List (List Float)) (n node level a e : ℕ) (q : Side) (d : Drawn) (r : Search) (s : Step) : Type 0 where
-  pub same : (g : Ground) (W : List ℕ) (M : List Float) → bind (meant W M d r) (λ o. ok (joins node level (nodeTask g a e q) (o .0) ++ stackOf g wholes reals n, o .1)) ≡ meantStep g W M wholes′ reals′ s
+pub record PushDone (wholes : List (List ℕ)) (reals : List (List Float)) (wholes′ : List (List ℕ)) (reals′ : List (List Float)) (n node level a e : ℕ) (q : Side)
+    (d : Drawn) (r : Search) (s : Step) : Type 0 where
+  pub same : (g : Ground) (W : List ℕ) (M : List Float)
+      → bind (meant W M d r) (λ o. ok (joins node level (nodeRows g a e q) (o .0) ++ waitingList g wholes reals n, o .1)) ≡ meantStep g W M wholes′ reals′ s
   pub laid : (low : ℕ) → Laid wholes reals low n → n ≤ a → low ≤ a → a ≤ e → LaidStep wholes′ reals′ e s
   pub most : MostStep (n + 1) s
   pub fair : (W : List ℕ) → FairAfter W r → FairStep W s
@@ -184,7 +111,8 @@ pub record ChildAsks (g : Ground) (P : Params) (W : List ℕ) (a e : ℕ) (q : S
 
 pub record ChildDone (g : Ground) (P : Params) (W : List ℕ) (M : List Float) (wholes : List (List ℕ)) (reals : List (List Float)) (wholes′ : List (List ℕ)) (reals′ : List (List Float))
     (node level a e : ℕ) (q : Side) (s : Stand) (r : Step) : Type 0 where
-  pub same : bind (searchIf P (search (tape (P .features)) P) (searchable P level (nodeTask g a e q)) node level (nodeTask g a e q) (drawsAt W M (s .drawn))) (λ o. ok (o .0 ++ stackOf g wholes reals (s .waiting), o .1))
+  pub same : bind (searchIf P (search (tape (P .features)) P) (searchable P level (nodeRows g a e q)) node level (nodeRows g a e q) (drawsAt W M (s .drawn)))
+      (λ o. ok (o .0 ++ waitingList g wholes reals (s .waiting), o .1))
       ≡ meantStep g W M wholes′ reals′ r
   pub laid : (low : ℕ) → Laid wholes reals low (s .waiting) → s .waiting ≤ a → low ≤ a → a ≤ e → LaidStep wholes′ reals′ e r
   pub most : MostStep (s .waiting + 1) r
@@ -207,7 +135,8 @@ searchTwo P node level t f d =
 
 pub record BothDone (g : Ground) (P : Params) (W : List ℕ) (M : List Float) (wholes : List (List ℕ)) (reals : List (List Float)) (wholes′ : List (List ℕ)) (reals′ : List (List Float))
     (node level a m e : ℕ) (q r : Side) (s : Stand) (t : Step) : Type 0 where
-  pub same : bind (searchTwo P node level (nodeTask g a m q) (nodeTask g m e r) (drawsAt W M (s .drawn))) (λ o. ok (o .0 ++ stackOf g wholes reals (s .waiting), o .1)) ≡ meantStep g W M wholes′ reals′ t
+  pub same : bind (searchTwo P node level (nodeRows g a m q) (nodeRows g m e r) (drawsAt W M (s .drawn)))
+      (λ o. ok (o .0 ++ waitingList g wholes reals (s .waiting), o .1)) ≡ meantStep g W M wholes′ reals′ t
   pub laid : (low : ℕ) → Laid wholes reals low (s .waiting) → s .waiting ≤ a → low ≤ a → a < m → m ≤ e → LaidStep wholes′ reals′ e t
   pub fair : FairStep W t
 
@@ -235,13 +164,15 @@ pub record Taken (g : Ground) (P : Params) (W : List ℕ) (scratch flags : ℕ) 
   pub number : n + 1 < 4294967296
   pub fair : Fair W (s .drawn)
 
-pub record SidesAsks (g : Ground) (P : Params) (W : List ℕ) (scratch : ℕ) (flags : List Bool) (wholes : List (List ℕ)) (reals : List (List Float)) (w : WaitingNode) (n : ℕ) (h : Sides) (s : Stand) : Type 0 where
+pub record SidesAsks (g : Ground) (P : Params) (W : List ℕ) (scratch : ℕ) (flags : List Bool) (wholes : List (List ℕ)) (reals : List (List Float)) (w : WaitingNode)
+    (n : ℕ) (h : Sides) (s : Stand) : Type 0 where
   pub taken : Taken g P W scratch (length flags) wholes reals w n s
   pub split : SplitDone (g .rows) (w .start) (w .end) (elementOf (g .features) (g .tables)) (cutOf w) (g .order) flags h
 
 pub record SidesDone (g g′ : Ground) (P : Params) (W : List ℕ) (M : List Float) (wholes : List (List ℕ)) (reals : List (List Float)) (wholes′ : List (List ℕ)) (reals′ : List (List Float))
     (w : WaitingNode) (n : ℕ) (s : Stand) (r : Step) : Type 0 where
-  pub same : bind (searchTwo P n (w .level + 1) (child onTrue (waitingOf g w)) (child onFalse (waitingOf g w)) (drawsAt W M (s .drawn))) (λ o. ok (o .0 ++ stackOf g wholes reals (s .waiting), o .1)) ≡ meantStep g′ W M wholes′ reals′ r
+  pub same : bind (searchTwo P n (w .level + 1) (child onTrue (waitingOf g w)) (child onFalse (waitingOf g w)) (drawsAt W M (s .drawn)))
+      (λ o. ok (o .0 ++ waitingList g wholes reals (s .waiting), o .1)) ≡ meantStep g′ W M wholes′ reals′ r
   pub long : length (g′ .order) ≡ length (g .order)
   pub below : (m : ℕ) → w .end ≤ m → m ≤ g .rows → BelowTo g m → BelowTo g′ m
   pub laid : LaidStep wholes′ reals′ (w .end) r

@@ -18,6 +18,7 @@ use Rattle.rules.specs.Draws.{bind, ok, tape}
 use Rattle.lemmas.specs.Lists.{keep-map}
 use Rattle.lemmas.specs.Cuts.{Good, side-good}
 use Rattle.lemmas.specs.Work.{part}
+use Rattle.candidates.specs.Held.{bare}
 use Rattle.work_columns.specs.declared.Sides.{Sides}
 use Rattle.work_columns.specs.Columns.{flagged, parted, partedColumns, ColumnsAsk}
 use Rattle.work_columns.specs.Cleft.{cleft-parted}
@@ -25,25 +26,27 @@ use Rattle.work_columns.specs.Split.{goes, SplitAsks, SplitDone}
 use Rattle.work_columns.specs.Stretches.{part-every}
 use Rattle.work_columns.specs.Halves.{marked-parted, split-long, columns-ask, split-beside, split-every, true-part, false-part}
 use Rattle.criterion.specs.Sides.{sideOn}
-use Rattle.search.specs.Flat.{elementOf, bare, drawsAt}
-use Rattle.node_growth.specs.declared.WaitingNode.{WaitingNode}
+use Rattle.search.specs.Flat.{elementOf, drawsAt}
+use Rattle.node_entries.specs.declared.WaitingNode.{WaitingNode}
 use Rattle.node_growth.specs.declared.Stand.{Stand}
 use Rattle.node_growth.specs.declared.Step.{Step}
 use Rattle.node_growth.specs.declared.Step.the-variants.{Goes}
-use Rattle.node_growth.specs.Rooms.{Ground, cutOf, askedOf, nodeTask, waitingOf, stackOf, BelowTo, searchTwo, Taken, BothAsks, BothDone, SidesDone}
+use Rattle.node_growth.specs.Rooms.{Ground, cutOf, askedOf, nodeRows, waitingOf, waitingList, BelowTo, searchTwo, Taken, BothAsks, BothDone, SidesDone}
 use Rattle.node_growth.specs.Steps.{laid-more}
 use Rattle.node_growth.specs.Both.{onto, chain}
-use Rattle.node_growth.specs.Frames.{withCols, column-at, task-of, frame, good-alike, good-room, good-cleft, good-asks, part-short, ones-map, rows-of}
+use Rattle.node_growth.specs.Frames.{withOrder, column-at, child-rows, frame, good-alike, good-room, good-cleft, good-asks, part-short, ones-map, rows-of}
 
 -- ---- a node's ends as the code widened them
 
 ends-at : (Q : ℕ → ℕ → Type 0) {a e a′ e′ : ℕ} → a′ ≡ a → e′ ≡ e → Q a e → Q a′ e′
 ends-at Q {a} {e} {a′} {e′} ea ee h = subst (λ z. Q z e′) (sym ea) (subst (Q a) (sym ee) h)
 
-pub split-at : {rows features a e a′ e′ fl : ℕ} {x y ws : List Float} {ks order : List ℕ} {c : Cut} → a′ ≡ a → e′ ≡ e → SplitAsks rows features a e x y ws ks c order fl → SplitAsks rows features a′ e′ x y ws ks c order fl
+pub split-at : {rows features a e a′ e′ fl : ℕ} {x y ws : List Float} {ks order : List ℕ} {c : Cut} → a′ ≡ a → e′ ≡ e → SplitAsks rows features a e x y ws ks c order fl
+    → SplitAsks rows features a′ e′ x y ws ks c order fl
 split-at {rows} {features} {a} {e} {a′} {e′} {fl} {x} {y} {ws} {ks} {order} {c} = ends-at (λ u v. SplitAsks rows features u v x y ws ks c order fl)
 
-pub done-at : {rows a e a′ e′ : ℕ} {el : ℕ → Element} {c : Cut} {order : List ℕ} {fl : List Bool} {h : Sides} → a′ ≡ a → e′ ≡ e → SplitDone rows a′ e′ el c order fl h → SplitDone rows a e el c order fl h
+pub done-at : {rows a e a′ e′ : ℕ} {el : ℕ → Element} {c : Cut} {order : List ℕ} {fl : List Bool} {h : Sides} → a′ ≡ a → e′ ≡ e → SplitDone rows a′ e′ el c order fl h
+    → SplitDone rows a e el c order fl h
 done-at {rows} {a} {e} {a′} {e′} {el} {c} {order} {fl} {h} ea ee = ends-at (λ u v. SplitDone rows u v el c order fl h) (sym ea) (sym ee)
 
 -- ---- a split node's children
@@ -75,7 +78,9 @@ module _ (g : Ground) (P : Params) (W : List ℕ) (sc : ℕ) (flags : List Bool)
       some-rows : w .start < w .end
       some-rows = rows-of (g .rows) (g .order) (w .start) (w .end) (w .feature) el (goesTrue (cutOf w)) (subst (λ z. 0 < total (λ x. 1) (trueSide (cutOf w) z)) (sym mine) (q .ripe .fine .someTrue))
 
-  pub taken-splits : w .count < 4294967296 → SplitAsks (g .rows) (g .features) (w .start) (w .end) (g .tables .values) (g .tables .targets) (g .tables .weights) (g .tables .counts) (cutOf w) (g .order) (length flags)
+  pub taken-splits : w .count < 4294967296
+      → SplitAsks (g .rows) (g .features) (w .start) (w .end) (g .tables .values) (g .tables .targets) (g .tables .weights) (g .tables .counts) (cutOf w)
+      (g .order) (length flags)
   taken-splits m =
       record {
         shaped = record { tables = record { counted = q .shape .counted; weighed = q .shape .weighed }; wide = q .shape .wide; targeted = q .shape .targets };
@@ -97,27 +102,29 @@ module _ (g : Ground) (P : Params) (W : List ℕ) (sc : ℕ) (flags : List Bool)
         → ColumnsAsk (g .rows) (g .features) a e (g .order) sc (length flags) × (parted (flagged flags) (part (g .rows) k a e (g .order)) ≡ part (g .rows) k a e (g .order))
     taken-parts m {a} {e} {k} ea ee ek = (
       ends-at (λ u v. ColumnsAsk (g .rows) (g .features) u v (g .order) sc (length flags)) ea ee
-          (columns-ask (g .rows) (g .features) (w .start) (w .end) (g .tables .values) (g .tables .targets) (g .tables .weights) (g .tables .counts) (cutOf w) (g .order) sc (length flags) (taken-splits m) (q .scratch-room)),
-      ap (parted (flagged flags)) there ∙ marked-parted (goes el (cutOf w)) flags rows-of-split rows-of-split (λ f. refl) (d .marks) ∙ cleft-parted (goes el (cutOf w)) rows-of-split (taken-splits m .cleft) ∙ sym there,
+          (columns-ask (g .rows) (g .features) (w .start) (w .end) (g .tables .values) (g .tables .targets) (g .tables .weights) (g .tables .counts) (cutOf w)
+          (g .order) sc (length flags) (taken-splits m) (q .scratch-room)),
+      ap (parted (flagged flags)) there ∙ marked-parted (goes el (cutOf w)) flags rows-of-split rows-of-split (λ f. refl) (d .marks)
+          ∙ cleft-parted (goes el (cutOf w)) rows-of-split (taken-splits m .cleft) ∙ sym there,
     )
       where
         there : part (g .rows) k a e (g .order) ≡ rows-of-split
         there i = part (g .rows) (ek i) (ea i) (ee i) (g .order)
 
-    yes-side : h .trueside ≡ sideOn (trueSide (cutOf w) (map el rows-of-split))
-    yes-side = ap (λ (z : Sides). z .trueside) (d .sides)
+    true-side : h .trueside ≡ sideOn (trueSide (cutOf w) (map el rows-of-split))
+    true-side = ap (λ (z : Sides). z .trueside) (d .sides)
 
-    no-side : h .falseside ≡ sideOn (falseSide (cutOf w) (map el rows-of-split))
-    no-side = ap (λ (z : Sides). z .falseside) (d .sides)
+    false-side : h .falseside ≡ sideOn (falseSide (cutOf w) (map el rows-of-split))
+    false-side = ap (λ (z : Sides). z .falseside) (d .sides)
 
     -- the children's totals and counts
-    pub yes-child : h .trueside ≡ record { totals = child onTrue top .totals; count = child onTrue top .count }
+    pub true-child : h .trueside ≡ record { totals = child onTrue top .totals; count = child onTrue top .count }
     unfolding child
-    yes-child = yes-side ∙ ap (λ z. sideOn (trueSide (cutOf w) z)) mine
+    true-child = true-side ∙ ap (λ z. sideOn (trueSide (cutOf w) z)) mine
 
-    pub no-child : h .falseside ≡ record { totals = child onFalse top .totals; count = child onFalse top .count }
+    pub false-child : h .falseside ≡ record { totals = child onFalse top .totals; count = child onFalse top .count }
     unfolding child
-    no-child = no-side ∙ ap (λ z. sideOn (falseSide (cutOf w) z)) mine
+    false-child = false-side ∙ ap (λ z. sideOn (falseSide (cutOf w) z)) mine
 
     pub sides-skip : (M : List Float) → (searchable P (w .level + 1) (bare (h .trueside)) || searchable P (w .level + 1) (bare (h .falseside))) ≡ false
         → SidesDone g g P W M wholes reals wholes reals w n s (Goes s)
@@ -126,7 +133,7 @@ module _ (g : Ground) (P : Params) (W : List ℕ) (sc : ℕ) (flags : List Bool)
         record {
           same = λ i.
               bind (bind (searchIf P (search (tape (P .features)) P) (first i) n (w .level + 1) (child onTrue top) (drawsAt W M (s .drawn)))
-              (chain (λ t. searchIf P (search (tape (P .features)) P) (second i) (suc n) (w .level + 1) (child onFalse top) t))) (onto (stackOf g wholes reals (s .waiting)));
+              (chain (λ t. searchIf P (search (tape (P .features)) P) (second i) (suc n) (w .level + 1) (child onFalse top) t))) (onto (waitingList g wholes reals (s .waiting)));
           long = refl;
           below = λ m u v b. b;
           laid = laid-more wholes reals (s .waiting) (w .start) (w .end) (q .ordered) (q .laid);
@@ -134,10 +141,10 @@ module _ (g : Ground) (P : Params) (W : List ℕ) (sc : ℕ) (flags : List Bool)
         }
       where
         first : searchable P (w .level + 1) (child onTrue top) ≡ false
-        first = sym (ap (λ z. searchable P (w .level + 1) (bare z)) yes-child) ∙ neither (searchable P (w .level + 1) (bare (h .trueside))) (searchable P (w .level + 1) (bare (h .falseside))) e .0
+        first = sym (ap (λ z. searchable P (w .level + 1) (bare z)) true-child) ∙ neither (searchable P (w .level + 1) (bare (h .trueside))) (searchable P (w .level + 1) (bare (h .falseside))) e .0
 
         second : searchable P (w .level + 1) (child onFalse top) ≡ false
-        second = sym (ap (λ z. searchable P (w .level + 1) (bare z)) no-child) ∙ neither (searchable P (w .level + 1) (bare (h .trueside))) (searchable P (w .level + 1) (bare (h .falseside))) e .1
+        second = sym (ap (λ z. searchable P (w .level + 1) (bare z)) false-child) ∙ neither (searchable P (w .level + 1) (bare (h .trueside))) (searchable P (w .level + 1) (bare (h .falseside))) e .1
 
     -- the sides lie within the node
     pub sides-fit : w .start + h .rows ≤ w .end
@@ -149,30 +156,37 @@ module _ (g : Ground) (P : Params) (W : List ℕ) (sc : ℕ) (flags : List Bool)
       e = p ∙ (λ i. partedColumns (g .rows) (ea i) (ez i) (flagged flags) (g .features) (g .order))
 
       abbrev g′ : Ground
-      g′ = withCols g order′
+      g′ = withOrder g order′
 
       abbrev mid : ℕ
       mid = w .start + h .rows
 
       long : length order′ ≡ length (g .order)
-      long = split-long (g .rows) (g .features) (w .start) (w .end) (g .tables .values) (g .tables .targets) (g .tables .weights) (g .tables .counts) (cutOf w) (g .order) order′ flags h (taken-splits m) d e
+      long =
+          split-long (g .rows) (g .features) (w .start) (w .end) (g .tables .values) (g .tables .targets) (g .tables .weights) (g .tables .counts) (cutOf w)
+          (g .order) order′ flags h (taken-splits m) d e
 
       below : (j : ℕ) → w .end ≤ j → j ≤ g .rows → BelowTo g j → BelowTo g′ j
       below j u v b k l =
-          split-every (g .rows) (g .features) (w .start) (w .end) (g .tables .values) (g .tables .targets) (g .tables .weights) (g .tables .counts) (cutOf w) (g .order) order′ flags h (taken-splits m) d e
+          split-every (g .rows) (g .features) (w .start) (w .end) (g .tables .values) (g .tables .targets) (g .tables .weights) (g .tables .counts) (cutOf w)
+          (g .order) order′ flags h (taken-splits m) d e
           (λ r. r < g .rows) k j l u v (b k l)
 
-      yes-part : (k : ℕ) → k < g .features → part (g .rows) k (w .start) mid order′ ≡ keep (λ r. goesTrue (cutOf w) (el r)) (part (g .rows) k (w .start) (w .end) (g .order))
-      yes-part = true-part (g .rows) (g .features) (w .start) (w .end) (g .tables .values) (g .tables .targets) (g .tables .weights) (g .tables .counts) (cutOf w) (g .order) order′ flags h (taken-splits m) d e
+      part-true : (k : ℕ) → k < g .features → part (g .rows) k (w .start) mid order′ ≡ keep (λ r. goesTrue (cutOf w) (el r)) (part (g .rows) k (w .start) (w .end) (g .order))
+      part-true =
+          true-part (g .rows) (g .features) (w .start) (w .end) (g .tables .values) (g .tables .targets) (g .tables .weights) (g .tables .counts) (cutOf w)
+          (g .order) order′ flags h (taken-splits m) d e
 
-      no-part : (k : ℕ) → k < g .features → part (g .rows) k mid (w .end) order′ ≡ keep (λ r. not (goesTrue (cutOf w) (el r))) (part (g .rows) k (w .start) (w .end) (g .order))
-      no-part = false-part (g .rows) (g .features) (w .start) (w .end) (g .tables .values) (g .tables .targets) (g .tables .weights) (g .tables .counts) (cutOf w) (g .order) order′ flags h (taken-splits m) d e
+      part-false : (k : ℕ) → k < g .features → part (g .rows) k mid (w .end) order′ ≡ keep (λ r. not (goesTrue (cutOf w) (el r))) (part (g .rows) k (w .start) (w .end) (g .order))
+      part-false =
+          false-part (g .rows) (g .features) (w .start) (w .end) (g .tables .values) (g .tables .targets) (g .tables .weights) (g .tables .counts) (cutOf w)
+          (g .order) order′ flags h (taken-splits m) d e
 
-      yes-task : nodeTask g′ (w .start) mid (h .trueside) ≡ child onTrue top
-      yes-task = task-of g w order′ onTrue (w .start) mid (h .trueside) known yes-part yes-side
+      true-rows : nodeRows g′ (w .start) mid (h .trueside) ≡ child onTrue top
+      true-rows = child-rows g w order′ onTrue (w .start) mid (h .trueside) known part-true true-side
 
-      no-task : nodeTask g′ mid (w .end) (h .falseside) ≡ child onFalse top
-      no-task = task-of g w order′ onFalse mid (w .end) (h .falseside) known no-part no-side
+      false-rows : nodeRows g′ mid (w .end) (h .falseside) ≡ child onFalse top
+      false-rows = child-rows g w order′ onFalse mid (w .end) (h .falseside) known part-false false-side
 
       -- a side that has rows takes up places
       filled : (b : Bool → Bool) (a z : ℕ) → part (g .rows) (w .feature) a z order′ ≡ keep (λ r. b (goesTrue (cutOf w) (el r))) rows-of-split
@@ -184,16 +198,18 @@ module _ (g : Ground) (P : Params) (W : List ℕ) (sc : ℕ) (flags : List Bool)
           elements = ap (map el) p ∙ sym (keep-map (λ x. b (goesTrue (cutOf w) x)) el rows-of-split) ∙ ap (sideOf b (cutOf w)) mine
 
       starts : w .start < mid
-      starts = filled onTrue (w .start) mid (yes-part (w .feature) known) (q .ripe .fine .someTrue)
+      starts = filled onTrue (w .start) mid (part-true (w .feature) known) (q .ripe .fine .someTrue)
 
       ends : mid < w .end
-      ends = filled onFalse mid (w .end) (no-part (w .feature) known) (q .ripe .fine .someFalse)
+      ends = filled onFalse mid (w .end) (part-false (w .feature) known) (q .ripe .fine .someFalse)
 
       pub both-asks : BothAsks g′ P W n (w .start) mid (w .end) (h .trueside) (h .falseside) s (length wholes) (length reals)
       both-asks =
           record {
             first = record {
-              node = good-asks g′ P (q .same) (w .start) mid (h .trueside) (subst (Good P) (sym yes-task) (side-good P onTrue top (q .ripe))) (q .shape) (long ∙ q .long) (w .end) sides-fit rows-after (omega (arith, starts)) (omega (arith, ends, q .high));
+              node =
+                  good-asks g′ P (q .same) (w .start) mid (h .trueside) (subst (Good P) (sym true-rows) (side-good P onTrue top (q .ripe))) (q .shape)
+                  (long ∙ q .long) (w .end) sides-fit rows-after (omega (arith, starts)) (omega (arith, ends, q .high));
               same = q .same;
               few = q .few;
               some = q .some;
@@ -201,7 +217,9 @@ module _ (g : Ground) (P : Params) (W : List ℕ) (sc : ℕ) (flags : List Bool)
               wholes = taken-room .0;
               reals = taken-room .1;
             };
-            second = good-asks g′ P (q .same) mid (w .end) (h .falseside) (subst (Good P) (sym no-task) (side-good P onFalse top (q .ripe))) (q .shape) (long ∙ q .long) (w .end) (le-refl (w .end)) rows-after (omega (arith, ends)) (q .high);
+            second =
+                good-asks g′ P (q .same) mid (w .end) (h .falseside) (subst (Good P) (sym false-rows) (side-good P onFalse top (q .ripe))) (q .shape)
+                (long ∙ q .long) (w .end) (le-refl (w .end)) rows-after (omega (arith, ends)) (q .high);
             wholes = omega (arith, q .place, starts, ends, q .high, q .whole-room);
             reals = omega (arith, q .place, starts, ends, q .high, q .real-room);
             small = q .number;
@@ -214,17 +232,18 @@ module _ (g : Ground) (P : Params) (W : List ℕ) (sc : ℕ) (flags : List Bool)
           → BothDone g′ P W M wholes reals wholes′ reals′ n (w .level + 1) (w .start) mid (w .end) (h .trueside) (h .falseside) s r → SidesDone g g′ P W M wholes reals wholes′ reals′ w n s r
       sides-both M wholes′ reals′ r b =
           record {
-            same = (λ i. bind (searchTwo P n (w .level + 1) (sym yes-task i) (sym no-task i) (drawsAt W M (s .drawn))) (λ o. ok (o .0 ++ sym under i, o .1))) ∙ b .same;
+            same = (λ i. bind (searchTwo P n (w .level + 1) (sym true-rows i) (sym false-rows i) (drawsAt W M (s .drawn))) (λ o. ok (o .0 ++ sym under i, o .1))) ∙ b .same;
             long = long;
             below = below;
             laid = b .laid (w .start) (q .laid) (q .place) (le-refl (w .start)) starts sides-fit;
             fair = b .fair;
           }
         where
-          under : stackOf g′ wholes reals (s .waiting) ≡ stackOf g wholes reals (s .waiting)
+          under : waitingList g′ wholes reals (s .waiting) ≡ waitingList g wholes reals (s .waiting)
           under = frame g order′ (w .start) beside wholes reals (w .start) (s .waiting) (le-refl (w .start)) (q .laid)
             where
               beside : (k b f : ℕ) → b ≤ f → f ≤ w .start → part (g .rows) k b f order′ ≡ part (g .rows) k b f (g .order)
               beside k b f o u =
-                  split-beside (g .rows) (g .features) (w .start) (w .end) (g .tables .values) (g .tables .targets) (g .tables .weights) (g .tables .counts) (cutOf w) (g .order) order′ flags h (taken-splits m) d e
+                  split-beside (g .rows) (g .features) (w .start) (w .end) (g .tables .values) (g .tables .targets) (g .tables .weights) (g .tables .counts)
+                  (cutOf w) (g .order) order′ flags h (taken-splits m) d e
                   k b f (inl u) o (omega (arith, u, q .ordered, q .high))

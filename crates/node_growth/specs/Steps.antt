@@ -15,50 +15,55 @@ use Rattle.rules.specs.declared.Held.{Held}
 use Rattle.rules.specs.declared.Held.the-variants.{Nothing, Holds}
 use Rattle.rules.specs.Search.{NodeRows, Found, search}
 use Rattle.rules.specs.Growth.{Waiting, joins, searchable, searchIf}
-use Rattle.rules.specs.Draws.{Out, bad, ok, bind, Tapes, tape}
+use Rattle.rules.specs.Draws.{Out, ok, bind, Tapes, tape}
+use Rattle.lemmas.specs.Outs.{bind-through}
 use Rattle.criterion.specs.declared.Side.{Side}
+use Rattle.candidates.specs.Held.{bare}
 use Rattle.search.specs.declared.Drawn.{Drawn}
 use Rattle.search.specs.declared.Search.{Search}
 use Rattle.search.specs.declared.Search.the-variants as S
-use Rattle.search.specs.Flat.{Tables, NodeAsks, bare, drawsAt, Fair, meant, Searched}
-use Rattle.node_growth.specs.declared.WaitingNode.{WaitingNode}
+use Rattle.search.specs.Flat.{Tables, NodeAsks, drawsAt, Fair, meant, Searched}
+use Rattle.node_entries.specs.declared.WaitingNode.{WaitingNode}
+use Rattle.node_entries.specs.Entries.{wholesOf, realsOf, waitingIn, waitingAt}
 use Rattle.node_growth.specs.declared.Stand.{Stand}
 use Rattle.node_growth.specs.declared.Step.{Step}
 use Rattle.node_growth.specs.declared.Step.the-variants.{Refused, Goes}
-use Rattle.node_growth.specs.Rooms.{Ground, wholesOf, realsOf, waitOf, waitAt, nodeTask, waitingOf, stackOf, Laid, PushDone, ChildDone}
+use Rattle.node_growth.specs.Rooms.{Ground, nodeRows, waitingOf, waitingList, Laid, PushDone, ChildDone}
 
-wait-kept : (wholes : List (List ℕ)) (reals : List (List Float)) (n i : ℕ) (w : List ℕ) (r : List Float) → i < n → waitAt (set wholes n w) (set reals n r) i ≡ waitAt wholes reals i
-wait-kept wholes reals n i w r h =
-    ap (λ z. waitOf z (getD (set reals n r) i [])) (getD-set-other wholes n i w [] (other i n h)) ∙ ap (waitOf (getD wholes i [])) (getD-set-other reals n i r [] (other i n h))
+waiting-kept : (wholes : List (List ℕ)) (reals : List (List Float)) (n i : ℕ) (w : List ℕ) (r : List Float) → i < n → waitingAt (set wholes n w) (set reals n r) i ≡ waitingAt wholes reals i
+waiting-kept wholes reals n i w r h =
+    ap (λ z. waitingIn z (getD (set reals n r) i [])) (getD-set-other wholes n i w [] (other i n h)) ∙ ap (waitingIn (getD wholes i [])) (getD-set-other reals n i r [] (other i n h))
   where
     other : (i n : ℕ) → i < n → i ≡ n → ⊥
     other i n h e = omega arith
 
-pub stack-kept : (g : Ground) (wholes : List (List ℕ)) (reals : List (List Float)) (n m : ℕ) (w : List ℕ) (r : List Float) → m ≤ n → stackOf g (set wholes n w) (set reals n r) m ≡ stackOf g wholes reals m
-stack-kept g wholes reals n zero w r h = refl
-stack-kept g wholes reals n (suc m) w r h =
-    ap (λ z. waitingOf g z ∷ stackOf g (set wholes n w) (set reals n r) m) (wait-kept wholes reals n m w r h)
-    ∙ ap (λ z. waitingOf g (waitAt wholes reals m) ∷ z) (stack-kept g wholes reals n m w r (less m n h))
+pub list-kept : (g : Ground) (wholes : List (List ℕ)) (reals : List (List Float)) (n m : ℕ) (w : List ℕ) (r : List Float) → m ≤ n
+    → waitingList g (set wholes n w) (set reals n r) m ≡ waitingList g wholes reals m
+list-kept g wholes reals n zero w r h = refl
+list-kept g wholes reals n (suc m) w r h =
+    ap (λ z. waitingOf g z ∷ waitingList g (set wholes n w) (set reals n r) m) (waiting-kept wholes reals n m w r h)
+    ∙ ap (λ z. waitingOf g (waitingAt wholes reals m) ∷ z) (list-kept g wholes reals n m w r (less m n h))
   where
     less : (m n : ℕ) → suc m ≤ n → m ≤ n
     less m n h = omega arith
 
-wait-new : (wholes : List (List ℕ)) (reals : List (List Float)) (n : ℕ) (w : WaitingNode) → n < length wholes → n < length reals → waitAt (set wholes n (wholesOf w)) (set reals n (realsOf w)) n ≡ w
-wait-new wholes reals n w h g =
-    ap (λ z. waitOf z (getD (set reals n (realsOf w)) n [])) (getD-set-same wholes n (wholesOf w) [] h) ∙ ap (waitOf (wholesOf w)) (getD-set-same reals n (realsOf w) [] g)
+waiting-new : (wholes : List (List ℕ)) (reals : List (List Float)) (n : ℕ) (w : WaitingNode) → n < length wholes → n < length reals
+    → waitingAt (set wholes n (wholesOf w)) (set reals n (realsOf w)) n ≡ w
+waiting-new wholes reals n w h g =
+    ap (λ z. waitingIn z (getD (set reals n (realsOf w)) n [])) (getD-set-same wholes n (wholesOf w) [] h) ∙ ap (waitingIn (wholesOf w)) (getD-set-same reals n (realsOf w) [] g)
 
-pub stack-new : (g : Ground) (wholes : List (List ℕ)) (reals : List (List Float)) (n : ℕ) (w : WaitingNode) → n < length wholes → n < length reals
-    → stackOf g (set wholes n (wholesOf w)) (set reals n (realsOf w)) (n + 1) ≡ waitingOf g w ∷ stackOf g wholes reals n
-stack-new g wholes reals n w h k =
-    ap (stackOf g (set wholes n (wholesOf w)) (set reals n (realsOf w))) (add-one n)
-    ∙ ap (λ z. waitingOf g z ∷ stackOf g (set wholes n (wholesOf w)) (set reals n (realsOf w)) n) (wait-new wholes reals n w h k)
-    ∙ ap (λ z. waitingOf g w ∷ z) (stack-kept g wholes reals n n (wholesOf w) (realsOf w) (le-refl n))
+pub list-new : (g : Ground) (wholes : List (List ℕ)) (reals : List (List Float)) (n : ℕ) (w : WaitingNode) → n < length wholes → n < length reals
+    → waitingList g (set wholes n (wholesOf w)) (set reals n (realsOf w)) (n + 1) ≡ waitingOf g w ∷ waitingList g wholes reals n
+list-new g wholes reals n w h k =
+    ap (waitingList g (set wholes n (wholesOf w)) (set reals n (realsOf w))) (add-one n)
+    ∙ ap (λ z. waitingOf g z ∷ waitingList g (set wholes n (wholesOf w)) (set reals n (realsOf w)) n) (waiting-new wholes reals n w h k)
+    ∙ ap (λ z. waitingOf g w ∷ z) (list-kept g wholes reals n n (wholesOf w) (realsOf w) (le-refl n))
 
 laid-kept : (wholes : List (List ℕ)) (reals : List (List Float)) (n m high : ℕ) (w : List ℕ) (r : List Float) → m ≤ n → Laid wholes reals high m → Laid (set wholes n w) (set reals n r) high m
 laid-kept wholes reals n zero high w r h l = tt
 laid-kept wholes reals n (suc m) high w r h l =
-    subst (λ (z : WaitingNode). (m ≤ z .start) × (z .start ≤ z .end) × (z .end ≤ high) × Laid (set wholes n w) (set reals n r) (z .start) m) (sym (wait-kept wholes reals n m w r h))
-    (l .0, l .1, l .2, laid-kept wholes reals n m (waitAt wholes reals m .start) w r (less m n h) (l .3))
+    subst (λ (z : WaitingNode). (m ≤ z .start) × (z .start ≤ z .end) × (z .end ≤ high) × Laid (set wholes n w) (set reals n r) (z .start) m) (sym (waiting-kept wholes reals n m w r h))
+    (l .0, l .1, l .2, laid-kept wholes reals n m (waitingAt wholes reals m .start) w r (less m n h) (l .3))
   where
     less : (m n : ℕ) → suc m ≤ n → m ≤ n
     less m n h = omega arith
@@ -67,11 +72,13 @@ pub laid-more : (wholes : List (List ℕ)) (reals : List (List Float)) (n low hi
 laid-more wholes reals zero low high h l = tt
 laid-more wholes reals (suc m) low high h l = (l .0, l .1, le-trans (l .2) h, l .3)
 
-laid-new : (wholes : List (List ℕ)) (reals : List (List Float)) (n low : ℕ) (w : WaitingNode) → n < length wholes → n < length reals → Laid wholes reals low n → n ≤ w .start → low ≤ w .start → w .start ≤ w .end
+laid-new : (wholes : List (List ℕ)) (reals : List (List Float)) (n low : ℕ) (w : WaitingNode) → n < length wholes → n < length reals → Laid wholes reals low n
+    → n ≤ w .start → low ≤ w .start → w .start ≤ w .end
     → Laid (set wholes n (wholesOf w)) (set reals n (realsOf w)) (w .end) (n + 1)
 laid-new wholes reals n low w h k l a b c =
     subst (Laid (set wholes n (wholesOf w)) (set reals n (realsOf w)) (w .end)) (sym (add-one n))
-    (subst (λ (z : WaitingNode). (n ≤ z .start) × (z .start ≤ z .end) × (z .end ≤ w .end) × Laid (set wholes n (wholesOf w)) (set reals n (realsOf w)) (z .start) n) (sym (wait-new wholes reals n w h k))
+    (subst (λ (z : WaitingNode). (n ≤ z .start) × (z .start ≤ z .end) × (z .end ≤ w .end) × Laid (set wholes n (wholesOf w)) (set reals n (realsOf w))
+    (z .start) n) (sym (waiting-new wholes reals n w h k))
     (a, c, le-refl (w .end), laid-kept wholes reals n n (w .start) (wholesOf w) (realsOf w) (le-refl n) (laid-more wholes reals n low (w .start) b l)))
 
 module _ (wholes : List (List ℕ)) (reals : List (List Float)) (n node level a e : ℕ) (q : Side) (d : Drawn) where
@@ -87,58 +94,55 @@ module _ (wholes : List (List ℕ)) (reals : List (List Float)) (n node level a 
       subst (λ z. PushDone wholes reals wholes reals n node level a e q d z (Goes (record { waiting = n; drawn = k }))) (sym (er ∙ ap (λ z. S.Goes z k) eh))
       (record { same = λ g W M. refl; laid = λ low l x y z. laid-more wholes reals n low e (le-trans y z) l; most = omega arith; fair = λ W f. f })
 
-  abbrev newWait : Cut → WaitingNode
-  newWait c =
+  abbrev newWaiting : Cut → WaitingNode
+  newWaiting c =
       record { node = node; start = a; end = e; level = level; count = q .count; feature = c .feature; sum = q .totals .sum; mass = q .totals .mass; cut = c .threshold }
 
-  pub push-cut : n < length wholes → n < length reals → {r : Search} {h : Held} {c : Cut} {p : Float} {k : Drawn} → r ≡ S.Goes h k → h ≡ Holds c p → {wholes′ : List (List ℕ)} {reals′ : List (List Float)}
-      → wholes′ ≡ set wholes n (wholesOf (newWait c)) → reals′ ≡ set reals n (realsOf (newWait c)) → PushDone wholes reals wholes′ reals′ n node level a e q d r (Goes (record { waiting = n + 1; drawn = k }))
+  pub push-cut : n < length wholes → n < length reals → {r : Search} {h : Held} {c : Cut} {p : Float} {k : Drawn} → r ≡ S.Goes h k → h ≡ Holds c p
+      → {wholes′ : List (List ℕ)} {reals′ : List (List Float)}
+      → wholes′ ≡ set wholes n (wholesOf (newWaiting c)) → reals′ ≡ set reals n (realsOf (newWaiting c))
+      → PushDone wholes reals wholes′ reals′ n node level a e q d r (Goes (record { waiting = n + 1; drawn = k }))
   unfolding bind joins
   push-cut hw hr {r} {h} {c} {p} {k} eg eh {wholes′} {reals′} ew er =
       subst (λ z. PushDone wholes reals wholes′ reals′ n node level a e q d z (Goes (record { waiting = n + 1; drawn = k }))) (sym (eg ∙ ap (λ z. S.Goes z k) eh))
       (subst (λ z. PushDone wholes reals z reals′ n node level a e q d (S.Goes (Holds c p) k) (Goes (record { waiting = n + 1; drawn = k }))) (sym ew)
-      (subst (λ z. PushDone wholes reals (set wholes n (wholesOf (newWait c))) z n node level a e q d (S.Goes (Holds c p) k) (Goes (record { waiting = n + 1; drawn = k }))) (sym er)
+      (subst (λ z. PushDone wholes reals (set wholes n (wholesOf (newWaiting c))) z n node level a e q d (S.Goes (Holds c p) k) (Goes (record { waiting = n + 1; drawn = k }))) (sym er)
       (record {
-        same = λ g W M. ap (λ z. ok (z, drawsAt W M k)) (sym (stack-new g wholes reals n (newWait c) hw hr));
-        laid = λ low l x y z. laid-new wholes reals n low (newWait c) hw hr l x y z;
+        same = λ g W M. ap (λ z. ok (z, drawsAt W M k)) (sym (list-new g wholes reals n (newWaiting c) hw hr));
+        laid = λ low l x y z. laid-new wholes reals n low (newWaiting c) hw hr l x y z;
         most = le-refl (n + 1);
         fair = λ W f. f;
       })))
 
 -- ---- a child is searched
 
-pub bind-through : {A B C : Type 0} (m : Out A) (f : A → B) (k : B → Out C) → bind (bind m (λ o. ok (f o))) k ≡ bind m (λ o. k (f o))
-unfolding bind
-bind-through (bad n) f k = refl
-bind-through (ok a) f k = refl
-
 pub node-at : (rows features : ℕ) (t : Tables) (order : List ℕ) (n a e : ℕ) {a′ e′ : ℕ} → a′ ≡ a → e′ ≡ e → NodeAsks rows features a e t order n → NodeAsks rows features a′ e′ t order n
 node-at rows features t order n a e {a′} {e′} ea ee h = subst (λ z. NodeAsks rows features z e′ t order n) (sym ea) (subst (λ z. NodeAsks rows features a z t order n) (sym ee) h)
 
 module _ (g : Ground) (P : Params) (W : List ℕ) (M : List Float) (wholes : List (List ℕ)) (reals : List (List Float)) (node level a e : ℕ) (q : Side) (s : Stand) where
   abbrev asked : NodeRows
-  asked = nodeTask g a e q
+  asked = nodeRows g a e q
 
   pub ask-not : searchable P level (bare q) ≡ false → Fair W (s .drawn) → ChildDone g P W M wholes reals wholes reals node level a e q s (Goes s)
   unfolding searchable searchIf bind
   ask-not h f =
       record {
-        same = ap (λ b. bind (searchIf P (search (tape (P .features)) P) b node level asked (drawsAt W M (s .drawn))) (λ o. ok (o .0 ++ stackOf g wholes reals (s .waiting), o .1))) h;
+        same = ap (λ b. bind (searchIf P (search (tape (P .features)) P) b node level asked (drawsAt W M (s .drawn))) (λ o. ok (o .0 ++ waitingList g wholes reals (s .waiting), o .1))) h;
         laid = λ low l x y z. laid-more wholes reals (s .waiting) low e (le-trans y z) l;
         most = omega arith;
         fair = f;
       }
 
-  pub ask-goes : searchable P level (bare q) ≡ true → {a′ e′ : ℕ} → a′ ≡ a → e′ ≡ e → {r : Search} → Searched P W M (nodeTask g a′ e′ q) (s .drawn) r
+  pub ask-goes : searchable P level (bare q) ≡ true → {a′ e′ : ℕ} → a′ ≡ a → e′ ≡ e → {r : Search} → Searched P W M (nodeRows g a′ e′ q) (s .drawn) r
       → {wholes′ : List (List ℕ)} {reals′ : List (List Float)} {t : Step} → PushDone wholes reals wholes′ reals′ (s .waiting) node level a e q (s .drawn) r t
       → ChildDone g P W M wholes reals wholes′ reals′ node level a e q s t
   unfolding searchable searchIf
   ask-goes h {a′} {e′} ea ee {r} sd {wholes′} {reals′} {t} pd =
       record {
         same =
-            ap (λ b. bind (searchIf P (search (tape (P .features)) P) b node level asked (drawsAt W M (s .drawn))) (λ o. ok (o .0 ++ stackOf g wholes reals (s .waiting), o .1))) h
+            ap (λ b. bind (searchIf P (search (tape (P .features)) P) b node level asked (drawsAt W M (s .drawn))) (λ o. ok (o .0 ++ waitingList g wholes reals (s .waiting), o .1))) h
             ∙ bind-through (search (tape (P .features)) P (drawsAt W M (s .drawn)) asked) join next
-            ∙ ap (λ m. bind m (λ o. ok (joins node level asked (o .0) ++ stackOf g wholes reals (s .waiting), o .1))) (sym searched)
+            ∙ ap (λ m. bind m (λ o. ok (joins node level asked (o .0) ++ waitingList g wholes reals (s .waiting), o .1))) (sym searched)
             ∙ pd .same g W M;
         laid = λ low l x y z. pd .laid low l x y z;
         most = pd .most;
@@ -146,10 +150,12 @@ module _ (g : Ground) (P : Params) (W : List ℕ) (M : List Float) (wholes : Lis
       }
     where
       searched : meant W M (s .drawn) r ≡ search (tape (P .features)) P (drawsAt W M (s .drawn)) asked
-      searched = sd .same ∙ ap (λ z. search (tape (P .features)) P (drawsAt W M (s .drawn)) (nodeTask g z e′ q)) ea ∙ ap (λ z. search (tape (P .features)) P (drawsAt W M (s .drawn)) (nodeTask g a z q)) ee
+      searched =
+          sd .same ∙ ap (λ z. search (tape (P .features)) P (drawsAt W M (s .drawn)) (nodeRows g z e′ q)) ea
+          ∙ ap (λ z. search (tape (P .features)) P (drawsAt W M (s .drawn)) (nodeRows g a z q)) ee
 
       join : Found × Tapes → List Waiting × Tapes
       join o = (joins node level asked (o .0), o .1)
 
       next : List Waiting × Tapes → Out (List Waiting × Tapes)
-      next o = ok (o .0 ++ stackOf g wholes reals (s .waiting), o .1)
+      next o = ok (o .0 ++ waitingList g wholes reals (s .waiting), o .1)

@@ -1,46 +1,20 @@
 // A node of a tree that grows: the waiting list in two slices of arrays, six node columns, and work columns that are split in place.
 ghost use mathlib.Core.Path.{_≡_};
-ghost use mathlib.Core.Bool.{_||_};
 ghost use Prim.Native.Nat.{_+_, _<_};
 ghost use lib.ListN.{length};
-ghost use Rattle.rules.specs.Lent.{Columns};
-ghost use Rattle.rules.specs.Growth.{searchable};
+ghost use Rattle.rules.specs.Lent.{columnsOf};
 ghost use Rattle.rules.specs.Fit.{elementIn};
 ghost use Rattle.work_columns.specs.Split.{SplitAsks, SplitDone};
-ghost use Rattle.search.specs.Flat.{bare};
-ghost use Rattle.node_growth.specs.Rooms.{LongAll, PushDone, ChildAsks, ChildDone, cutOf, wroteSides, BothAsks, BothDone, SidesAsks, SidesDone};
+ghost use Rattle.node_entries.specs.Entries.{LongAll};
+ghost use Rattle.node_growth.specs.Rooms.{groundOf, PushDone, ChildAsks, ChildDone, cutOf, wroteSides, BothAsks, BothDone, SidesAsks, SidesDone};
 use criterion::Side;
+use node_entries::WaitingNode;
 use rules::Cut;
 use rules::Held;
 use rules::Params;
 use search::Drawn;
 use search::Search;
 use work_columns::Sides;
-
-pub mod nodes;
-
-// A node that waits: its number, where its rows lie, its level and count, its totals, and the cut that its search found.
-pub struct WaitingNode {
-    pub node: u32,
-    pub start: u32,
-    pub end: u32,
-    pub level: u32,
-    pub count: u32,
-    pub feature: u32,
-    pub sum: f64,
-    pub mass: f64,
-    pub cut: f64,
-}
-
-// A node as it stands in the six columns.
-pub struct Row {
-    pub value: f64,
-    pub feature: u32,
-    pub threshold: f64,
-    pub score: f64,
-    pub truechild: u32,
-    pub falsechild: u32,
-}
 
 // How many wait, and how far the tapes are used.
 pub struct Stand {
@@ -91,7 +65,7 @@ pub fn push_found(
                 mass: t.mass,
                 cut: c.threshold,
             };
-            crate::nodes::push(wholes, reals, n, w);
+            node_entries::push(wholes, reals, n, w);
             Step::Goes(Stand {
                 waiting: n + 1,
                 drawn: e,
@@ -100,18 +74,10 @@ pub fn push_found(
     }
 }
 
-// Whether a node is searched: its level is below the limit, and its count reaches the least split.
-fn is_searched(p: Params, level: u32, a: Side) -> bool
-    ensures { λ r. ⌜ r ≡ searchable p level (bare a) ⌝ }
-{
-    if level < p.limit {
-        return p.split <= a.count;
-    }
-    false
-}
-
 // What the search of a child finds joins the waiting list.
 pub fn search_child(
+    wholes: &mut [[u32; 6]],
+    reals: &mut [[f64; 3]],
     values: &[f64],
     targets: &[f64],
     weights: &[f64],
@@ -119,8 +85,6 @@ pub fn search_child(
     order: &[u32],
     words: &[u32],
     thresholds: &[f64],
-    wholes: &mut [[u32; 6]],
-    reals: &mut [[f64; 3]],
     rows: usize,
     features: usize,
     p: Params,
@@ -131,11 +95,15 @@ pub fn search_child(
     a: Side,
     s: Stand,
 ) -> Step
-    requires { ⌜ ChildAsks (record { rows = rows; features = features; tables = (record { values = now values; targets = now targets; weights = now weights; counts = now counts }); order = now order }) p (now words) from to a s (length (now wholes)) (length (now reals)) ⌝ }
-    ensures { λ r. ⌜ ChildDone (record { rows = rows; features = features; tables = (record { values = now (values .entry); targets = now (targets .entry); weights = now (weights .entry); counts = now (counts .entry) }); order = now (order .entry) }) p (now (words .entry)) (now (thresholds .entry)) (now (wholes .entry)) (now (reals .entry)) (now (wholes .exit)) (now (reals .exit)) node level from to a s r ⌝ }
+    requires { ⌜
+        ChildAsks (groundOf rows features (now values) (now targets) (now weights) (now counts) (now order)) p (now words) from to a s (length (now wholes))
+        (length (now reals)) ⌝ }
+    ensures { λ r. ⌜
+        ChildDone (groundOf rows features (now (values .entry)) (now (targets .entry)) (now (weights .entry)) (now (counts .entry)) (now (order .entry))) p
+        (now (words .entry)) (now (thresholds .entry)) (now (wholes .entry)) (now (reals .entry)) (now (wholes .exit)) (now (reals .exit)) node level from to a s r ⌝ }
 {
     let d = s.drawn;
-    if is_searched(p, level, a) {
+    if candidates::is_searched(p, level, a) {
         let r = search::search_node(
             values,
             targets,
@@ -159,11 +127,6 @@ pub fn search_child(
 
 // A node's split: its rows get their flags, and the node and its children are written. The score takes totals that are added up afresh.
 pub fn split_node(
-    values: &[f64],
-    targets: &[f64],
-    weights: &[f64],
-    counts: &[u32],
-    order: &[u32],
     flags: &mut [bool],
     value: &mut [f64],
     feature: &mut [u32],
@@ -171,15 +134,25 @@ pub fn split_node(
     score: &mut [f64],
     truechild: &mut [u32],
     falsechild: &mut [u32],
+    values: &[f64],
+    targets: &[f64],
+    weights: &[f64],
+    counts: &[u32],
+    order: &[u32],
     rows: usize,
     features: usize,
     w: WaitingNode,
     n: u32,
 ) -> Sides
     requires { ⌜ SplitAsks rows features (w .start) (w .end) (now values) (now targets) (now weights) (now counts) (cutOf w) (now order) (length (now flags)) ⌝ }
-    requires { ⌜ LongAll (n + 2) (record { value = now (value); feature = now (feature); threshold = now (threshold); score = now (score); trueChild = now (truechild); falseChild = now (falsechild) }) × (w .node < n) × (n + 2 < 4294967296) ⌝ }
-    ensures { λ s. ⌜ SplitDone rows (w .start) (w .end) (elementIn features (now (values .entry)) (now (targets .entry)) (now (weights .entry)) (now (counts .entry))) (cutOf w) (now (order .entry)) (now (flags .exit)) s ⌝ }
-    ensures { λ s. ⌜ _≡_ {A = Columns} (record { value = now (value .exit); feature = now (feature .exit); threshold = now (threshold .exit); score = now (score .exit); trueChild = now (truechild .exit); falseChild = now (falsechild .exit) }) (wroteSides w s n (record { value = now (value .entry); feature = now (feature .entry); threshold = now (threshold .entry); score = now (score .entry); trueChild = now (truechild .entry); falseChild = now (falsechild .entry) })) ⌝ }
+    requires { ⌜
+        LongAll (n + 2) (columnsOf (now value) (now feature) (now threshold) (now score) (now truechild) (now falsechild)) × (w .node < n) × (n + 2 < 4294967296) ⌝ }
+    ensures { λ s. ⌜
+        SplitDone rows (w .start) (w .end) (elementIn features (now (values .entry)) (now (targets .entry)) (now (weights .entry)) (now (counts .entry))) (cutOf w)
+        (now (order .entry)) (now (flags .exit)) s ⌝ }
+    ensures { λ s. ⌜
+        columnsOf (now (value .exit)) (now (feature .exit)) (now (threshold .exit)) (now (score .exit)) (now (truechild .exit)) (now (falsechild .exit))
+        ≡ wroteSides w s n (columnsOf (now (value .entry)) (now (feature .entry)) (now (threshold .entry)) (now (score .entry)) (now (truechild .entry)) (now (falsechild .entry))) ⌝ }
 {
     let c = Cut {
         feature: w.feature,
@@ -204,7 +177,7 @@ pub fn split_node(
     let t = a.totals;
     let f = b.totals;
     let q = criterion::score_of(t, f, all.mass);
-    crate::nodes::write_split(
+    node_entries::write_split(
         value,
         feature,
         threshold,
@@ -222,6 +195,8 @@ pub fn split_node(
 
 // Both children are searched, the true one first.
 pub fn search_both(
+    wholes: &mut [[u32; 6]],
+    reals: &mut [[f64; 3]],
     values: &[f64],
     targets: &[f64],
     weights: &[f64],
@@ -229,8 +204,6 @@ pub fn search_both(
     order: &[u32],
     words: &[u32],
     thresholds: &[f64],
-    wholes: &mut [[u32; 6]],
-    reals: &mut [[f64; 3]],
     rows: usize,
     features: usize,
     p: Params,
@@ -243,10 +216,16 @@ pub fn search_both(
     b: Side,
     s: Stand,
 ) -> Step
-    requires { ⌜ BothAsks (record { rows = rows; features = features; tables = (record { values = now values; targets = now targets; weights = now weights; counts = now counts }); order = now order }) p (now words) node from mid to a b s (length (now wholes)) (length (now reals)) ⌝ }
-    ensures { λ r. ⌜ BothDone (record { rows = rows; features = features; tables = (record { values = now (values .entry); targets = now (targets .entry); weights = now (weights .entry); counts = now (counts .entry) }); order = now (order .entry) }) p (now (words .entry)) (now (thresholds .entry)) (now (wholes .entry)) (now (reals .entry)) (now (wholes .exit)) (now (reals .exit)) node level from mid to a b s r ⌝ }
+    requires { ⌜
+        BothAsks (groundOf rows features (now values) (now targets) (now weights) (now counts) (now order)) p (now words) node from mid to a b s (length (now wholes))
+        (length (now reals)) ⌝ }
+    ensures { λ r. ⌜
+        BothDone (groundOf rows features (now (values .entry)) (now (targets .entry)) (now (weights .entry)) (now (counts .entry)) (now (order .entry))) p
+        (now (words .entry)) (now (thresholds .entry)) (now (wholes .entry)) (now (reals .entry)) (now (wholes .exit)) (now (reals .exit)) node level from mid to a b s r ⌝ }
 {
     let r = search_child(
+        wholes,
+        reals,
         values,
         targets,
         weights,
@@ -254,8 +233,6 @@ pub fn search_both(
         order,
         words,
         thresholds,
-        wholes,
-        reals,
         rows,
         features,
         p,
@@ -269,6 +246,8 @@ pub fn search_both(
     match r {
         Step::Refused(k) => Step::Refused(k),
         Step::Goes(t) => search_child(
+            wholes,
+            reals,
             values,
             targets,
             weights,
@@ -276,8 +255,6 @@ pub fn search_both(
             order,
             words,
             thresholds,
-            wholes,
-            reals,
             rows,
             features,
             p,
@@ -291,17 +268,12 @@ pub fn search_both(
     }
 }
 
-fn either_searched(p: Params, level: u32, a: Side, b: Side) -> bool
-    ensures { λ r. ⌜ r ≡ (searchable p level (bare a) || searchable p level (bare b)) ⌝ }
-{
-    if is_searched(p, level, a) {
-        return true;
-    }
-    is_searched(p, level, b)
-}
-
 // The children of a node whose rows have their flags. Where neither is searched, nothing reads those rows again, and the columns stay as they are.
 pub fn search_sides(
+    order: &mut [u32],
+    scratch: &mut [u32],
+    wholes: &mut [[u32; 6]],
+    reals: &mut [[f64; 3]],
     values: &[f64],
     targets: &[f64],
     weights: &[f64],
@@ -309,10 +281,6 @@ pub fn search_sides(
     words: &[u32],
     thresholds: &[f64],
     flags: &[bool],
-    order: &mut [u32],
-    scratch: &mut [u32],
-    wholes: &mut [[u32; 6]],
-    reals: &mut [[f64; 3]],
     rows: usize,
     features: usize,
     p: Params,
@@ -321,13 +289,18 @@ pub fn search_sides(
     h: Sides,
     s: Stand,
 ) -> Step
-    requires { ⌜ SidesAsks (record { rows = rows; features = features; tables = (record { values = now values; targets = now targets; weights = now weights; counts = now counts }); order = now order }) p (now words) (length (now scratch)) (now flags) (now wholes) (now reals) w n h s ⌝ }
-    ensures { λ r. ⌜ SidesDone (record { rows = rows; features = features; tables = (record { values = now (values .entry); targets = now (targets .entry); weights = now (weights .entry); counts = now (counts .entry) }); order = now (order .entry) }) (record { rows = rows; features = features; tables = (record { values = now (values .entry); targets = now (targets .entry); weights = now (weights .entry); counts = now (counts .entry) }); order = now (order .exit) }) p (now (words .entry)) (now (thresholds .entry)) (now (wholes .entry)) (now (reals .entry)) (now (wholes .exit)) (now (reals .exit)) w n s r ⌝ }
+    requires { ⌜
+        SidesAsks (groundOf rows features (now values) (now targets) (now weights) (now counts) (now order)) p (now words) (length (now scratch)) (now flags) (now wholes)
+        (now reals) w n h s ⌝ }
+    ensures { λ r. ⌜
+        SidesDone (groundOf rows features (now (values .entry)) (now (targets .entry)) (now (weights .entry)) (now (counts .entry)) (now (order .entry)))
+        (groundOf rows features (now (values .entry)) (now (targets .entry)) (now (weights .entry)) (now (counts .entry)) (now (order .exit))) p (now (words .entry))
+        (now (thresholds .entry)) (now (wholes .entry)) (now (reals .entry)) (now (wholes .exit)) (now (reals .exit)) w n s r ⌝ }
 {
     let l = w.level + 1;
     let a = h.trueside;
     let b = h.falseside;
-    if either_searched(p, l, a, b) {
+    if candidates::either_searched(p, l, a, b) {
         work_columns::partition_columns(
             order,
             rows,
@@ -340,6 +313,8 @@ pub fn search_sides(
         );
         let mid = w.start + h.rows;
         return search_both(
+            wholes,
+            reals,
             values,
             targets,
             weights,
@@ -347,8 +322,6 @@ pub fn search_sides(
             order,
             words,
             thresholds,
-            wholes,
-            reals,
             rows,
             features,
             p,

@@ -2,39 +2,41 @@
 use Prim.Native.Nat.{ℕ, zero, suc, _+_, _-_, _*_, _<_, _≤_}
 use mathlib.Core.Path.{_≡_, refl}
 use mathlib.Core.Bool.{Bool, not, _||_, cond}
-use mathlib.Core.List.{List, [], map}
+use mathlib.Core.List.{List, map}
 use lib.ListN.{length, getD, drop}
 use lib.Dec.{ltb}
 use lib.Ieee.{Float, nan, le, eq}
 use Rattle.rules.specs.declared.Params.{Params}
 use Rattle.rules.specs.declared.Cut.{Cut}
 use Rattle.rules.specs.declared.Held.{Held}
-use Rattle.rules.specs.declared.Held.the-variants.{Nothing, Holds}
 use Rattle.rules.specs.declared.Sweep.{Sweep}
-use Rattle.rules.specs.Search.{Element, Column, NodeRows, at, candidateAt, step, tally, totalsOf, Tries, drawn, search, Found, found}
+use Rattle.rules.specs.Search.{Element, Column, NodeRows, at, candidateAt, step, tally, Tries, drawn, search, Found, found}
 use Rattle.rules.specs.Totals.{takeIn}
 use Rattle.rules.specs.Threshold.{thresholdBetween}
-use Rattle.rules.specs.Words.{nought}
 use Rattle.rules.specs.Draws.{Out, bad, ok, bind, Tapes, nextThreshold, tape}
 use Rattle.rules.specs.Fit.{elementIn}
 use Rattle.lemmas.specs.Work.{part, columnsAt}
 use Rattle.criterion.specs.declared.Side.{Side}
 use Rattle.criterion.specs.Sides.{joined}
+use Rattle.candidates.specs.Held.{bare, heldOf}
 use Rattle.search.specs.declared.Cell.{Cell}
 use Rattle.search.specs.declared.best.Run.{Run}
-use Rattle.search.specs.declared.best.Spot.{Spot}
 use Rattle.search.specs.declared.Drawn.{Drawn}
 use Rattle.search.specs.declared.Search.{Search}
 use Rattle.search.specs.declared.Search.the-variants as S
 use Rattle.search.specs.declared.Attempt.{Attempt}
 use Rattle.search.specs.declared.Attempt.the-variants.{Refused, Goes}
 
--- x lies row after row; no weights at all is an empty list
+-- values lie row after row; no weights at all is an empty list
 pub record Tables : Type 0 where
   pub values : List Float
   pub targets : List Float
   pub weights : List Float
   pub counts : List ℕ
+
+-- from slices
+abbrev pub tablesOf : List Float → List Float → List Float → List ℕ → Tables
+tablesOf values targets weights counts = record { values = values; targets = targets; weights = weights; counts = counts }
 
 pub record Shaped (rows features : ℕ) (t : Tables) : Type 0 where
   pub wide : length (t .values) ≡ rows * features
@@ -51,10 +53,6 @@ cellOf j e = record { count = e .count; mass = e .mass; target = e .target; valu
 -- each number of l is below n
 abbrev pub Below : ℕ → List ℕ → Type 0
 Below n l = (k : ℕ) → k < length l → getD l k 0 < n
-
--- a task of which only totals and count are searchable
-abbrev pub bare : Side → NodeRows
-bare a = record { columns = []; totals = a .totals; count = a .count }
 
 unfoldable pub stepIn : Params → Side → ℕ → Sweep → Cell → Sweep
 stepIn P a j w e =
@@ -76,16 +74,9 @@ tooFew P a k = ltb k (P .leaf) || ltb (a .count - k) (P .leaf)
 abbrev pub cutBetween : ℕ → Float → Float → Cut
 cutBetween j low high = record { feature = j; threshold = thresholdBetween low high }
 
--- what s holds, by the cuts that stand at each place, and the sweep that a run stands for
-unfoldable pub heldOf : (ℕ → Cut) → Spot → Held
-heldOf c s = cond (s .held) (Holds (c (s .place)) (s .proxy)) Nothing
-
+-- the sweep that a run stands for, by the cuts at each place
 abbrev pub sweepOf : (ℕ → Cut) → Run → Sweep
 sweepOf c r = record { before = r .before; count = r .count; last = r .last; best = heldOf c (r .spot) }
-
-abbrev pub earlierOf : Held → Cut
-earlierOf Nothing = record { feature = 0; threshold = nought }
-earlierOf (Holds c q) = c
 
 -- row r's value of feature j
 abbrev pub valueIn : ℕ → List Float → ℕ → ℕ → Float
@@ -123,8 +114,8 @@ unfoldable pub drawAt : Params → NodeRows → ℕ → Held → Column → Tape
 drawAt P node j h es d lo hi = bind (nextThreshold (d .thresholds) lo hi d) (λ m. ok (record { best = drawn P node j h es (m .0); left = m .1 }))
 
 -- ---- a node in the work columns
-abbrev pub taskAt : ℕ → ℕ → ℕ → ℕ → Tables → List ℕ → Side → NodeRows
-taskAt rows features a e t order q = record { columns = columnsAt (elementOf features t) rows features a e order; totals = q .totals; count = q .count }
+abbrev pub nodeRowsAt : ℕ → ℕ → ℕ → ℕ → Tables → List ℕ → Side → NodeRows
+nodeRowsAt rows features a e t order q = record { columns = columnsAt (elementOf features t) rows features a e order; totals = q .totals; count = q .count }
 
 -- what the search of a node asks
 pub record NodeAsks (rows features a e : ℕ) (t : Tables) (order : List ℕ) (count : ℕ) : Type 0 where

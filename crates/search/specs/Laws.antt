@@ -22,15 +22,18 @@ use Rattle.rules.specs.Lent.{valuesAt, countIn, massIn}
 use Rattle.rules.specs.Fit.{elementIn}
 use Rattle.criterion.specs.declared.Side.{Side}
 use Rattle.criterion.specs.Sides.{sideOn, joined}
+use Rattle.candidates.specs.Held.{bare}
 use Rattle.search.specs.declared.Cell.{Cell}
-use Rattle.search.specs.Flat.{Tables, elementOf, cellOf, bare, stepIn, step-cell, tooFew, cutBetween, sideStep}
+use Rattle.search.specs.Flat.{Tables, elementOf, cellOf, stepIn, step-cell, tooFew, cutBetween, sideStep}
 
 module _ (P : Params) (a : Side) (h : Held) (t : Totals) (k : ℕ) (c : Cut) where
   judge-by : (b : Bool) → tooFew P a k ≡ b → judge P (bare a) h t k c ≡ cond b h (better h c (proxy t (less (a .totals) t)))
   unfolding judge tooFew
   judge-by b e = go (ltb k (P .leaf)) ∙ ap (λ z. cond z h (better h c (proxy t (less (a .totals) t)))) e
     where
-      go : (z : Bool) → cond z h (cond (ltb (a .count - k) (P .leaf)) h (better h c (proxy t (less (a .totals) t)))) ≡ cond (z || ltb (a .count - k) (P .leaf)) h (better h c (proxy t (less (a .totals) t)))
+      go : (z : Bool)
+          → cond z h (cond (ltb (a .count - k) (P .leaf)) h (better h c (proxy t (less (a .totals) t)))) ≡ cond (z || ltb (a .count - k) (P .leaf)) h
+          (better h c (proxy t (less (a .totals) t)))
       go true = refl
       go false = refl
 

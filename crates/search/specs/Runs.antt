@@ -1,5 +1,5 @@
 -- The value of a run of equals, and the cuts by their places. Assumes nothing.
-use Prim.Native.Nat.{ℕ, zero, suc, _+_, _-_, _<_, _≤_}
+use Prim.Native.Nat.{ℕ, zero, suc, _+_, _-_, _<_}
 use native.Mathlib.Omega.{arith}
 use native.Mathlib.Numerals.{add-one}
 use mathlib.Core.Path.{_≡_, refl, sym, ap, _∙_, subst}
@@ -7,18 +7,17 @@ use mathlib.Core.Bool.{Bool, true, false, not, cond}
 use mathlib.Core.List.{List}
 use lib.ListN.{getD}
 use lib.Dec.{T}
-use lib.Ieee.{Float, binary64, ofBits, fits, lt, eq}
+use lib.Ieee.{Float, binary64, ofBits, fits, eq}
 use Rattle.floats.specs.Zero.{eq-same}
 use Rattle.rules.specs.declared.Cut.{Cut}
-use Rattle.rules.specs.declared.Held.{Held}
 use Rattle.rules.specs.declared.Held.the-variants.{Nothing, Holds}
-use Rattle.rules.specs.Search.{better}
 use Rattle.rules.specs.Threshold.{thresholdBetween}
 use Rattle.rules.specs.Words.{nought}
-use Rattle.search.specs.declared.best.Spot.{Spot}
+use Rattle.candidates.specs.declared.Spot.{Spot}
+use Rattle.candidates.specs.Held.{heldOf}
 use Rattle.search.specs.declared.Cell.{Cell}
 use Rattle.search.specs.Laws.{value-is}
-use Rattle.search.specs.Flat.{Tables, elementOf, cellOf, cutBetween, heldOf, earlierOf, valueIn, runAt, cutsIn}
+use Rattle.search.specs.Flat.{Tables, elementOf, cellOf, cutBetween, valueIn, runAt, cutsIn}
 
 module _ (v : ℕ → Float) (l : List ℕ) where
   pub run-next : (i : ℕ) → runAt v l (i + 1) ≡ cond (eq (v (getD l i 0)) (runAt v l i)) (runAt v l i) (v (getD l i 0))
@@ -62,29 +61,6 @@ module _ (f : ℕ) (t : Tables) (j : ℕ) (l : List ℕ) (i : ℕ) (h : j < f) {
 
   pub turn-run : {u : Float} → u ≡ cond (eq (e .value) z) z (e .value) → u ≡ runAt (valueIn f (t .values) j) l (i + 1)
   turn-run eu = eu ∙ (λ k. cond (eq (turn-value k) (ez k)) (ez k) (turn-value k)) ∙ sym (run-next (valueIn f (t .values) j) l i)
-
--- ---- a candidate against what is held
-
-pub spot-held : {h : Held} {b : Cut} {q : Float} → h ≡ Holds b q → {z : Cut} → z ≡ earlierOf h → Holds z q ≡ h
-spot-held {h} {b} {q} e g = ap (λ w. Holds w q) (g ∙ ap earlierOf e) ∙ sym e
-
-module _ (s : Spot) (place : ℕ) (q : Float) where
-  pub better-held : s .held ≡ true → {n : ℕ} {g : Float} → n ≡ cond (lt (s .proxy) q) place (s .place) → g ≡ cond (lt (s .proxy) q) q (s .proxy) → (c : ℕ → Cut) → Holds (c n) g ≡ better (heldOf c s) (c place) q
-  unfolding better heldOf
-  better-held h en eg c =
-      (λ i. Holds (c (en i)) (eg i)) ∙ go (lt (s .proxy) q) ∙ sym (ap (λ b. better (cond b (Holds (c (s .place)) (s .proxy)) Nothing) (c place) q) h)
-    where
-      go : (b : Bool) → Holds (c (cond b place (s .place))) (cond b q (s .proxy)) ≡ cond b (Holds (c place) q) (Holds (c (s .place)) (s .proxy))
-      go true = refl
-      go false = refl
-
-  pub better-none : s .held ≡ false → (c : ℕ → Cut) → Holds (c place) q ≡ better (heldOf c s) (c place) q
-  unfolding better heldOf
-  better-none h c = sym (ap (λ b. better (cond b (Holds (c (s .place)) (s .proxy)) Nothing) (c place) q) h)
-
-pub place-most : (b : Bool) (n m : ℕ) {k : ℕ} → k ≡ cond b n m → m ≤ n → k ≤ n
-place-most true n m e h = omega (arith, e)
-place-most false n m e h = omega (arith, e, h)
 
 -- ---- what is held once the column is swept
 

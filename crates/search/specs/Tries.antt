@@ -15,13 +15,14 @@ use Rattle.rules.specs.declared.Params.{Params}
 use Rattle.rules.specs.declared.Held.{Held}
 use Rattle.rules.specs.declared.Held.the-variants.{Nothing}
 use Rattle.rules.specs.declared.Sweep.{Sweep}
-use Rattle.rules.specs.Search.{Element, Column, NodeRows, at, judge, candidateAt, step, sweep, bestIn, totalsOf, trueSide, Tries, drawn, drawIn, randomIn, tryOne, tryAll, final, search, found, Found}
+use Rattle.rules.specs.Search.{Element, Column, NodeRows, at, judge, candidateAt, step, sweep, bestIn, trueSide, Tries, drawn, drawIn, randomIn, tryOne, tryAll, final, search, found, Found}
 use Rattle.rules.specs.Words.{member, fresh, eachOnce}
 use Rattle.rules.specs.Totals.{takeIn, empty}
 use Rattle.rules.specs.Draws.{Out, bad, ok, bind, Tapes, tape, nextThreshold, takeThreshold, takeWords}
 use Rattle.criterion.specs.declared.Side.{Side}
 use Rattle.criterion.specs.Sides.{sideOn}
-use Rattle.search.specs.Flat.{Tables, elementOf, bare, left, meantTries, drawAt, taskAt, drawsAt, Fair, Searched}
+use Rattle.candidates.specs.Held.{bare}
+use Rattle.search.specs.Flat.{Tables, elementOf, left, meantTries, drawAt, nodeRowsAt, drawsAt, Fair, Searched}
 use Rattle.search.specs.declared.Drawn.{Drawn}
 use Rattle.search.specs.declared.Search.the-variants as S
 use lib.Seq.{take-take, drop-drop}
@@ -49,22 +50,18 @@ module _ (P : Params) (a : Side) (j : ℕ) (h : Held) (es : Column) (W : List �
       sym (ap (λ l. bind (nextThreshold l lo hi (left W M s m)) goOn) (drop-cons M m nan k)
       ∙ ap (λ z. bind (takeThreshold z (getD M m nan) (drop (suc m) M) (left W M s m)) goOn) e)
 
-  pub draw-low : m < length M → le lo (getD M m nan) ≡ false → bad s ≡ drawAt P (bare a) j h es (left W M s m) lo hi
+  pub draw-out : m < length M → (le lo (getD M m nan) && lt (getD M m nan) hi) ≡ false → bad s ≡ drawAt P (bare a) j h es (left W M s m) lo hi
   unfolding takeThreshold bind
-  draw-low k e = draw-by k false (ap (λ z. z && lt (getD M m nan) hi) e)
+  draw-out k e = draw-by k false e
 
-  pub draw-high : m < length M → le lo (getD M m nan) ≡ true → lt (getD M m nan) hi ≡ false → bad s ≡ drawAt P (bare a) j h es (left W M s m) lo hi
-  unfolding takeThreshold bind
-  draw-high k d e = draw-by k false (ap (λ z. z && lt (getD M m nan) hi) d ∙ e)
-
-  pub draw-good : m < length M → le lo (getD M m nan) ≡ true → lt (getD M m nan) hi ≡ true → {q : Side} {b : Held}
+  pub draw-good : m < length M → (le lo (getD M m nan) && lt (getD M m nan) hi) ≡ true → {q : Side} {b : Held}
       → q ≡ sideOn (trueSide (record { feature = j; threshold = getD M m nan }) es) → b ≡ judge P (bare a) h (q .totals) (q .count) (record { feature = j; threshold = getD M m nan })
       → meantTries W M s (Goes b (m + 1)) ≡ drawAt P (bare a) j h es (left W M s m) lo hi
   unfolding takeThreshold bind drawn
-  draw-good k d e {q} {b} eq′ eb =
+  draw-good k e {q} {b} eq′ eb =
       ap (λ z. meantTries W M s (Goes z (m + 1))) (eb ∙ ap (λ (z : Side). judge P (bare a) h (z .totals) (z .count) (record { feature = j; threshold = getD M m nan })) eq′)
       ∙ ap (λ n. ok (record { best = drawn P (bare a) j h es (getD M m nan); left = left W M s n })) (add-one m)
-      ∙ draw-by k true (ap (λ z. z && lt (getD M m nan) hi) d ∙ e)
+      ∙ draw-by k true e
 
 -- ---- the random splitter
 
@@ -86,7 +83,8 @@ module _ (el : ℕ → Element) (P : Params) (a : Side) (j : ℕ) (h : Held) (W 
   random-by [] n lo hi el′ eh b e q k = absurd (n refl)
   random-by (x ∷ l) n lo hi el′ eh b e q k =
       k (el x) (map el l) refl (sym el′) last
-      ∙ sym (ap (λ z. drawIn (tape (P .features)) z P (bare a) j (record { best = h; left = left W M s m }) (el x) (map el l)) (ap (λ z. lt z (at j (final (el x) (map el l)))) (sym el′) ∙ ap (lt lo) last ∙ e))
+      ∙ sym (ap (λ z. drawIn (tape (P .features)) z P (bare a) j (record { best = h; left = left W M s m }) (el x) (map el l)) (ap (λ z. lt z (at j (final (el x)
+      (map el l)))) (sym el′) ∙ ap (lt lo) last ∙ e))
     where
       less-one : (n : ℕ) → suc n - 1 ≡ n
       less-one n = omega arith
@@ -153,26 +151,27 @@ part-is rows order a e k {k′} q h = ap (λ n. take n (drop (k′ * rows + a) o
     width b = omega arith
 
 module _ (rows features from′ to : ℕ) (t : Tables) (order : List ℕ) (a : Side) (P : Params) (j : ℕ) (hj : j < features) where
-  pub column-of : part rows j from′ to order ≡ part rows j from′ to order → map (elementOf features t) (part rows j from′ to order) ≡ getD (columnsAt (elementOf features t) rows features from′ to order) j []
+  pub column-of : part rows j from′ to order ≡ part rows j from′ to order
+      → map (elementOf features t) (part rows j from′ to order) ≡ getD (columnsAt (elementOf features t) rows features from′ to order) j []
   unfolding columnsAt
   column-of _ = sym (getD-from (λ k. map (elementOf features t) (part rows k from′ to order)) 0 features j [] hj ∙ ap (λ k. map (elementOf features t) (part rows k from′ to order)) (zero-add j))
 
   pub try-best : (h : Held) (d : Tapes) {l : List ℕ} {b : Held} → l ≡ part rows j from′ to order → b ≡ bestIn P (bare a) j h (map (elementOf features t) l)
-      → {k : Splitter} → k ≡ Best → ok (record { best = b; left = d }) ≡ tryOne (tape (P .features)) k P (taskAt rows features from′ to t order a) j (record { best = h; left = d })
+      → {k : Splitter} → k ≡ Best → ok (record { best = b; left = d }) ≡ tryOne (tape (P .features)) k P (nodeRowsAt rows features from′ to t order a) j (record { best = h; left = d })
   unfolding tryOne
   try-best h d {l} {b} el eb {k} ek =
       ap (λ z. ok (record { best = z; left = d }))
       (eb ∙ ap (λ z. bestIn P (bare a) j h (map (elementOf features t) z)) el ∙ ap (bestIn P (bare a) j h) (column-of refl)
       ∙ best-bare P a (columnsAt (elementOf features t) rows features from′ to order) j h (getD (columnsAt (elementOf features t) rows features from′ to order) j []))
-      ∙ ap (λ z. tryOne (tape (P .features)) z P (taskAt rows features from′ to t order a) j (record { best = h; left = d })) (sym ek)
+      ∙ ap (λ z. tryOne (tape (P .features)) z P (nodeRowsAt rows features from′ to t order a) j (record { best = h; left = d })) (sym ek)
 
   pub try-random : (r : Tries Tapes) {l : List ℕ} {q : Out (Tries Tapes)} → l ≡ part rows j from′ to order → q ≡ randomIn (tape (P .features)) P (bare a) j r (map (elementOf features t) l)
-      → {k : Splitter} → k ≡ Random → q ≡ tryOne (tape (P .features)) k P (taskAt rows features from′ to t order a) j r
+      → {k : Splitter} → k ≡ Random → q ≡ tryOne (tape (P .features)) k P (nodeRowsAt rows features from′ to t order a) j r
   unfolding tryOne
   try-random r {l} {q} el eb {k} ek =
       eb ∙ ap (λ z. randomIn (tape (P .features)) P (bare a) j r (map (elementOf features t) z)) el ∙ ap (randomIn (tape (P .features)) P (bare a) j r) (column-of refl)
       ∙ random-bare P a (columnsAt (elementOf features t) rows features from′ to order) j r (getD (columnsAt (elementOf features t) rows features from′ to order) j [])
-      ∙ ap (λ z. tryOne (tape (P .features)) z P (taskAt rows features from′ to t order a) j r) (sym ek)
+      ∙ ap (λ z. tryOne (tape (P .features)) z P (nodeRowsAt rows features from′ to t order a) j r) (sym ek)
 
 pub column-room : (rows features j : ℕ) {k : ℕ} → k ≡ j → j < features → k * rows + rows ≤ features * rows
 column-room rows features j {k} q h = subst (λ n. n * rows + rows ≤ features * rows) (sym q) (subst (λ n. n ≤ features * rows) (suc-mul j rows) (mul-le-mul-right rows h))
@@ -266,7 +265,9 @@ module _ (P : Params) (node : NodeRows) (M : List Float) (words : List ℕ) (p k
   abbrev here : Tries Tapes
   here = record { best = best; left = left W M s used }
 
-  tries-head : tryAll (tape (P .features)) P node (drop i (take k (drop p words))) here ≡ bind (tryOne (tape (P .features)) (P .splitter) P node (getD words (p + i) 0) here) (λ r. tryAll (tape (P .features)) P node (drop (suc i) (take k (drop p words))) r)
+  tries-head : tryAll (tape (P .features)) P node (drop i (take k (drop p words))) here ≡ bind
+      (tryOne (tape (P .features)) (P .splitter) P node (getD words (p + i) 0) here)
+      (λ r. tryAll (tape (P .features)) P node (drop (suc i) (take k (drop p words))) r)
   unfolding tryAll
   tries-head = ap (λ l. tryAll (tape (P .features)) P node l here) (choice-head k words p room i h)
 
@@ -282,7 +283,8 @@ module _ (P : Params) (node : NodeRows) (M : List Float) (words : List ℕ) (p k
       ap (λ j. tryAll (tape (P .features)) P node (drop j (take k (drop p words))) (record { best = b; left = left W M s n })) (add-one i)
       ∙ ap (λ m. bind m (λ r. tryAll (tape (P .features)) P node (drop (suc i) (take k (drop p words))) r)) (sym (ap (meantTries W M s) e) ∙ q) ∙ sym tries-head
 
-pub tries-end : (P : Params) (node : NodeRows) (words : List ℕ) (p k i : ℕ) → p + k ≤ length words → k ≤ i → (r : Tries Tapes) → ok r ≡ tryAll (tape (P .features)) P node (drop i (take k (drop p words))) r
+pub tries-end : (P : Params) (node : NodeRows) (words : List ℕ) (p k i : ℕ) → p + k ≤ length words → k ≤ i → (r : Tries Tapes)
+    → ok r ≡ tryAll (tape (P .features)) P node (drop i (take k (drop p words))) r
 unfolding tryAll
 tries-end P node words p k i room h r = sym (ap (λ l. tryAll (tape (P .features)) P node l r) (drop-of-length-le (take k (drop p words)) (subst (λ n. n ≤ i) (sym (choice-long k words p room)) h)))
 
@@ -333,13 +335,17 @@ module _ (P : Params) (W : List ℕ) (M : List Float) (node : NodeRows) (d : Dra
       (λ r. ok (found (r .best), tape (P .features) .done (r .left))) ≡ search (tape (P .features)) P (drawsAt W M d) node
   unfolding takeWords bind
   search-tries e =
-      ap (λ l. bind (tryAll (tape (P .features)) P node l (record { best = Nothing; left = left (drop n′ (drop (d .words) W)) M (d .searches) (d .thresholds) })) (λ r. ok (found (r .best), tape (P .features) .done (r .left))))
+      ap (λ l. bind (tryAll (tape (P .features)) P node l (record {
+        best = Nothing;
+        left = left (drop n′ (drop (d .words) W)) M (d .searches) (d .thresholds);
+      })) (λ r. ok (found (r .best), tape (P .features) .done (r .left))))
       (sym (take-take (min (P .tried) n′) n′ (drop (d .words) W) (omega arith)))
       ∙ search-by true e
 
   module _ (e : eachOnce n′ (take n′ (drop (d .words) W)) ≡ true) {k : ℕ} (ek : k ≡ min (P .tried) n′) (r : Attempt)
       (t : (U : List ℕ) (s : ℕ) → meantTries U M s r ≡ tryAll (tape (P .features)) P node (take k (drop (d .words) W)) (record { best = Nothing; left = left U M s (d .thresholds) })) where
-    search-meant : bind (meantTries (drop n′ (drop (d .words) W)) M (d .searches) r) (λ r. ok (found (r .best), tape (P .features) .done (r .left))) ≡ search (tape (P .features)) P (drawsAt W M d) node
+    search-meant : bind (meantTries (drop n′ (drop (d .words) W)) M (d .searches) r) (λ r. ok (found (r .best), tape (P .features) .done (r .left))) ≡ search
+        (tape (P .features)) P (drawsAt W M d) node
     search-meant =
         ap (λ m. bind m (λ r. ok (found (r .best), tape (P .features) .done (r .left))))
         (t (drop n′ (drop (d .words) W)) (d .searches)
@@ -348,7 +354,15 @@ module _ (P : Params) (W : List ℕ) (M : List Float) (node : NodeRows) (d : Dra
 
     pub search-stop : r ≡ Refused → Searched P W M node d S.Refused
     unfolding bind
-    search-stop q = record { same = sym (ap (λ z. bind (meantTries (drop n′ (drop (d .words) W)) M (d .searches) z) (λ r. ok (found (r .best), tape (P .features) .done (r .left)))) q) ∙ search-meant; fair = tt }
+    search-stop q =
+        record {
+          same = sym (ap (λ z. bind (meantTries (drop n′ (drop (d .words) W)) M (d .searches) z) (λ r. ok (
+            found (r .best),
+            tape (P .features) .done
+                (r .left),
+          ))) q) ∙ search-meant;
+          fair = tt;
+        }
 
     pub search-goes : (h : Held) (m : ℕ) → r ≡ Goes h m → (n : ℕ) → n ≡ n′ → d .words + n ≤ length W → 0 < n
         → Searched P W M node d (S.Goes h (record { words = d .words + n; thresholds = m; searches = d .searches + 1 }))

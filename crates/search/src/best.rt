@@ -4,10 +4,12 @@ ghost use mathlib.Core.Bool.{cond};
 ghost use mathlib.Core.List.{map};
 ghost use Prim.Native.Nat.{ℕ, _+_, _≤_, _<_};
 ghost use lib.ListN.{length, getD};
-ghost use lib.Ieee.{lt, eq};
-ghost use Rattle.rules.specs.Search.{better, judge, sweep, tally, bestIn};
-ghost use Rattle.search.specs.Flat.{Shaped, Below, elementOf, bare, stepIn, cutBetween, heldOf, sweepOf, earlierOf, valueIn, runAt, cutsIn, Readable};
+ghost use lib.Ieee.{eq};
+ghost use Rattle.rules.specs.Search.{judge, sweep, tally, bestIn};
+ghost use Rattle.candidates.specs.Held.{bare, heldOf};
+ghost use Rattle.search.specs.Flat.{tablesOf, Shaped, Below, elementOf, stepIn, cutBetween, sweepOf, valueIn, runAt, cutsIn, Readable};
 use crate::Cell;
+use candidates::Spot;
 use criterion::Side;
 use criterion::take_in;
 use criterion::threshold_of;
@@ -16,99 +18,12 @@ use rules::Held;
 use rules::Params;
 use rules::Totals;
 
-// What is held, by what decides: whether there is a cut, its proxy, and its place: 0 if it is an earlier column's, else one more than the place of the first row past it.
-// A place is chosen without a branch, which the values beside it could not be; they are read again after the column.
-pub struct Spot {
-    pub held: bool,
-    pub proxy: f64,
-    pub place: usize,
-}
-
 // What is carried along a column: the rows before by totals and count, the value of the run of equals, what is held.
 pub struct Run {
     pub before: Totals,
     pub count: u32,
     pub last: f64,
     pub spot: Spot,
-}
-
-pub fn spot_of(h: Held) -> Spot
-    ensures { λ r. ⌜ (r .place ≡ 0) × ((c : ℕ → Cut) → c 0 ≡ earlierOf h → heldOf c r ≡ h) ⌝ }
-{
-    match h {
-        Held::Nothing => Spot {
-            held: false,
-            proxy: 0.0,
-            place: 0,
-        },
-        Held::Holds(_, q) => Spot {
-            held: true,
-            proxy: q,
-            place: 0,
-        },
-    }
-}
-
-// The cut that was held before the column.
-pub fn earlier_of(h: Held) -> Cut
-    ensures { λ r. ⌜ r ≡ earlierOf h ⌝ }
-{
-    match h {
-        Held::Nothing => Cut {
-            feature: 0,
-            threshold: 0.0,
-        },
-        Held::Holds(c, _) => c,
-    }
-}
-
-// What is held, field by field: a copy of the whole would carry the bytes between its fields from row to row, through memory.
-pub fn anew(s: Spot) -> Spot
-    ensures { λ r. ⌜ r ≡ s ⌝ }
-{
-    Spot {
-        held: s.held,
-        proxy: s.proxy,
-        place: s.place,
-    }
-}
-
-// The greater proxy of two, the held one first.
-pub fn greater(p: f64, q: f64) -> f64
-    ensures { λ r. ⌜ r ≡ cond (lt p q) q p ⌝ }
-{
-    if p < q {
-        return q;
-    }
-    p
-}
-
-pub fn pick(b: bool, n: usize, m: usize) -> usize
-    ensures { λ r. ⌜ r ≡ cond b n m ⌝ }
-{
-    if b {
-        return n;
-    }
-    m
-}
-
-// A candidate at a place, of proxy q, against what is held.
-pub fn better_spot(s: Spot, place: usize, q: f64) -> Spot
-    requires { ⌜ s .place ≤ place ⌝ }
-    ensures { λ r. ⌜ (r .place ≤ place) × ((c : ℕ → Cut) → heldOf c r ≡ better (heldOf c s) (c place) q) ⌝ }
-{
-    if s.held {
-        return Spot {
-            held: true,
-            proxy: greater(s.proxy, q),
-            place: pick(s.proxy < q, place, s.place),
-        };
-    }
-    Spot {
-        held: true,
-        proxy: q,
-        place,
-    }
 }
 
 pub fn judge_spot(p: Params, a: Side, s: Spot, t: Totals, k: u32, place: usize) -> Spot
@@ -119,7 +34,7 @@ pub fn judge_spot(p: Params, a: Side, s: Spot, t: Totals, k: u32, place: usize) 
         return s;
     }
     let q = crate::proxy_in(a, t);
-    better_spot(s, place, q)
+    candidates::better_spot(s, place, q)
 }
 
 pub fn step_of(p: Params, a: Side, w: Run, e: Cell, place: usize) -> Run
@@ -127,7 +42,7 @@ pub fn step_of(p: Params, a: Side, w: Run, e: Cell, place: usize) -> Run
     ensures { λ r. ⌜ (r .spot .place ≤ place) × ((j : ℕ) (c : ℕ → Cut) → c place ≡ cutBetween j (w .last) (e .value) → sweepOf c r ≡ stepIn p a j (sweepOf c w) e) ⌝ }
 {
     let before = w.before;
-    let spot = anew(w.spot);
+    let spot = candidates::anew(w.spot);
     let n = w.count + e.count;
     let now = take_in(before, e.target, e.mass);
     if e.value == w.last {
@@ -162,10 +77,13 @@ pub fn sweep_column(
     w: Run,
 ) -> Run
     requires rows { ⌜ Below rows (now col) ⌝ }
-    requires shape { ⌜ Shaped rows features (record { values = now values; targets = now targets; weights = now weights; counts = now counts }) × (j < features) ⌝ }
-    requires room { ⌜ w .count + tally (map (elementOf features (record { values = now values; targets = now targets; weights = now weights; counts = now counts })) (now col)) ≤ a .count ⌝ }
+    requires shape { ⌜ Shaped rows features (tablesOf (now values) (now targets) (now weights) (now counts)) × (j < features) ⌝ }
+    requires room { ⌜ w .count + tally (map (elementOf features (tablesOf (now values) (now targets) (now weights) (now counts))) (now col)) ≤ a .count ⌝ }
     requires start { ⌜ (w .spot .place ≡ 0) × (w .last ≡ runAt (valueIn features (now values) j) (now col) 0) ⌝ }
-    ensures { λ r. ⌜ (r .spot .place ≤ length (now (col .entry))) × ((b : Cut) → let c = cutsIn features (now (values .entry)) j (now (col .entry)) b in sweepOf c r ≡ sweep p (bare a) j (sweepOf c w) (map (elementOf features (record { values = now (values .entry); targets = now (targets .entry); weights = now (weights .entry); counts = now (counts .entry) })) (now (col .entry)))) ⌝ }
+    ensures { λ r. ⌜
+        (r .spot .place ≤ length (now (col .entry))) ×
+        ((b : Cut) → let c = cutsIn features (now (values .entry)) j (now (col .entry)) b in sweepOf c r ≡ sweep p (bare a) j (sweepOf c w) (map (elementOf features
+        (tablesOf (now (values .entry)) (now (targets .entry)) (now (weights .entry)) (now (counts .entry)))) (now (col .entry)))) ⌝ }
 {
     let mut v = w;
     let mut i: usize = 0;
@@ -281,15 +199,17 @@ pub fn best_in(
     h: Held,
 ) -> Held
     requires rows { ⌜ Below rows (now col) ⌝ }
-    requires shape { ⌜ Shaped rows features (record { values = now values; targets = now targets; weights = now weights; counts = now counts }) × (j < features) ⌝ }
-    requires room { ⌜ tally (map (elementOf features (record { values = now values; targets = now targets; weights = now weights; counts = now counts })) (now col)) ≤ a .count ⌝ }
-    ensures { λ r. ⌜ r ≡ bestIn p (bare a) j h (map (elementOf features (record { values = now (values .entry); targets = now (targets .entry); weights = now (weights .entry); counts = now (counts .entry) })) (now (col .entry))) ⌝ }
+    requires shape { ⌜ Shaped rows features (tablesOf (now values) (now targets) (now weights) (now counts)) × (j < features) ⌝ }
+    requires room { ⌜ tally (map (elementOf features (tablesOf (now values) (now targets) (now weights) (now counts))) (now col)) ≤ a .count ⌝ }
+    ensures { λ r. ⌜
+        r ≡ bestIn p (bare a) j h
+        (map (elementOf features (tablesOf (now (values .entry)) (now (targets .entry)) (now (weights .entry)) (now (counts .entry)))) (now (col .entry))) ⌝ }
 {
     if col.len() == 0 {
         return h;
     }
     let first = value_here(values, col, rows, features, j, 0);
-    let spot = spot_of(h);
+    let spot = candidates::spot_of(h);
     let w = Run {
         before: Totals {
             sum: 0.0,
@@ -312,5 +232,13 @@ pub fn best_in(
         a,
         w,
     );
-    held_of(values, col, rows, features, j, earlier_of(h), v.spot)
+    held_of(
+        values,
+        col,
+        rows,
+        features,
+        j,
+        candidates::earlier_of(h),
+        v.spot,
+    )
 }

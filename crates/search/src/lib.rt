@@ -2,14 +2,15 @@
 ghost use mathlib.Core.Path.{_≡_};
 ghost use mathlib.Core.Bool.{false};
 ghost use mathlib.Core.List.{List};
-ghost use Prim.Native.Nat.{ℕ, _+_, _*_, _≤_, _<_, min};
+ghost use Prim.Native.Nat.{ℕ, _+_, _*_, _≤_, _<_};
 ghost use lib.ListN.{length, getD, take, drop};
 ghost use lib.Ieee.{nan};
 ghost use Rattle.rules.specs.Words.{eachOnce};
 ghost use Rattle.rules.specs.Draws.{tape};
 ghost use Rattle.rules.specs.Search.{judge, tryOne, tryAll};
 ghost use Rattle.rules.specs.Totals.{less, proxy};
-ghost use Rattle.search.specs.Flat.{Shaped, elementOf, cellOf, bare, tooFew, meantTries, left, NodeAsks, taskAt, Fair, Searched};
+ghost use Rattle.candidates.specs.Held.{bare};
+ghost use Rattle.search.specs.Flat.{tablesOf, Shaped, elementOf, cellOf, tooFew, meantTries, left, NodeAsks, nodeRowsAt, Fair, Searched};
 ghost use Rattle.rules.specs.declared.Held.the-variants.{Nothing};
 use criterion::Side;
 use criterion::better_of;
@@ -98,8 +99,8 @@ pub fn cell_of(
     j: usize,
     r: usize,
 ) -> Cell
-    requires { ⌜ Shaped rows features (record { values = now values; targets = now targets; weights = now weights; counts = now counts }) × (r < rows) × (j < features) ⌝ }
-    ensures { λ e. ⌜ e ≡ cellOf j (elementOf features (record { values = now (values .entry); targets = now (targets .entry); weights = now (weights .entry); counts = now (counts .entry) }) r) ⌝ }
+    requires { ⌜ Shaped rows features (tablesOf (now values) (now targets) (now weights) (now counts)) × (r < rows) × (j < features) ⌝ }
+    ensures { λ e. ⌜ e ≡ cellOf j (elementOf features (tablesOf (now (values .entry)) (now (targets .entry)) (now (weights .entry)) (now (counts .entry))) r) ⌝ }
 {
     let k = counts[r];
     let t = targets[r];
@@ -131,8 +132,14 @@ pub fn try_one(
     h: Held,
     m: usize,
 ) -> Attempt
-    requires { ⌜ NodeAsks rows features from to (record { values = now values; targets = now targets; weights = now weights; counts = now counts }) (now order) (a .count) × (j < features) ⌝ }
-    ensures { λ r. ⌜ ((W : List ℕ) (s : ℕ) → meantTries W (now (thresholds .entry)) s r ≡ tryOne (tape (p .features)) (p .splitter) p (taskAt rows features from to (record { values = now (values .entry); targets = now (targets .entry); weights = now (weights .entry); counts = now (counts .entry) }) (now (order .entry)) a) j (record { best = h; left = left W (now (thresholds .entry)) s m })) ⌝ }
+    requires { ⌜ NodeAsks rows features from to (tablesOf (now values) (now targets) (now weights) (now counts)) (now order) (a .count) × (j < features) ⌝ }
+    ensures { λ r. ⌜
+        ((W : List ℕ) (s : ℕ) → meantTries W (now (thresholds .entry)) s r ≡ tryOne (tape (p .features)) (p .splitter) p (nodeRowsAt rows features from to (tablesOf (now
+        (values .entry)) (now (targets .entry)) (now (weights .entry)) (now (counts .entry))) (now (order .entry)) a) j (record {
+          best = h;
+          left = left W (now (thresholds
+              .entry)) s m;
+        })) ⌝ }
 {
     let base = slices::wide(j) * rows;
     let lo = base + from;
@@ -225,9 +232,15 @@ pub fn try_all(
     k: usize,
     m: usize,
 ) -> Attempt
-    requires { ⌜ NodeAsks rows features from to (record { values = now values; targets = now targets; weights = now weights; counts = now counts }) (now order) (a .count) ⌝ }
+    requires { ⌜ NodeAsks rows features from to (tablesOf (now values) (now targets) (now weights) (now counts)) (now order) (a .count) ⌝ }
     requires { ⌜ (at + k ≤ length (now words)) × ((i : ℕ) → i < k → getD (now words) (at + i) 0 < features) ⌝ }
-    ensures { λ r. ⌜ ((W : List ℕ) (s : ℕ) → meantTries W (now (thresholds .entry)) s r ≡ tryAll (tape (p .features)) p (taskAt rows features from to (record { values = now (values .entry); targets = now (targets .entry); weights = now (weights .entry); counts = now (counts .entry) }) (now (order .entry)) a) (take k (drop at (now (words .entry)))) (record { best = Nothing; left = left W (now (thresholds .entry)) s m })) ⌝ }
+    ensures { λ r. ⌜
+        ((W : List ℕ) (s : ℕ) → meantTries W (now (thresholds .entry)) s r ≡ tryAll (tape (p .features)) p (nodeRowsAt rows features from to (tablesOf (now (values
+        .entry)) (now (targets .entry)) (now (weights .entry)) (now (counts .entry))) (now (order .entry)) a) (take k (drop at (now (words .entry)))) (record {
+          best =
+              Nothing;
+          left = left W (now (thresholds .entry)) s m;
+        })) ⌝ }
 {
     let mut best = Held::Nothing;
     let mut used = m;
@@ -278,8 +291,12 @@ pub fn search_node(
     a: Side,
     d: Drawn,
 ) -> Search
-    requires { ⌜ NodeAsks rows features from to (record { values = now values; targets = now targets; weights = now weights; counts = now counts }) (now order) (a .count) × (features ≡ p .features) × (features ≤ 1024) × (0 < features) × Fair (now words) d ⌝ }
-    ensures { λ r. ⌜ Searched p (now (words .entry)) (now (thresholds .entry)) (taskAt rows features from to (record { values = now (values .entry); targets = now (targets .entry); weights = now (weights .entry); counts = now (counts .entry) }) (now (order .entry)) a) d r ⌝ }
+    requires { ⌜
+        NodeAsks rows features from to (tablesOf (now values) (now targets) (now weights) (now counts)) (now order) (a .count) × (features ≡ p .features) ×
+        (features ≤ 1024) × (0 < features) × Fair (now words) d ⌝ }
+    ensures { λ r. ⌜
+        Searched p (now (words .entry)) (now (thresholds .entry))
+        (nodeRowsAt rows features from to (tablesOf (now (values .entry)) (now (targets .entry)) (now (weights .entry)) (now (counts .entry))) (now (order .entry)) a) d r ⌝ }
 {
     let at = d.words;
     if words.len() - at < features {

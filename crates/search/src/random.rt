@@ -5,7 +5,8 @@ ghost use Prim.Native.Nat.{ℕ, _+_, _≤_, _<_};
 ghost use Rattle.rules.specs.Draws.{tape};
 ghost use Rattle.rules.specs.Search.{tally, randomIn, trueSide};
 ghost use Rattle.criterion.specs.Sides.{sideOn};
-ghost use Rattle.search.specs.Flat.{Shaped, Below, elementOf, bare, sideStep, meantTries, left, drawAt};
+ghost use Rattle.candidates.specs.Held.{bare};
+ghost use Rattle.search.specs.Flat.{tablesOf, Shaped, Below, elementOf, sideStep, meantTries, left, drawAt};
 use crate::Attempt;
 use crate::Cell;
 use criterion::Side;
@@ -38,9 +39,12 @@ pub fn true_side(
     most: u32,
 ) -> Side
     requires rows { ⌜ Below rows (now col) ⌝ }
-    requires shape { ⌜ Shaped rows features (record { values = now values; targets = now targets; weights = now weights; counts = now counts }) × (j < features) ⌝ }
-    requires room { ⌜ tally (map (elementOf features (record { values = now values; targets = now targets; weights = now weights; counts = now counts })) (now col)) ≤ most ⌝ }
-    ensures { λ r. ⌜ (r ≡ sideOn (trueSide (record { feature = j; threshold = t }) (map (elementOf features (record { values = now (values .entry); targets = now (targets .entry); weights = now (weights .entry); counts = now (counts .entry) })) (now (col .entry))))) × (r .count ≤ most) ⌝ }
+    requires shape { ⌜ Shaped rows features (tablesOf (now values) (now targets) (now weights) (now counts)) × (j < features) ⌝ }
+    requires room { ⌜ tally (map (elementOf features (tablesOf (now values) (now targets) (now weights) (now counts))) (now col)) ≤ most ⌝ }
+    ensures { λ r. ⌜
+        (r ≡ sideOn (trueSide (record { feature = j; threshold = t }) (map (elementOf features (tablesOf (now (values .entry)) (now (targets .entry)) (now (weights
+        .entry)) (now (counts .entry)))) (now (col .entry)))))
+        × (r .count ≤ most) ⌝ }
 {
     let mut s = criterion::no_side();
     let mut i = 0;
@@ -80,43 +84,42 @@ pub fn draw_in(
     hi: f64,
 ) -> Attempt
     requires rows { ⌜ Below rows (now col) ⌝ }
-    requires shape { ⌜ Shaped rows features (record { values = now values; targets = now targets; weights = now weights; counts = now counts }) × (j < features) ⌝ }
-    requires room { ⌜ tally (map (elementOf features (record { values = now values; targets = now targets; weights = now weights; counts = now counts })) (now col)) ≤ a .count ⌝ }
-    ensures { λ r. ⌜ ((W : List ℕ) (s : ℕ) → meantTries W (now (thresholds .entry)) s r ≡ drawAt p (bare a) j h (map (elementOf features (record { values = now (values .entry); targets = now (targets .entry); weights = now (weights .entry); counts = now (counts .entry) })) (now (col .entry))) (left W (now (thresholds .entry)) s m) lo hi) ⌝ }
+    requires shape { ⌜ Shaped rows features (tablesOf (now values) (now targets) (now weights) (now counts)) × (j < features) ⌝ }
+    requires room { ⌜ tally (map (elementOf features (tablesOf (now values) (now targets) (now weights) (now counts))) (now col)) ≤ a .count ⌝ }
+    ensures { λ r. ⌜
+        ((W : List ℕ) (s : ℕ) → meantTries W (now (thresholds .entry)) s r ≡ drawAt p (bare a) j h (map (elementOf features (tablesOf (now (values .entry)) (now (targets
+        .entry)) (now (weights .entry)) (now (counts .entry)))) (now (col .entry))) (left W (now (thresholds .entry)) s m) lo hi) ⌝ }
 {
     if thresholds.len() <= m {
         return Attempt::Refused;
     }
     let t = thresholds[m];
-    if lo <= t {
-        if t < hi {
-            let s = true_side(
-                values,
-                targets,
-                weights,
-                counts,
-                col,
-                rows,
-                features,
-                j,
-                t,
-                a.count,
-            );
-            let side = s.totals;
-            let b = crate::judge_of(
-                p,
-                a,
-                h,
-                side,
-                s.count,
-                Cut {
-                    feature: j,
-                    threshold: t,
-                },
-            );
-            return Attempt::Goes(b, m + 1);
-        }
-        return Attempt::Refused;
+    if candidates::in_reach(lo, t, hi) {
+        let s = true_side(
+            values,
+            targets,
+            weights,
+            counts,
+            col,
+            rows,
+            features,
+            j,
+            t,
+            a.count,
+        );
+        let side = s.totals;
+        let b = crate::judge_of(
+            p,
+            a,
+            h,
+            side,
+            s.count,
+            Cut {
+                feature: j,
+                threshold: t,
+            },
+        );
+        return Attempt::Goes(b, m + 1);
     }
     Attempt::Refused
 }
@@ -138,9 +141,15 @@ pub fn random_in(
     m: usize,
 ) -> Attempt
     requires rows { ⌜ Below rows (now col) ⌝ }
-    requires shape { ⌜ Shaped rows features (record { values = now values; targets = now targets; weights = now weights; counts = now counts }) × (j < features) ⌝ }
-    requires room { ⌜ tally (map (elementOf features (record { values = now values; targets = now targets; weights = now weights; counts = now counts })) (now col)) ≤ a .count ⌝ }
-    ensures { λ r. ⌜ ((W : List ℕ) (s : ℕ) → meantTries W (now (thresholds .entry)) s r ≡ randomIn (tape (p .features)) p (bare a) j (record { best = h; left = left W (now (thresholds .entry)) s m }) (map (elementOf features (record { values = now (values .entry); targets = now (targets .entry); weights = now (weights .entry); counts = now (counts .entry) })) (now (col .entry)))) ⌝ }
+    requires shape { ⌜ Shaped rows features (tablesOf (now values) (now targets) (now weights) (now counts)) × (j < features) ⌝ }
+    requires room { ⌜ tally (map (elementOf features (tablesOf (now values) (now targets) (now weights) (now counts))) (now col)) ≤ a .count ⌝ }
+    ensures { λ r. ⌜
+        ((W : List ℕ) (s : ℕ) → meantTries W (now (thresholds .entry)) s r ≡ randomIn (tape (p .features)) p (bare a) j (record {
+          best = h;
+          left = left W (now (thresholds
+              .entry)) s m;
+        }) (map (elementOf features (tablesOf (now (values .entry)) (now (targets .entry)) (now (weights .entry)) (now (counts .entry)))) (now (col
+        .entry)))) ⌝ }
 {
     let n = col.len();
     if n == 0 {

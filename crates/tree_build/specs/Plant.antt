@@ -24,11 +24,12 @@ use Rattle.lemmas.specs.Cuts.{Good}
 use Rattle.lemmas.specs.Work.{columnsAt}
 use Rattle.work_columns.specs.Columns.{Counted, KeptAll, bare}
 use Rattle.work_columns.specs.Kept.{root-made, kept-below}
-use Rattle.node_growth.specs.Rooms.{Ground, LongAll}
+use Rattle.node_entries.specs.Entries.{LongAll}
+use Rattle.node_growth.specs.Rooms.{Ground}
 use Rattle.tree_growth.specs.declared.At.{At}
 use Rattle.tree_growth.specs.declared.Turned.{Turned}
 use Rattle.tree_growth.specs.declared.Turned.the-variants.{Refused, Goes}
-use Rattle.tree_growth.specs.Tree.{TreeAsks, rootTask}
+use Rattle.tree_growth.specs.Tree.{TreeAsks, rootRows}
 use Rattle.tree_build.specs.declared.Root.{Root}
 use Rattle.tree_build.specs.declared.Planted.{Planted}
 use Rattle.tree_build.specs.declared.Planted.the-variants.{BadDraw, Grown}
@@ -179,7 +180,7 @@ module _ (features : ℕ) (F : OneTree) (D : Data) (c : Columns) (cl sc fl rw rr
     abbrev pub ground : Ground
     ground = record { rows = F .rows; features = features; tables = record { values = D .values; targets = D .targets; weights = F .weights; counts = F .counts }; order = order }
 
-    pub root-is : root F D ≡ rootTask ground (r .kept) (r .asked)
+    pub root-is : root F D ≡ rootRows ground (r .kept) (r .asked)
     unfolding listing
     root-is =
         subst (λ n. root F D ≡ record {
@@ -190,12 +191,12 @@ module _ (features : ℕ) (F : OneTree) (D : Data) (c : Columns) (cl sc fl rw rr
         (root-made F D order (r .kept) (r .asked .totals) (r .asked .count)
         (subst (λ n. KeptAll (keptIn (F .weights) (F .counts)) (F .rows) n (D .listings) order (r .kept)) (h .same) (s .kept)) (s .totals) (s .count))
 
-    rows-are : rowsOf (rootTask ground (r .kept) (r .asked)) ≡ r .kept
+    rows-are : rowsOf (rootRows ground (r .kept) (r .asked)) ≡ r .kept
     unfolding keptRows kept
     rows-are = ap rowsOf (sym root-is) ∙ root-rows F D (h .listed) (subst (λ n. 0 < n) (h .same) (h .some)) ∙ sym (s .kept .count)
 
-    pub enough : 1 + 2 * (rowsOf (rootTask ground (r .kept) (r .asked)) - 1) ≤ r .most
-    enough = fits (rowsOf (rootTask ground (r .kept) (r .asked))) (r .kept) (r .most) rows-are (s .most)
+    pub enough : 1 + 2 * (rowsOf (rootRows ground (r .kept) (r .asked)) - 1) ≤ r .most
+    enough = fits (rowsOf (rootRows ground (r .kept) (r .asked))) (r .kept) (r .most) rows-are (s .most)
       where
         fits : (n k m : ℕ) → n ≡ k → m ≡ max 1 (2 * k - 1) → 1 + 2 * (n - 1) ≤ m
         fits n k m e q = omega arith
@@ -206,7 +207,7 @@ module _ (features : ℕ) (F : OneTree) (D : Data) (c : Columns) (cl sc fl rw rr
         low : (k n m : ℕ) → k ≤ n → n ≤ 65535 → m ≡ max 1 (2 * k - 1) → m ≤ 131069
         low k n m a b q = omega arith
 
-    pub root-fine : Good (F .params) (rootTask ground (r .kept) (r .asked))
+    pub root-fine : Good (F .params) (rootRows ground (r .kept) (r .asked))
     root-fine = subst (Good (F .params)) root-is (root-good F D (h .listed))
 
     pub tree-asks : length order ≡ cl → TreeAsks ground (F .params) (r .most) (r .kept) (r .asked) rw rr

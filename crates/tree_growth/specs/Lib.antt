@@ -1,9 +1,10 @@
--- Growth in the lent rooms: a turn is one step of the definition's stack, and turns make up a tree. Nothing is assumed.
+-- Growth in the lent rooms: a turn splits the node that joined last, and turns make up a tree. Nothing is assumed.
 
--- what a turn promises, and its laws
+-- where a growth stands between two turns, and what a turn promises
 pub mod Places
+-- a turn is one step of the definition's waiting list
 pub mod Turns
--- the loop, the nodes as they are written, and the whole from the root on
+-- the loop
 pub mod Loop
-pub mod Written
+-- the whole from the root on
 pub mod Tree

@@ -14,18 +14,21 @@ use Rattle.rules.specs.Search.{search}
 use Rattle.rules.specs.Growth.{Waiting, TreeNode, State, withChildren, expand, growAll, runs}
 use Rattle.rules.specs.Draws.{Out, bad, ok, bind, Tapes, tape}
 use Rattle.rules.specs.Totals.{empty}
-use Rattle.lemmas.specs.Outs.{Then, then-after}
+use Rattle.lemmas.specs.Outs.{bind-through, then-bind, Then, then-after}
 use Rattle.lemmas.specs.Lists.{Every, every-append, every-imp}
 use Rattle.lemmas.specs.WaitingOrder.{expand-level, pop, children-length}
 use Rattle.lemmas.specs.Room.{load, rowsOf, halves, expand-bounded}
 use Rattle.lemmas.specs.Cuts.{search-fine, tape-fair, Ripe}
 use Rattle.work_columns.specs.Stretches.{part-every}
 use Rattle.search.specs.Flat.{Shaped, Fair}
-use Rattle.node_growth.specs.Rooms.{Ground, waitAt, waitingOf, stackOf, Laid, BelowTo, LongAll, NodesIn}
-use Rattle.node_growth.specs.Steps.{bind-through, laid-more}
-use Rattle.node_growth.specs.Both.{long-less, onto}
-use Rattle.node_growth.specs.Frames.{withCols}
-use Rattle.node_growth.specs.Nodes.{then-bind, expand-number}
+use Rattle.node_entries.specs.Entries.{waitingAt, LongAll}
+use Rattle.node_entries.specs.Nodes.{NodesIn}
+use Rattle.node_entries.specs.Writes.{long-less}
+use Rattle.node_growth.specs.Rooms.{Ground, waitingOf, waitingList, Laid, BelowTo}
+use Rattle.node_growth.specs.Steps.{laid-more}
+use Rattle.node_growth.specs.Both.{onto}
+use Rattle.node_growth.specs.Frames.{withOrder}
+use Rattle.node_growth.specs.Numbers.{expand-number}
 use Rattle.tree_growth.specs.declared.At.{At}
 use Rattle.tree_growth.specs.declared.Turned.{Turned}
 use Rattle.tree_growth.specs.declared.Turned.the-variants as U
@@ -47,10 +50,10 @@ pub record GrowAsks (g : Ground) (P : Params) (W : List ℕ) (top scratch flags 
   pub real-room : g .rows ≤ length reals
   pub deep : P .limit ≤ 65535
   pub laid : Laid wholes reals kept (at .waiting)
-  pub ripe : Every (Ripe P) (stackOf g wholes reals (at .waiting))
-  pub levels : Every (λ v. v .level < P .limit) (stackOf g wholes reals (at .waiting))
-  pub numbers : Every (λ v. v .number < at .nodes) (stackOf g wholes reals (at .waiting))
-  pub loaded : at .nodes + 2 * load (stackOf g wholes reals (at .waiting)) ≤ top
+  pub ripe : Every (Ripe P) (waitingList g wholes reals (at .waiting))
+  pub levels : Every (λ v. v .level < P .limit) (waitingList g wholes reals (at .waiting))
+  pub numbers : Every (λ v. v .number < at .nodes) (waitingList g wholes reals (at .waiting))
+  pub loaded : at .nodes + 2 * load (waitingList g wholes reals (at .waiting)) ≤ top
   pub node-room : LongAll top c
   pub node-small : top < 4294967296
   pub fair : Fair W (at .drawn)
@@ -61,7 +64,7 @@ GrownTo W M old c′ o (U.Refused k) = o ≡ bad k
 GrownTo W M old c′ o (U.Goes at) = (ns : List TreeNode) × (o ≡ ok (stateAt W M ns at)) × (length ns ≡ at .nodes) × NodesIn old ns c′ × Fair W (at .drawn)
 
 abbrev pub grownFrom : Ground → Params → List ℕ → List Float → List (List ℕ) → List (List Float) → List TreeNode → At → Out (State Tapes)
-grownFrom g P W M wholes reals ns at = growAll P (search (tape (P .features)) P) (stackOf g wholes reals (at .waiting)) (stateAt W M ns at)
+grownFrom g P W M wholes reals ns at = growAll P (search (tape (P .features)) P) (waitingList g wholes reals (at .waiting)) (stateAt W M ns at)
 
 abbrev pub GrowDone : Ground → Params → List ℕ → List Float → ℕ → Columns → Columns → List (List ℕ) → List (List Float) → At → Turned → Type 0
 GrowDone g P W M top c c′ wholes reals at r =
@@ -76,31 +79,32 @@ Stands g₀ P W M top c₀ wholes₀ reals₀ at₀ g c wholes reals at =
 less-one : (n : ℕ) → 0 < n → n ≡ suc (n - 1)
 less-one n h = omega arith
 
-then-onto : {S : Type 0} (m : Out (List Waiting × S)) (ws : List Waiting) (Q : List Waiting → S → Type 0) (x : List Waiting) (y : S) → bind m (onto ws) ≡ ok (x, y) → Then m (λ r. Q (r .0 ++ ws) (r .1)) → Q x y
+then-onto : {S : Type 0} (m : Out (List Waiting × S)) (ws : List Waiting) (Q : List Waiting → S → Type 0) (x : List Waiting) (y : S) → bind m (onto ws) ≡ ok (x, y)
+    → Then m (λ r. Q (r .0 ++ ws) (r .1)) → Q x y
 then-onto m ws Q x y p t = subst (λ o. Then o (λ z. Q (z .0) (z .1))) p (then-bind m (onto ws) (λ z. Q (z .0) (z .1)) t)
 
 module _ (g : Ground) (P : Params) (W : List ℕ) (top sc fl : ℕ) (c : Columns) (wholes : List (List ℕ)) (reals : List (List Float)) (at : At)
     (q : GrowAsks g P W top sc fl c wholes reals at) (hw : 0 < at .waiting) where
   abbrev w : Waiting
-  w = waitingOf g (waitAt wholes reals (at .waiting - 1))
+  w = waitingOf g (waitingAt wholes reals (at .waiting - 1))
 
   abbrev ws : List Waiting
-  ws = stackOf g wholes reals (at .waiting - 1)
+  ws = waitingList g wholes reals (at .waiting - 1)
 
-  stack-is : stackOf g wholes reals (at .waiting) ≡ w ∷ ws
-  stack-is = ap (stackOf g wholes reals) (less-one (at .waiting) hw)
+  list-is : waitingList g wholes reals (at .waiting) ≡ w ∷ ws
+  list-is = ap (waitingList g wholes reals) (less-one (at .waiting) hw)
 
   ripe′ : Every (Ripe P) (w ∷ ws)
-  ripe′ = subst (Every (Ripe P)) stack-is (q .ripe)
+  ripe′ = subst (Every (Ripe P)) list-is (q .ripe)
 
   levels′ : Every (λ v. v .level < P .limit) (w ∷ ws)
-  levels′ = subst (Every (λ v. v .level < P .limit)) stack-is (q .levels)
+  levels′ = subst (Every (λ v. v .level < P .limit)) list-is (q .levels)
 
   numbers′ : Every (λ v. v .number < at .nodes) (w ∷ ws)
-  numbers′ = subst (Every (λ v. v .number < at .nodes)) stack-is (q .numbers)
+  numbers′ = subst (Every (λ v. v .number < at .nodes)) list-is (q .numbers)
 
   loaded′ : at .nodes + 2 * load (w ∷ ws) ≤ top
-  loaded′ = subst (λ l. at .nodes + 2 * load l ≤ top) stack-is (q .loaded)
+  loaded′ = subst (λ l. at .nodes + 2 * load l ≤ top) list-is (q .loaded)
 
   some′ : 0 < P .features
   some′ = subst (λ n. 0 < n) (q .same) (q .some)
@@ -115,8 +119,8 @@ module _ (g : Ground) (P : Params) (W : List ℕ) (top sc fl : ℕ) (c : Columns
   top-laid : Laid wholes reals (q .kept) (suc (at .waiting - 1))
   top-laid = subst (Laid wholes reals (q .kept)) (less-one (at .waiting) hw) (q .laid)
 
-  top-below : BelowTo g (waitAt wholes reals (at .waiting - 1) .end)
-  top-below k h = part-every (λ r. r < g .rows) (g .rows) k 0 (q .kept) 0 (waitAt wholes reals (at .waiting - 1) .end) (g .order) (le-refl 0) (top-laid .2) (omega arith) (q .below k h)
+  top-below : BelowTo g (waitingAt wholes reals (at .waiting - 1) .end)
+  top-below k h = part-every (λ r. r < g .rows) (g .rows) k 0 (q .kept) 0 (waitingAt wholes reals (at .waiting - 1) .end) (g .order) (le-refl 0) (top-laid .2) (omega arith) (q .below k h)
 
   pub turn-may : TurnAsks g P W sc fl c wholes reals at
   turn-may =
@@ -150,12 +154,12 @@ module _ (g : Ground) (P : Params) (W : List ℕ) (top sc fl : ℕ) (c : Columns
 
   module _ (M : List Float) (order′ : List ℕ) (c′ : Columns) (wholes′ : List (List ℕ)) (reals′ : List (List Float)) where
     abbrev g′ : Ground
-    g′ = withCols g order′
+    g′ = withOrder g order′
 
     popped : (ns : List TreeNode) → length ns ≡ at .nodes → (r : Turned) → TurnDone g g′ P W M c c′ wholes reals wholes′ reals′ at r
         → grownFrom g P W M wholes reals ns at ≡ bind (meantTurn g′ W M wholes′ reals′ (withChildren w ns) r) (λ z. growAll P (search (tape (P .features)) P) (z .0) (z .1))
     popped ns en r d =
-        ap (λ l. growAll P (search (tape (P .features)) P) l (stateAt W M ns at)) stack-is
+        ap (λ l. growAll P (search (tape (P .features)) P) l (stateAt W M ns at)) list-is
         ∙ pop P (search (tape (P .features)) P) w ws (stateAt W M ns at) (levels′ .0)
         ∙ sym (bind-through (expand P (search (tape (P .features)) P) w (stateAt W M ns at)) put (λ z. growAll P (search (tape (P .features)) P) (z .0) (z .1)))
         ∙ ap (λ o. bind o (λ z. growAll P (search (tape (P .features)) P) (z .0) (z .1))) (d .same ns en)
@@ -188,25 +192,27 @@ module _ (g : Ground) (P : Params) (W : List ℕ) (top sc fl : ℕ) (c : Columns
       enough = length-replicate (at .nodes) (record { totals = empty; count = 0; kind = Leaf })
 
       stepped : (Q : List Waiting → State Tapes → Type 0) → Then (expand P (search (tape (P .features)) P) w (stateAt W M some-nodes at)) (λ r. Q (r .0 ++ ws) (r .1))
-          → Q (stackOf g′ wholes′ reals′ (at′ .waiting)) (stateAt W M (withChildren w some-nodes) at′)
+          → Q (waitingList g′ wholes′ reals′ (at′ .waiting)) (stateAt W M (withChildren w some-nodes) at′)
       stepped Q t = then-onto (expand P (search (tape (P .features)) P) w (stateAt W M some-nodes at)) ws Q _ _ (d .same some-nodes enough) t
 
       fuller : length (withChildren w some-nodes) ≡ at′ .nodes
       fuller = children-length w some-nodes ∙ ap (λ n. n + 2) enough ∙ sym (d .keeps .2)
 
-      after : Every (Ripe P) (stackOf g′ wholes′ reals′ (at′ .waiting)) × (length (withChildren w some-nodes) + 2 * load (stackOf g′ wholes′ reals′ (at′ .waiting)) ≤ top)
+      after : Every (Ripe P) (waitingList g′ wholes′ reals′ (at′ .waiting)) × (length (withChildren w some-nodes) + 2 * load (waitingList g′ wholes′ reals′ (at′ .waiting)) ≤ top)
       after = stepped (λ l s. Every (Ripe P) l × (length (s .nodes) + 2 * load l ≤ top))
-          (expand-bounded P (search (tape (P .features)) P) (search-fine P (tape (P .features)) (tape-fair P)) some′ top w ws (stateAt W M some-nodes at) (levels′ .0) (ripe′, subst (λ n. n + 2 * load (w ∷ ws) ≤ top) (sym enough) loaded′))
+          (expand-bounded P (search (tape (P .features)) P) (search-fine P (tape (P .features)) (tape-fair P)) some′ top w ws (stateAt W M some-nodes at)
+          (levels′ .0) (ripe′, subst (λ n. n + 2 * load (w ∷ ws) ≤ top) (sym enough) loaded′))
 
-      levelled : Every (λ v. v .level < P .limit) (stackOf g′ wholes′ reals′ (at′ .waiting))
+      levelled : Every (λ v. v .level < P .limit) (waitingList g′ wholes′ reals′ (at′ .waiting))
       levelled = stepped (λ l s. Every (λ v. v .level < P .limit) l)
           (then-after (expand P (search (tape (P .features)) P) w (stateAt W M some-nodes at)) _ _ (expand-level P (search (tape (P .features)) P) w (stateAt W M some-nodes at))
           (λ r h. every-append (λ v. v .level < P .limit) (r .0) ws (every-imp _ _ (λ v x. x .1) (r .0) h) (levels′ .1)))
 
-      numbered : Every (λ v. v .number < at .nodes + 2) (stackOf g′ wholes′ reals′ (at′ .waiting))
+      numbered : Every (λ v. v .number < at .nodes + 2) (waitingList g′ wholes′ reals′ (at′ .waiting))
       numbered = stepped (λ l s. Every (λ v. v .number < at .nodes + 2) l)
           (then-after (expand P (search (tape (P .features)) P) w (stateAt W M some-nodes at)) _ _ (expand-number P (search (tape (P .features)) P) w (stateAt W M some-nodes at))
-          (λ r h. every-append (λ v. v .number < at .nodes + 2) (r .0) ws (every-imp _ _ (λ v x. subst (λ n. v .number < n + 2) enough x) (r .0) h) (every-imp _ _ (λ v x. more (v .number) (at .nodes) x) ws (numbers′ .1))))
+          (λ r h. every-append (λ v. v .number < at .nodes + 2) (r .0) ws (every-imp _ _ (λ v x. subst (λ n. v .number < n + 2) enough x) (r .0) h) (every-imp _
+          _ (λ v x. more (v .number) (at .nodes) x) ws (numbers′ .1))))
         where
           more : (a n : ℕ) → a < n → a < n + 2
           more a n h = omega arith
@@ -228,11 +234,11 @@ module _ (g : Ground) (P : Params) (W : List ℕ) (top sc fl : ℕ) (c : Columns
             whole-room = subst (λ n. g .rows ≤ n) (sym lw) (q .whole-room);
             real-room = subst (λ n. g .rows ≤ n) (sym lr) (q .real-room);
             deep = q .deep;
-            laid = laid-more wholes′ reals′ (at′ .waiting) (waitAt wholes reals (at .waiting - 1) .end) (q .kept) (top-laid .2) (d .keeps .0);
+            laid = laid-more wholes′ reals′ (at′ .waiting) (waitingAt wholes reals (at .waiting - 1) .end) (q .kept) (top-laid .2) (d .keeps .0);
             ripe = after .0;
             levels = levelled;
-            numbers = subst (λ n. Every (λ v. v .number < n) (stackOf g′ wholes′ reals′ (at′ .waiting))) (sym (d .keeps .2)) numbered;
-            loaded = subst (λ n. n + 2 * load (stackOf g′ wholes′ reals′ (at′ .waiting)) ≤ top) fuller (after .1);
+            numbers = subst (λ n. Every (λ v. v .number < n) (waitingList g′ wholes′ reals′ (at′ .waiting))) (sym (d .keeps .2)) numbered;
+            loaded = subst (λ n. n + 2 * load (waitingList g′ wholes′ reals′ (at′ .waiting)) ≤ top) fuller (after .1);
             node-room = lc;
             node-small = q .node-small;
             fair = d .keeps .1;
@@ -244,7 +250,7 @@ pub grow-end : (g : Ground) (P : Params) (W : List ℕ) (M : List Float) (top : 
 unfolding growAll runs
 grow-end g P W M top c wholes reals at h fair g₀ c₀ wholes₀ reals₀ at₀ st old ns₀ e₀ lo i =
     let s = st old ns₀ e₀ lo i in
-    (s .0, sym (s .3) ∙ ap (λ n. growAll P (search (tape (P .features)) P) (stackOf g wholes reals n) (stateAt W M (s .0) at)) (none (at .waiting) h), s .1, s .2, fair)
+    (s .0, sym (s .3) ∙ ap (λ n. growAll P (search (tape (P .features)) P) (waitingList g wholes reals n) (stateAt W M (s .0) at)) (none (at .waiting) h), s .1, s .2, fair)
   where
     none : (n : ℕ) → n ≤ 0 → n ≡ 0
     none n h = omega arith
@@ -264,8 +270,8 @@ pub record Growing (g₀ : Ground) (P : Params) (W : List ℕ) (M : List Float) 
   pub score : length (c .score) ≡ length (c₀ .score)
   pub truechild : length (c .trueChild) ≡ length (c₀ .trueChild)
   pub falsechild : length (c .falseChild) ≡ length (c₀ .falseChild)
-  pub waitWholes : length wholes ≡ length wholes₀
-  pub waitReals : length reals ≡ length reals₀
+  pub waiting-wholes : length wholes ≡ length wholes₀
+  pub waiting-reals : length reals ≡ length reals₀
 
 pub growing-first : (g : Ground) (P : Params) (W : List ℕ) (M : List Float) (top sc fl : ℕ) (c : Columns) (wholes : List (List ℕ)) (reals : List (List Float)) (at : At)
     → GrowAsks g P W top sc fl c wholes reals at → Growing g P W M top sc fl c wholes reals at g sc fl c wholes reals at
@@ -282,8 +288,8 @@ growing-first g P W M top sc fl c wholes reals at q =
       score = refl;
       truechild = refl;
       falsechild = refl;
-      waitWholes = refl;
-      waitReals = refl;
+      waiting-wholes = refl;
+      waiting-reals = refl;
     }
 
 module _ (g₀ : Ground) (P : Params) (W : List ℕ) (M : List Float) (top sc₀ fl₀ : ℕ) (c₀ : Columns) (wholes₀ : List (List ℕ)) (reals₀ : List (List Float)) (at₀ : At)
@@ -295,23 +301,25 @@ module _ (g₀ : Ground) (P : Params) (W : List ℕ) (M : List Float) (top sc₀
   pub growing-end : at .waiting ≤ 0 → GrowDone g₀ P W M top c₀ c wholes₀ reals₀ at₀ (U.Goes at)
   growing-end h = grow-end g P W M top c wholes reals at h (i .asks .fair) g₀ c₀ wholes₀ reals₀ at₀ (i .stands)
 
-  module _ (h : 0 < at .waiting) (order′ : List ℕ) (c′ : Columns) (wholes′ : List (List ℕ)) (reals′ : List (List Float)) (r : Turned) (d : TurnDone g (withCols g order′) P W M c c′ wholes reals wholes′ reals′ at r) where
+  module _ (h : 0 < at .waiting) (order′ : List ℕ) (c′ : Columns) (wholes′ : List (List ℕ)) (reals′ : List (List Float)) (r : Turned)
+      (d : TurnDone g (withOrder g order′) P W M c c′ wholes reals wholes′ reals′ at r) where
     pub growing-stop : (k : ℕ) → r ≡ U.Refused k → GrowDone g₀ P W M top c₀ c′ wholes₀ reals₀ at₀ (U.Refused k)
     growing-stop k e =
-        grow-stop g P W top sc fl c wholes reals at (i .asks) h M order′ c′ wholes′ reals′ k (subst (TurnDone g (withCols g order′) P W M c c′ wholes reals wholes′ reals′ at) e d) g₀ c₀ wholes₀ reals₀ at₀ (i .stands)
+        grow-stop g P W top sc fl c wholes reals at (i .asks) h M order′ c′ wholes′ reals′ k
+        (subst (TurnDone g (withOrder g order′) P W M c c′ wholes reals wholes′ reals′ at) e d) g₀ c₀ wholes₀ reals₀ at₀ (i .stands)
 
     pub growing-less : (at′ : At) → r ≡ U.Goes at′ → top - at′ .nodes < top - at .nodes
     growing-less at′ e =
-        let n : at′ .nodes ≡ at .nodes + 2 = subst (TurnDone g (withCols g order′) P W M c c′ wholes reals wholes′ reals′ at) e d .keeps .2 in
+        let n : at′ .nodes ≡ at .nodes + 2 = subst (TurnDone g (withOrder g order′) P W M c c′ wholes reals wholes′ reals′ at) e d .keeps .2 in
         let l = two-left g P W top sc fl c wholes reals at (i .asks) h in
         omega (arith, n, l)
 
     pub growing-on : (at′ : At) → r ≡ U.Goes at′ → {sc′ fl′ : ℕ} → sc′ ≡ sc → fl′ ≡ fl → length wholes′ ≡ length wholes → length reals′ ≡ length reals
         → length (c′ .value) ≡ length (c .value) → length (c′ .feature) ≡ length (c .feature) → length (c′ .threshold) ≡ length (c .threshold)
         → length (c′ .score) ≡ length (c .score) → length (c′ .trueChild) ≡ length (c .trueChild) → length (c′ .falseChild) ≡ length (c .falseChild)
-        → Growing g₀ P W M top sc₀ fl₀ c₀ wholes₀ reals₀ at₀ (withCols g order′) sc′ fl′ c′ wholes′ reals′ at′
+        → Growing g₀ P W M top sc₀ fl₀ c₀ wholes₀ reals₀ at₀ (withOrder g order′) sc′ fl′ c′ wholes′ reals′ at′
     growing-on at′ e es ef lw lr v f t s y n =
-        let k = subst (TurnDone g (withCols g order′) P W M c c′ wholes reals wholes′ reals′ at) e d in
+        let k = subst (TurnDone g (withOrder g order′) P W M c c′ wholes reals wholes′ reals′ at) e d in
         let q = i .asks in
         record {
           asks = grow-asks g P W top sc fl c wholes reals at q h M order′ c′ wholes′ reals′ at′ k es ef lw lr
@@ -333,6 +341,6 @@ module _ (g₀ : Ground) (P : Params) (W : List ℕ) (M : List Float) (top sc₀
           score = s ∙ i .score;
           truechild = y ∙ i .truechild;
           falsechild = n ∙ i .falsechild;
-          waitWholes = lw ∙ i .waitWholes;
-          waitReals = lr ∙ i .waitReals;
+          waiting-wholes = lw ∙ i .waiting-wholes;
+          waiting-reals = lr ∙ i .waiting-reals;
         }

@@ -10,7 +10,9 @@ use Rattle.rules.specs.Search.{search}
 use Rattle.rules.specs.Growth.{Waiting, TreeNode, State, withChildren, expand}
 use Rattle.rules.specs.Draws.{Out, bad, ok, bind, Tapes, tape}
 use Rattle.search.specs.Flat.{drawsAt, Fair}
-use Rattle.node_growth.specs.Rooms.{Ground, BelowTo, waitAt, waitingOf, stackOf, Laid, LongAll, NodesIn, Taken}
+use Rattle.node_entries.specs.Entries.{waitingAt, LongAll}
+use Rattle.node_entries.specs.Nodes.{NodesIn}
+use Rattle.node_growth.specs.Rooms.{Ground, BelowTo, waitingOf, waitingList, Laid, Taken}
 use Rattle.tree_growth.specs.declared.At.{At}
 use Rattle.tree_growth.specs.declared.Turned.{Turned}
 use Rattle.tree_growth.specs.declared.Turned.the-variants as U
@@ -19,8 +21,8 @@ use Rattle.tree_growth.specs.declared.Turned.the-variants as U
 
 pub record TurnAsks (g : Ground) (P : Params) (W : List ℕ) (scratch flags : ℕ) (c : Columns) (wholes : List (List ℕ)) (reals : List (List Float)) (at : At) : Type 0 where
   pub waits : 0 < at .waiting
-  pub taken : Taken g P W scratch flags wholes reals (waitAt wholes reals (at .waiting - 1)) (at .nodes) (record { waiting = at .waiting - 1; drawn = at .drawn })
-  pub number : waitAt wholes reals (at .waiting - 1) .node < at .nodes
+  pub taken : Taken g P W scratch flags wholes reals (waitingAt wholes reals (at .waiting - 1)) (at .nodes) (record { waiting = at .waiting - 1; drawn = at .drawn })
+  pub number : waitingAt wholes reals (at .waiting - 1) .node < at .nodes
   pub node-room : LongAll (at .nodes + 2) c
   pub node-small : at .nodes + 2 < 4294967296
 
@@ -29,20 +31,22 @@ stateAt W M ns at = record { nodes = ns; depth = at .depth; left = drawsAt W M (
 
 abbrev pub meantTurn : Ground → List ℕ → List Float → List (List ℕ) → List (List Float) → List TreeNode → Turned → Out (List Waiting × State Tapes)
 meantTurn g W M wholes reals ns (U.Refused k) = bad k
-meantTurn g W M wholes reals ns (U.Goes at) = ok (stackOf g wholes reals (at .waiting), stateAt W M ns at)
+meantTurn g W M wholes reals ns (U.Goes at) = ok (waitingList g wholes reals (at .waiting), stateAt W M ns at)
 
 abbrev pub TurnKeeps : ℕ → List ℕ → ℕ → List (List ℕ) → List (List Float) → Turned → Type 0
 TurnKeeps high W n wholes reals (U.Refused k) = Unit {0}
 TurnKeeps high W n wholes reals (U.Goes at) = Laid wholes reals high (at .waiting) × Fair W (at .drawn) × (at .nodes ≡ n + 2)
 
--- of any nodes that the columns hold: one step of the definition's stack
-pub record TurnDone (g g′ : Ground) (P : Params) (W : List ℕ) (M : List Float) (c c′ : Columns) (wholes : List (List ℕ)) (reals : List (List Float)) (wholes′ : List (List ℕ)) (reals′ : List (List Float))
+-- of any nodes that the columns hold: one step of the definition's waiting list
+pub record TurnDone (g g′ : Ground) (P : Params) (W : List ℕ) (M : List Float) (c c′ : Columns) (wholes : List (List ℕ)) (reals : List (List Float))
+    (wholes′ : List (List ℕ)) (reals′ : List (List Float))
     (at : At) (r : Turned) : Type 0 where
   pub same : (ns : List TreeNode) → length ns ≡ at .nodes
-      → bind (expand P (search (tape (P .features)) P) (waitingOf g (waitAt wholes reals (at .waiting - 1))) (stateAt W M ns at)) (λ o. ok (o .0 ++ stackOf g wholes reals (at .waiting - 1), o .1))
-      ≡ meantTurn g′ W M wholes′ reals′ (withChildren (waitingOf g (waitAt wholes reals (at .waiting - 1))) ns) r
+      → bind (expand P (search (tape (P .features)) P) (waitingOf g (waitingAt wholes reals (at .waiting - 1))) (stateAt W M ns at))
+      (λ o. ok (o .0 ++ waitingList g wholes reals (at .waiting - 1), o .1))
+      ≡ meantTurn g′ W M wholes′ reals′ (withChildren (waitingOf g (waitingAt wholes reals (at .waiting - 1))) ns) r
   pub nodes : (old : Columns) (ns : List TreeNode) → length ns ≡ at .nodes → LongAll (at .nodes + 2) old → NodesIn old ns c
-      → NodesIn old (withChildren (waitingOf g (waitAt wholes reals (at .waiting - 1))) ns) c′
+      → NodesIn old (withChildren (waitingOf g (waitingAt wholes reals (at .waiting - 1))) ns) c′
   pub long : length (g′ .order) ≡ length (g .order)
-  pub below : (n : ℕ) → waitAt wholes reals (at .waiting - 1) .end ≤ n → n ≤ g .rows → BelowTo g n → BelowTo g′ n
-  pub keeps : TurnKeeps (waitAt wholes reals (at .waiting - 1) .end) W (at .nodes) wholes′ reals′ r
+  pub below : (n : ℕ) → waitingAt wholes reals (at .waiting - 1) .end ≤ n → n ≤ g .rows → BelowTo g n → BelowTo g′ n
+  pub keeps : TurnKeeps (waitingAt wholes reals (at .waiting - 1) .end) W (at .nodes) wholes′ reals′ r

@@ -1,8 +1,8 @@
--- A turn put together: one step of the definition's stack. Assumes nothing.
+-- A turn put together: one step of the definition's waiting list. Assumes nothing.
 use Prim.Native.Nat.{ℕ, suc, _+_, _-_, _<_, _≤_, max}
 use native.Mathlib.Numerals.{add-one}
 use mathlib.Core.Path.{_≡_, refl, sym, ap, _∙_, subst}
-use mathlib.Core.Bool.{Bool, not}
+use mathlib.Core.Bool.{Bool}
 use mathlib.Core.List.{List, [], _∷_, _++_}
 use lib.ListN.{length, getD, set}
 use lib.Ieee.{Float, nan}
@@ -12,19 +12,20 @@ use Rattle.rules.specs.Search.{search, onTrue, onFalse, totalsOf}
 use Rattle.rules.specs.Growth.{Waiting, TreeNode, State, searchable, searchIf, child, leafOf, splitOf, splitting, withChildren, expand}
 use Rattle.rules.specs.Draws.{Out, bad, ok, bind, Tapes, tape}
 use Rattle.rules.specs.Totals.{valueOf, empty, score}
+use Rattle.rules.specs.Fit.{entryOf}
 use Rattle.work_columns.specs.declared.Sides.{Sides}
 use Rattle.work_columns.specs.Split.{SplitAsks, SplitDone}
 use Rattle.criterion.specs.declared.Side.{Side}
 use Rattle.search.specs.Flat.{elementOf, drawsAt}
-use Rattle.node_growth.specs.declared.WaitingNode.{WaitingNode}
+use Rattle.node_entries.specs.declared.WaitingNode.{WaitingNode}
+use Rattle.node_entries.specs.Entries.{waitingAt, LongAll, putEntry, wroteSplit}
+use Rattle.node_entries.specs.Nodes.{entryFor, NodesIn, columnOf, three}
 use Rattle.node_growth.specs.declared.Stand.{Stand}
 use Rattle.node_growth.specs.declared.Step.{Step}
 use Rattle.node_growth.specs.declared.Step.the-variants.{Refused, Goes}
-use Rattle.node_growth.specs.Rooms.{Ground, waitAt, cutOf, waitingOf, stackOf, meantStep, LaidStep, FairStep, LongAll, putRow, wroteSplit, wroteSides, rowFor, NodesIn, searchTwo, Taken, SidesAsks, SidesDone}
-use Rattle.node_growth.specs.Nodes.{columnOf}
+use Rattle.node_growth.specs.Rooms.{Ground, cutOf, waitingOf, waitingList, meantStep, LaidStep, FairStep, wroteSides, searchTwo, Taken, SidesAsks, SidesDone}
 use Rattle.node_growth.specs.Both.{onto, chain}
-use Rattle.node_growth.specs.Frames.{three}
-use Rattle.node_growth.specs.Sides.{mine, taken-room, taken-splits, yes-child, no-child}
+use Rattle.node_growth.specs.Sides.{mine, taken-room, taken-splits, true-child, false-child}
 use Rattle.tree_growth.specs.declared.At.{At}
 use Rattle.tree_growth.specs.declared.Turned.the-variants as U
 use Rattle.tree_growth.specs.Places.{TurnAsks, stateAt, TurnDone}
@@ -53,12 +54,13 @@ fin-onto (bad n) mk ws = refl
 fin-onto (ok t) mk ws = refl
 
 -- of flags that the split left
-module _ (g : Ground) (P : Params) (W : List ℕ) (sc : ℕ) (flags : List Bool) (c : Columns) (wholes : List (List ℕ)) (reals : List (List Float)) (at : At) (q : TurnAsks g P W sc (length flags) c wholes reals at) where
+module _ (g : Ground) (P : Params) (W : List ℕ) (sc : ℕ) (flags : List Bool) (c : Columns) (wholes : List (List ℕ)) (reals : List (List Float)) (at : At)
+    (q : TurnAsks g P W sc (length flags) c wholes reals at) where
   abbrev m : ℕ
   m = at .waiting - 1
 
   abbrev e : WaitingNode
-  e = waitAt wholes reals m
+  e = waitingAt wholes reals m
 
   abbrev w : Waiting
   w = waitingOf g e
@@ -67,22 +69,24 @@ module _ (g : Ground) (P : Params) (W : List ℕ) (sc : ℕ) (flags : List Bool)
   rest = record { waiting = m; drawn = at .drawn }
 
   module _ (h : Sides) (d : SplitDone (g .rows) (e .start) (e .end) (elementOf (g .features) (g .tables)) (cutOf e) (g .order) flags h) (c′ : Columns) (wr : c′ ≡ wroteSides e h (at .nodes) c) where
-    yes-totals : h .trueside .totals ≡ child onTrue w .totals
-    yes-totals = ap (λ (z : Side). z .totals) (yes-child g P W sc flags wholes reals e (at .nodes) rest (q .taken) h d)
+    true-totals : h .trueside .totals ≡ child onTrue w .totals
+    true-totals = ap (λ (z : Side). z .totals) (true-child g P W sc flags wholes reals e (at .nodes) rest (q .taken) h d)
 
-    no-totals : h .falseside .totals ≡ child onFalse w .totals
-    no-totals = ap (λ (z : Side). z .totals) (no-child g P W sc flags wholes reals e (at .nodes) rest (q .taken) h d)
+    false-totals : h .falseside .totals ≡ child onFalse w .totals
+    false-totals = ap (λ (z : Side). z .totals) (false-child g P W sc flags wholes reals e (at .nodes) rest (q .taken) h d)
 
     turn-nodes : (old : Columns) (ns : List TreeNode) → length ns ≡ at .nodes → LongAll (at .nodes + 2) old → NodesIn old ns c → NodesIn old (withChildren w ns) c′
-    unfolding wroteSplit putRow withChildren splitOf splitting leafOf
+    unfolding wroteSplit putEntry withChildren splitOf splitting leafOf entryOf
     turn-nodes old ns en lo i =
         record {
-          value = ap (λ (z : Columns). z .value) wr ∙ col (λ z. z .value) (λ n. rowFor n .value) (i .value) (lo .value) nan refl (ap valueOf yes-totals) (ap valueOf no-totals);
-          feature = ap (λ (z : Columns). z .feature) wr ∙ col (λ z. z .feature) (λ n. rowFor n .feature) (i .feature) (lo .feature) 0 refl refl refl;
-          threshold = ap (λ (z : Columns). z .threshold) wr ∙ col (λ z. z .threshold) (λ n. rowFor n .threshold) (i .threshold) (lo .threshold) nan refl refl refl;
-          score = ap (λ (z : Columns). z .score) wr ∙ col (λ z. z .score) (λ n. rowFor n .score) (i .score) (lo .score) nan scored refl refl;
-          truechild = ap (λ (z : Columns). z .trueChild) wr ∙ col (λ z. z .trueChild) (λ n. rowFor n .trueChild) (i .truechild) (lo .truechild) 0 (sym en) refl refl;
-          falsechild = ap (λ (z : Columns). z .falseChild) wr ∙ col (λ z. z .falseChild) (λ n. rowFor n .falseChild) (i .falsechild) (lo .falsechild) 0 (add-one (at .nodes) ∙ ap suc (sym en)) refl refl;
+          value = ap (λ (z : Columns). z .value) wr ∙ col (λ z. z .value) (λ n. entryFor n .value) (i .value) (lo .value) nan refl (ap valueOf true-totals) (ap valueOf false-totals);
+          feature = ap (λ (z : Columns). z .feature) wr ∙ col (λ z. z .feature) (λ n. entryFor n .feature) (i .feature) (lo .feature) 0 refl refl refl;
+          threshold = ap (λ (z : Columns). z .threshold) wr ∙ col (λ z. z .threshold) (λ n. entryFor n .threshold) (i .threshold) (lo .threshold) nan refl refl refl;
+          score = ap (λ (z : Columns). z .score) wr ∙ col (λ z. z .score) (λ n. entryFor n .score) (i .score) (lo .score) nan scored refl refl;
+          truechild = ap (λ (z : Columns). z .trueChild) wr ∙ col (λ z. z .trueChild) (λ n. entryFor n .trueChild) (i .truechild) (lo .truechild) 0 (sym en) refl refl;
+          falsechild =
+              ap (λ (z : Columns). z .falseChild) wr
+              ∙ col (λ z. z .falseChild) (λ n. entryFor n .falseChild) (i .falsechild) (lo .falsechild) 0 (add-one (at .nodes) ∙ ap suc (sym en)) refl refl;
         }
       where
         inside : e .node < length ns
@@ -91,11 +95,13 @@ module _ (g : Ground) (P : Params) (W : List ℕ) (sc : ℕ) (flags : List Bool)
         all-totals : h .all ≡ totalsOf empty (getD (w .node .columns) (e .feature) [])
         all-totals = ap (λ (z : Sides). z .all) (d .sides) ∙ ap (totalsOf empty) (mine g P W sc flags wholes reals e (at .nodes) rest (q .taken))
 
-        scored : score (h .trueside .totals) (h .falseside .totals) (h .all .mass) ≡ rowFor (splitOf w (length ns)) .score
-        scored = λ i. score (yes-totals i) (no-totals i) (all-totals i .mass)
+        scored : score (h .trueside .totals) (h .falseside .totals) (h .all .mass) ≡ entryFor (splitOf w (length ns)) .score
+        scored = λ i. score (true-totals i) (false-totals i) (all-totals i .mass)
 
-        col : {A : Type 0} (get : Columns → List A) (f : TreeNode → A) {x y z : A} → get c ≡ columnOf f ns (get old) → at .nodes + 2 ≤ length (get old) → A → x ≡ f (splitOf w (length ns)) → y ≡ f (leafOf (child onTrue w)) → z ≡ f (leafOf (child onFalse w))
-            → set (set (set (get c) (e .node) x) (at .nodes) y) (at .nodes + 1) z ≡ columnOf f (set ns (e .node) (splitOf w (length ns)) ++ (leafOf (child onTrue w) ∷ leafOf (child onFalse w) ∷ [])) (get old)
+        col : {A : Type 0} (get : Columns → List A) (f : TreeNode → A) {x y z : A} → get c ≡ columnOf f ns (get old) → at .nodes + 2 ≤ length (get old) → A
+            → x ≡ f (splitOf w (length ns)) → y ≡ f (leafOf (child onTrue w)) → z ≡ f (leafOf (child onFalse w))
+            → set (set (set (get c) (e .node) x) (at .nodes) y) (at .nodes + 1) z ≡ columnOf f
+            (set ns (e .node) (splitOf w (length ns)) ++ (leafOf (child onTrue w) ∷ leafOf (child onFalse w) ∷ [])) (get old)
         col get f {x} {y} {z} ec hl dflt ex ey ez =
             ap (λ u. set (set (set u (e .node) x) (at .nodes) y) (at .nodes + 1) z) ec
             ∙ ap (λ n. set (set (set (columnOf f ns (get old)) (e .node) x) n y) (n + 1) z) (sym en)
@@ -109,13 +115,14 @@ module _ (g : Ground) (P : Params) (W : List ℕ) (sc : ℕ) (flags : List Bool)
       made ns d′ = record { nodes = withChildren w ns; depth = max (at .depth) (suc (e .level)); left = d′ }
 
       stepped : (ns : List TreeNode) → length ns ≡ at .nodes
-          → bind (expand P (search (tape (P .features)) P) w (stateAt W M ns at)) (onto (stackOf g wholes reals m)) ≡ bind (meantStep g′ W M wholes′ reals′ step) (fin (made ns))
+          → bind (expand P (search (tape (P .features)) P) w (stateAt W M ns at)) (onto (waitingList g wholes reals m)) ≡ bind (meantStep g′ W M wholes′ reals′ step) (fin (made ns))
       unfolding expand
       stepped ns en =
-          ap (λ z. bind z (onto (stackOf g wholes reals m))) (fin-two (searchIf P (search (tape (P .features)) P) (searchable P (suc (e .level)) (child onTrue w)) (length ns) (suc (e .level)) (child onTrue w) (drawsAt W M (at .drawn)))
+          ap (λ z. bind z (onto (waitingList g wholes reals m))) (fin-two (searchIf P (search (tape (P .features)) P) (searchable P (suc (e .level)) (child
+          onTrue w)) (length ns) (suc (e .level)) (child onTrue w) (drawsAt W M (at .drawn)))
           (λ d′. searchIf P (search (tape (P .features)) P) (searchable P (suc (e .level)) (child onFalse w)) (suc (length ns)) (suc (e .level)) (child onFalse w) d′) (made ns))
-          ∙ fin-onto (twoOf (length ns) (suc (e .level))) (made ns) (stackOf g wholes reals m)
-          ∙ (λ i. bind (bind (twoOf (en i) (sym (add-one (e .level)) i)) (onto (stackOf g wholes reals m))) (fin (made ns)))
+          ∙ fin-onto (twoOf (length ns) (suc (e .level))) (made ns) (waitingList g wholes reals m)
+          ∙ (λ i. bind (bind (twoOf (en i) (sym (add-one (e .level)) i)) (onto (waitingList g wholes reals m))) (fin (made ns)))
           ∙ ap (λ z. bind z (fin (made ns))) (b .same)
 
       turn-stop : (k : ℕ) → step ≡ Refused k → TurnDone g g′ P W M c c′ wholes reals wholes′ reals′ at (U.Refused k)
@@ -135,7 +142,8 @@ module _ (g : Ground) (P : Params) (W : List ℕ) (sc : ℕ) (flags : List Bool)
       turn-goes s es deep ed =
           record {
             same = λ ns en. stepped ns en ∙ ap (λ z. bind (meantStep g′ W M wholes′ reals′ z) (fin (made ns))) es
-                ∙ ap (λ n. ok (stackOf g′ wholes′ reals′ (s .waiting), record { nodes = withChildren w ns; depth = n; left = drawsAt W M (s .drawn) })) (ap (max (at .depth)) (sym (add-one (e .level))) ∙ sym ed);
+                ∙ ap (λ n. ok (waitingList g′ wholes′ reals′ (s .waiting), record { nodes = withChildren w ns; depth = n; left = drawsAt W M (s .drawn) }))
+                (ap (max (at .depth)) (sym (add-one (e .level))) ∙ sym ed);
             nodes = turn-nodes;
             long = b .long;
             below = b .below;
@@ -144,20 +152,21 @@ module _ (g : Ground) (P : Params) (W : List ℕ) (sc : ℕ) (flags : List Bool)
 
 -- ---- the same by what the code read: the top is z, and the flags are as long as they were
 
-module _ (g : Ground) (P : Params) (W : List ℕ) (sc : ℕ) (flags : List Bool) (c : Columns) (wholes : List (List ℕ)) (reals : List (List Float)) (at : At) (q : TurnAsks g P W sc (length flags) c wholes reals at) where
-  abbrev topWait : WaitingNode
-  topWait = waitAt wholes reals (at .waiting - 1)
+module _ (g : Ground) (P : Params) (W : List ℕ) (sc : ℕ) (flags : List Bool) (c : Columns) (wholes : List (List ℕ)) (reals : List (List Float)) (at : At)
+    (q : TurnAsks g P W sc (length flags) c wholes reals at) where
+  abbrev topWaiting : WaitingNode
+  topWaiting = waitingAt wholes reals (at .waiting - 1)
 
   abbrev left : Stand
   left = record { waiting = at .waiting - 1; drawn = at .drawn }
 
   pub top-room : (at .waiting - 1 < length wholes) × (at .waiting - 1 < length reals)
-  top-room = taken-room g P W sc flags wholes reals topWait (at .nodes) left (q .taken)
+  top-room = taken-room g P W sc flags wholes reals topWaiting (at .nodes) left (q .taken)
 
-  pub code-taken : {z : WaitingNode} → z ≡ topWait → Taken g P W sc (length flags) wholes reals z (at .nodes) left
+  pub code-taken : {z : WaitingNode} → z ≡ topWaiting → Taken g P W sc (length flags) wholes reals z (at .nodes) left
   code-taken ez = subst (λ z. Taken g P W sc (length flags) wholes reals z (at .nodes) left) (sym ez) (q .taken)
 
-  pub code-split : {z : WaitingNode} → z ≡ topWait → z .count < 4294967296
+  pub code-split : {z : WaitingNode} → z ≡ topWaiting → z .count < 4294967296
       → SplitAsks (g .rows) (g .features) (z .start) (z .end) (g .tables .values) (g .tables .targets) (g .tables .weights) (g .tables .counts) (cutOf z) (g .order) (length flags)
       × (LongAll (at .nodes + 2) c × (z .node < at .nodes) × (at .nodes + 2 < 4294967296))
   code-split {z} ez m =
@@ -167,21 +176,24 @@ module _ (g : Ground) (P : Params) (W : List ℕ) (sc : ℕ) (flags : List Bool)
     abbrev DoneAt : Sides → WaitingNode → Type 0
     DoneAt h z = SplitDone (g .rows) (z .start) (z .end) (elementOf (g .features) (g .tables)) (cutOf z) (g .order) flags′ h
 
-    pub code-sides : {z : WaitingNode} → z ≡ topWait → (h : Sides) → DoneAt h z → SidesAsks g P W sc flags′ wholes reals z (at .nodes) h left
+    pub code-sides : {z : WaitingNode} → z ≡ topWaiting → (h : Sides) → DoneAt h z → SidesAsks g P W sc flags′ wholes reals z (at .nodes) h left
     code-sides {z} ez h d = record { taken = subst (λ n. Taken g P W sc n wholes reals z (at .nodes) left) (sym lf) (code-taken ez); split = d }
 
     q′ : TurnAsks g P W sc (length flags′) c wholes reals at
     q′ = subst (λ n. TurnAsks g P W sc n c wholes reals at) (sym lf) q
 
-    pub code-stop : {z : WaitingNode} → z ≡ topWait → (h : Sides) → DoneAt h z → (c′ : Columns) → c′ ≡ wroteSides z h (at .nodes) c
-        → (g′ : Ground) (M : List Float) (wholes′ : List (List ℕ)) (reals′ : List (List Float)) (step : Step) → SidesDone g g′ P W M wholes reals wholes′ reals′ z (at .nodes) left step → (k : ℕ) → step ≡ Refused k
+    pub code-stop : {z : WaitingNode} → z ≡ topWaiting → (h : Sides) → DoneAt h z → (c′ : Columns) → c′ ≡ wroteSides z h (at .nodes) c
+        → (g′ : Ground) (M : List Float) (wholes′ : List (List ℕ)) (reals′ : List (List Float)) (step : Step)
+        → SidesDone g g′ P W M wholes reals wholes′ reals′ z (at .nodes) left step → (k : ℕ) → step ≡ Refused k
         → TurnDone g g′ P W M c c′ wholes reals wholes′ reals′ at (U.Refused k)
     code-stop ez h d c′ wr g′ M wholes′ reals′ step b k es =
-        subst (λ (z : WaitingNode). DoneAt h z → c′ ≡ wroteSides z h (at .nodes) c → SidesDone g g′ P W M wholes reals wholes′ reals′ z (at .nodes) left step → TurnDone g g′ P W M c c′ wholes reals wholes′ reals′ at (U.Refused k)) (sym ez)
+        subst (λ (z : WaitingNode). DoneAt h z → c′ ≡ wroteSides z h (at .nodes) c → SidesDone g g′ P W M wholes reals wholes′ reals′ z (at .nodes) left step →
+        TurnDone g g′ P W M c c′ wholes reals wholes′ reals′ at (U.Refused k)) (sym ez)
         (λ d wr b. turn-stop g P W sc flags′ c wholes reals at q′ h d c′ wr g′ M wholes′ reals′ step b k es) d wr b
 
-    pub code-goes : {z : WaitingNode} → z ≡ topWait → (h : Sides) → DoneAt h z → (c′ : Columns) → c′ ≡ wroteSides z h (at .nodes) c
-        → (g′ : Ground) (M : List Float) (wholes′ : List (List ℕ)) (reals′ : List (List Float)) (step : Step) → SidesDone g g′ P W M wholes reals wholes′ reals′ z (at .nodes) left step → (s : Stand) → step ≡ Goes s
+    pub code-goes : {z : WaitingNode} → z ≡ topWaiting → (h : Sides) → DoneAt h z → (c′ : Columns) → c′ ≡ wroteSides z h (at .nodes) c
+        → (g′ : Ground) (M : List Float) (wholes′ : List (List ℕ)) (reals′ : List (List Float)) (step : Step)
+        → SidesDone g g′ P W M wholes reals wholes′ reals′ z (at .nodes) left step → (s : Stand) → step ≡ Goes s
         → (deep : ℕ) → deep ≡ max (at .depth) (z .level + 1)
         → TurnDone g g′ P W M c c′ wholes reals wholes′ reals′ at (U.Goes (record { nodes = at .nodes + 2; depth = deep; waiting = s .waiting; drawn = s .drawn }))
     code-goes ez h d c′ wr g′ M wholes′ reals′ step b s es deep ed =

@@ -2,7 +2,9 @@
 ghost use mathlib.Core.Path.{_≡_};
 ghost use Prim.Native.Nat.{_≤_, max};
 ghost use lib.ListN.{length};
-ghost use Rattle.node_growth.specs.Rooms.{LongAll};
+ghost use Rattle.rules.specs.Lent.{columnsOf};
+ghost use Rattle.node_entries.specs.Entries.{LongAll};
+ghost use Rattle.node_growth.specs.Rooms.{groundOf};
 ghost use Rattle.tree_growth.specs.Places.{TurnAsks, TurnDone};
 ghost use Rattle.tree_growth.specs.Loop.{GrowAsks, GrowDone};
 ghost use Rattle.tree_growth.specs.Tree.{TreeAsks, StartDone, TreeDone};
@@ -36,12 +38,6 @@ pub fn greater(a: u32, b: u32) -> u32
 
 // One turn: the last to join is split, and its children are searched.
 pub fn turn(
-    values: &[f64],
-    targets: &[f64],
-    weights: &[f64],
-    counts: &[u32],
-    words: &[u32],
-    thresholds: &[f64],
     order: &mut [u32],
     scratch: &mut [u32],
     flags: &mut [bool],
@@ -53,24 +49,33 @@ pub fn turn(
     falsechild: &mut [u32],
     wholes: &mut [[u32; 6]],
     reals: &mut [[f64; 3]],
+    values: &[f64],
+    targets: &[f64],
+    weights: &[f64],
+    counts: &[u32],
+    words: &[u32],
+    thresholds: &[f64],
     rows: usize,
     features: usize,
     p: Params,
     at: At,
 ) -> Turned
-    requires { ⌜ TurnAsks (record { rows = rows; features = features; tables = (record { values = now values; targets = now targets; weights = now weights; counts = now counts }); order = now order }) p (now words) (length (now scratch)) (length (now flags)) (record { value = now (value); feature = now (feature); threshold = now (threshold); score = now (score); trueChild = now (truechild); falseChild = now (falsechild) }) (now wholes) (now reals) at ⌝ }
-    ensures { λ r. ⌜ TurnDone (record { rows = rows; features = features; tables = (record { values = now (values .entry); targets = now (targets .entry); weights = now (weights .entry); counts = now (counts .entry) }); order = now (order .entry) }) (record { rows = rows; features = features; tables = (record { values = now (values .entry); targets = now (targets .entry); weights = now (weights .entry); counts = now (counts .entry) }); order = now (order .exit) }) p (now (words .entry)) (now (thresholds .entry)) (record { value = now (value .entry); feature = now (feature .entry); threshold = now (threshold .entry); score = now (score .entry); trueChild = now (truechild .entry); falseChild = now (falsechild .entry) }) (record { value = now (value .exit); feature = now (feature .exit); threshold = now (threshold .exit); score = now (score .exit); trueChild = now (truechild .exit); falseChild = now (falsechild .exit) }) (now (wholes .entry)) (now (reals .entry)) (now (wholes .exit)) (now (reals .exit)) at r ⌝ }
+    requires { ⌜
+        TurnAsks (groundOf rows features (now values) (now targets) (now weights) (now counts) (now order)) p (now words) (length (now scratch)) (length (now flags))
+        (columnsOf (now value) (now feature) (now threshold) (now score) (now truechild) (now falsechild)) (now wholes) (now reals) at ⌝ }
+    ensures { λ r. ⌜
+        TurnDone (groundOf rows features (now (values .entry)) (now (targets .entry)) (now (weights .entry)) (now (counts .entry)) (now (order .entry)))
+        (groundOf rows features (now (values .entry)) (now (targets .entry)) (now (weights .entry)) (now (counts .entry)) (now (order .exit))) p (now (words .entry))
+        (now (thresholds .entry))
+        (columnsOf (now (value .entry)) (now (feature .entry)) (now (threshold .entry)) (now (score .entry)) (now (truechild .entry)) (now (falsechild .entry)))
+        (columnsOf (now (value .exit)) (now (feature .exit)) (now (threshold .exit)) (now (score .exit)) (now (truechild .exit)) (now (falsechild .exit)))
+        (now (wholes .entry)) (now (reals .entry)) (now (wholes .exit)) (now (reals .exit)) at r ⌝ }
 {
     let m = at.waiting - 1;
     let n = at.nodes;
     let d = at.drawn;
-    let w = node_growth::nodes::top(wholes, reals, m);
+    let w = node_entries::top(wholes, reals, m);
     let h = node_growth::split_node(
-        values,
-        targets,
-        weights,
-        counts,
-        order,
         flags,
         value,
         feature,
@@ -78,12 +83,21 @@ pub fn turn(
         score,
         truechild,
         falsechild,
+        values,
+        targets,
+        weights,
+        counts,
+        order,
         rows,
         features,
         w,
         n,
     );
     let r = node_growth::search_sides(
+        order,
+        scratch,
+        wholes,
+        reals,
         values,
         targets,
         weights,
@@ -91,10 +105,6 @@ pub fn turn(
         words,
         thresholds,
         flags,
-        order,
-        scratch,
-        wholes,
-        reals,
         rows,
         features,
         p,
@@ -125,12 +135,6 @@ pub fn turn(
 
 // The growth: turns until nothing waits. `most` is how many nodes there may be.
 pub fn grow(
-    values: &[f64],
-    targets: &[f64],
-    weights: &[f64],
-    counts: &[u32],
-    words: &[u32],
-    thresholds: &[f64],
     order: &mut [u32],
     scratch: &mut [u32],
     flags: &mut [bool],
@@ -142,24 +146,31 @@ pub fn grow(
     falsechild: &mut [u32],
     wholes: &mut [[u32; 6]],
     reals: &mut [[f64; 3]],
+    values: &[f64],
+    targets: &[f64],
+    weights: &[f64],
+    counts: &[u32],
+    words: &[u32],
+    thresholds: &[f64],
     rows: usize,
     features: usize,
     most: usize,
     p: Params,
     start: At,
 ) -> Turned
-    requires { ⌜ GrowAsks (record { rows = rows; features = features; tables = (record { values = now values; targets = now targets; weights = now weights; counts = now counts }); order = now order }) p (now words) most (length (now scratch)) (length (now flags)) (record { value = now (value); feature = now (feature); threshold = now (threshold); score = now (score); trueChild = now (truechild); falseChild = now (falsechild) }) (now wholes) (now reals) start ⌝ }
-    ensures { λ r. ⌜ GrowDone (record { rows = rows; features = features; tables = (record { values = now (values .entry); targets = now (targets .entry); weights = now (weights .entry); counts = now (counts .entry) }); order = now (order .entry) }) p (now (words .entry)) (now (thresholds .entry)) most (record { value = now (value .entry); feature = now (feature .entry); threshold = now (threshold .entry); score = now (score .entry); trueChild = now (truechild .entry); falseChild = now (falsechild .entry) }) (record { value = now (value .exit); feature = now (feature .exit); threshold = now (threshold .exit); score = now (score .exit); trueChild = now (truechild .exit); falseChild = now (falsechild .exit) }) (now (wholes .entry)) (now (reals .entry)) start r ⌝ }
+    requires { ⌜
+        GrowAsks (groundOf rows features (now values) (now targets) (now weights) (now counts) (now order)) p (now words) most (length (now scratch)) (length (now flags))
+        (columnsOf (now value) (now feature) (now threshold) (now score) (now truechild) (now falsechild)) (now wholes) (now reals) start ⌝ }
+    ensures { λ r. ⌜
+        GrowDone (groundOf rows features (now (values .entry)) (now (targets .entry)) (now (weights .entry)) (now (counts .entry)) (now (order .entry))) p
+        (now (words .entry)) (now (thresholds .entry)) most
+        (columnsOf (now (value .entry)) (now (feature .entry)) (now (threshold .entry)) (now (score .entry)) (now (truechild .entry)) (now (falsechild .entry)))
+        (columnsOf (now (value .exit)) (now (feature .exit)) (now (threshold .exit)) (now (score .exit)) (now (truechild .exit)) (now (falsechild .exit)))
+        (now (wholes .entry)) (now (reals .entry)) start r ⌝ }
 {
     let mut at = start;
     while 0 < at.waiting {
         let r = turn(
-            values,
-            targets,
-            weights,
-            counts,
-            words,
-            thresholds,
             order,
             scratch,
             flags,
@@ -171,6 +182,12 @@ pub fn grow(
             falsechild,
             wholes,
             reals,
+            values,
+            targets,
+            weights,
+            counts,
+            words,
+            thresholds,
             rows,
             features,
             p,
@@ -190,6 +207,8 @@ pub fn grow(
 
 // The root is searched if something is kept, the limit is above 1 and its count reaches the least split.
 pub fn start_tree(
+    wholes: &mut [[u32; 6]],
+    reals: &mut [[f64; 3]],
     values: &[f64],
     targets: &[f64],
     weights: &[f64],
@@ -197,8 +216,6 @@ pub fn start_tree(
     order: &[u32],
     words: &[u32],
     thresholds: &[f64],
-    wholes: &mut [[u32; 6]],
-    reals: &mut [[f64; 3]],
     rows: usize,
     features: usize,
     most: usize,
@@ -206,8 +223,11 @@ pub fn start_tree(
     kept: u32,
     root: Side,
 ) -> Step
-    requires { ⌜ TreeAsks (record { rows = rows; features = features; tables = (record { values = now values; targets = now targets; weights = now weights; counts = now counts }); order = now order }) p most kept root (length (now wholes)) (length (now reals)) ⌝ }
-    ensures { λ r. ⌜ StartDone (record { rows = rows; features = features; tables = (record { values = now (values .entry); targets = now (targets .entry); weights = now (weights .entry); counts = now (counts .entry) }); order = now (order .entry) }) p (now (words .entry)) (now (thresholds .entry)) (now (wholes .exit)) (now (reals .exit)) kept root r ⌝ }
+    requires { ⌜
+        TreeAsks (groundOf rows features (now values) (now targets) (now weights) (now counts) (now order)) p most kept root (length (now wholes)) (length (now reals)) ⌝ }
+    ensures { λ r. ⌜
+        StartDone (groundOf rows features (now (values .entry)) (now (targets .entry)) (now (weights .entry)) (now (counts .entry)) (now (order .entry))) p
+        (now (words .entry)) (now (thresholds .entry)) (now (wholes .exit)) (now (reals .exit)) kept root r ⌝ }
 {
     let s = Stand {
         waiting: 0,
@@ -219,6 +239,8 @@ pub fn start_tree(
     };
     if 0 < root.count {
         return node_growth::search_child(
+            wholes,
+            reals,
             values,
             targets,
             weights,
@@ -226,8 +248,6 @@ pub fn start_tree(
             order,
             words,
             thresholds,
-            wholes,
-            reals,
             rows,
             features,
             p,
@@ -268,12 +288,19 @@ pub fn grow_tree(
     kept: u32,
     root: Side,
 ) -> Turned
-    requires { ⌜ TreeAsks (record { rows = rows; features = features; tables = (record { values = now values; targets = now targets; weights = now weights; counts = now counts }); order = now order }) p most kept root (length (now wholes)) (length (now reals)) ⌝ }
-    requires { ⌜ (rows ≤ length (now scratch)) × (rows ≤ length (now flags)) × LongAll most (record { value = now (value); feature = now (feature); threshold = now (threshold); score = now (score); trueChild = now (truechild); falseChild = now (falsechild) }) ⌝ }
-    ensures { λ r. ⌜ TreeDone (record { rows = rows; features = features; tables = (record { values = now (values .entry); targets = now (targets .entry); weights = now (weights .entry); counts = now (counts .entry) }); order = now (order .entry) }) p (now (words .entry)) (now (thresholds .entry)) (record { value = now (value .entry); feature = now (feature .entry); threshold = now (threshold .entry); score = now (score .entry); trueChild = now (truechild .entry); falseChild = now (falsechild .entry) }) (record { value = now (value .exit); feature = now (feature .exit); threshold = now (threshold .exit); score = now (score .exit); trueChild = now (truechild .exit); falseChild = now (falsechild .exit) }) kept root r ⌝ }
+    requires { ⌜
+        TreeAsks (groundOf rows features (now values) (now targets) (now weights) (now counts) (now order)) p most kept root (length (now wholes)) (length (now reals)) ⌝ }
+    requires { ⌜
+        (rows ≤ length (now scratch)) × (rows ≤ length (now flags)) × LongAll most
+        (columnsOf (now value) (now feature) (now threshold) (now score) (now truechild) (now falsechild)) ⌝ }
+    ensures { λ r. ⌜
+        TreeDone (groundOf rows features (now (values .entry)) (now (targets .entry)) (now (weights .entry)) (now (counts .entry)) (now (order .entry))) p
+        (now (words .entry)) (now (thresholds .entry))
+        (columnsOf (now (value .entry)) (now (feature .entry)) (now (threshold .entry)) (now (score .entry)) (now (truechild .entry)) (now (falsechild .entry)))
+        (columnsOf (now (value .exit)) (now (feature .exit)) (now (threshold .exit)) (now (score .exit)) (now (truechild .exit)) (now (falsechild .exit))) kept root r ⌝ }
 {
     let t = root.totals;
-    node_growth::nodes::put_leaf(
+    node_entries::put_leaf(
         value,
         feature,
         threshold,
@@ -284,6 +311,8 @@ pub fn grow_tree(
         t,
     );
     let r = start_tree(
+        wholes,
+        reals,
         values,
         targets,
         weights,
@@ -291,8 +320,6 @@ pub fn grow_tree(
         order,
         words,
         thresholds,
-        wholes,
-        reals,
         rows,
         features,
         most,
@@ -311,12 +338,6 @@ pub fn grow_tree(
                 drawn: d,
             };
             grow(
-                values,
-                targets,
-                weights,
-                counts,
-                words,
-                thresholds,
                 order,
                 scratch,
                 flags,
@@ -328,6 +349,12 @@ pub fn grow_tree(
                 falsechild,
                 wholes,
                 reals,
+                values,
+                targets,
+                weights,
+                counts,
+                words,
+                thresholds,
                 rows,
                 features,
                 most,

@@ -18,13 +18,13 @@ module _ {A : Type 0} (p : A → Bool) (l₀ l : List A) (i w : ℕ) (d x : A) (
   unfolding keep
   one-more = rw (add-one, take-suc l₀ i d) (keep-append p (take i l₀) (getD l₀ i d ∷ [])) ∙ (λ z. sym e z ++ putIf (p (sym same z)) (sym same z) [])
 
-  pub front-yes : w < length l → p x ≡ true → take (w + 1) (set l w x) ≡ keep p (take (i + 1) l₀)
+  pub front-kept : w < length l → p x ≡ true → take (w + 1) (set l w x) ≡ keep p (take (i + 1) l₀)
   unfolding putIf
-  front-yes g t = ap (λ n. take n (set l w x)) (add-one w) ∙ take-suc-set l w x g ∙ ap (λ b. take w l ++ putIf b x []) (sym t) ∙ sym one-more
+  front-kept g t = ap (λ n. take n (set l w x)) (add-one w) ∙ take-suc-set l w x g ∙ ap (λ b. take w l ++ putIf b x []) (sym t) ∙ sym one-more
 
-  pub front-no : p x ≡ false → take w (set l w x) ≡ keep p (take (i + 1) l₀)
+  pub front-left : p x ≡ false → take w (set l w x) ≡ keep p (take (i + 1) l₀)
   unfolding putIf
-  front-no t = take-set-le w l w x (le-refl w) ∙ sym (append-nil (take w l)) ∙ ap (λ b. take w l ++ putIf b x []) (sym t) ∙ sym one-more
+  front-left t = take-set-le w l w x (le-refl w) ∙ sym (append-nil (take w l)) ∙ ap (λ b. take w l ++ putIf b x []) (sym t) ∙ sym one-more
 
 -- what passes and what does not make up the list
 pub keep-both : {A : Type 0} (p : A → Bool) (l : List A) → length (keep p l) + length (keep (λ x. not (p x)) l) ≡ length l

@@ -248,9 +248,11 @@ module _ (rows features a e : ℕ) (values targets weights : List Float) (counts
   split-every Q k n h g w z =
       subst (Every Q) (sym (part-join rows k 0 a n after (omega arith) (omega (arith, q .ordered)) ∙ ap (λ l. part rows k 0 a after ++ l) (part-join rows k a e n after (q .ordered) g)))
       (every-append Q (part rows k 0 a after) (part rows k a e after ++ part rows k e n after)
-      (subst (Every Q) (sym (split-beside k 0 a (inl (omega arith)) (omega arith) (omega (arith, q .ordered, q .high)))) (part-every Q rows k 0 n 0 a before (omega arith) (omega (arith, q .ordered)) (omega arith) z))
+      (subst (Every Q) (sym (split-beside k 0 a (inl (omega arith)) (omega arith) (omega (arith, q .ordered, q .high))))
+      (part-every Q rows k 0 n 0 a before (omega arith) (omega (arith, q .ordered)) (omega arith) z))
       (every-append Q (part rows k a e after) (part rows k e n after)
-      (subst (Every Q) (sym (split-here k h)) (every-append Q (keep (goes el c) (part rows k a e before)) (keep (fails (goes el c)) (part rows k a e before)) (every-keep Q (goes el c) _ mine) (every-keep Q (fails (goes el c)) _ mine)))
+      (subst (Every Q) (sym (split-here k h)) (every-append Q (keep (goes el c) (part rows k a e before)) (keep (fails (goes el c)) (part rows k a e before))
+      (every-keep Q (goes el c) _ mine) (every-keep Q (fails (goes el c)) _ mine)))
       (subst (Every Q) (sym (split-beside k e n (inr (omega arith)) g w)) (part-every Q rows k 0 n e n before (omega arith) (omega arith) g z))))
     where
       mine : Every Q (part rows k a e before)

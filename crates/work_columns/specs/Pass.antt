@@ -173,7 +173,9 @@ module _ (features : ℕ) (values targets weights : List Float) (counts : List �
             ∙ ap sideOn (sym (keep-map (λ e. not (goesTrue c e)) whole l))
 
         both : f .all ≡ totalsOf empty (map whole l)
-        both = df .all ∙ (λ i. totalsOf (dy .all i) (map (bare targets weights counts) (e₂ i))) ∙ (λ i. totalsOf (totalsOf (et i) (map (bare targets weights counts) (e₁ i))) (map (bare targets weights counts) (drop n l)))
+        both =
+            df .all ∙ (λ i. totalsOf (dy .all i) (map (bare targets weights counts) (e₂ i)))
+            ∙ (λ i. totalsOf (totalsOf (et i) (map (bare targets weights counts) (e₁ i))) (map (bare targets weights counts) (drop n l)))
             ∙ sym (totals-append empty (map (bare targets weights counts) (take n l)) (map (bare targets weights counts) (drop n l)))
             ∙ ap (totalsOf empty) (sym (map-append (bare targets weights counts) (take n l) (drop n l)) ∙ ap (map (bare targets weights counts)) (take-append-drop n l))
             ∙ bare-totals empty l
@@ -189,16 +191,31 @@ lent-front l n = ap (λ k. take k l) (let e : n - 0 ≡ n = omega arith in e)
 pub lent-rest : (l : List ℕ) (n : ℕ) → take (length l - n) (drop n l) ≡ drop n l
 lent-rest l n = take-all (length l - n) (drop n l) (let h : length (drop n l) ≤ length l - n = simp (length-drop) (omega arith) in h)
 
-pub part-asks : {rows features : ℕ} {values targets weights : List Float} {counts : List ℕ} {c : Cut} {l : List ℕ} {flags : ℕ} → PassAsks rows features values targets weights counts c l flags → (n : ℕ)
+pub part-asks : {rows features : ℕ} {values targets weights : List Float} {counts : List ℕ} {c : Cut} {l : List ℕ} {flags : ℕ}
+    → PassAsks rows features values targets weights counts c l flags → (n : ℕ)
     → {k : List ℕ} → (k ≡ take n l) ⊎ (k ≡ drop n l) → GatherAsks rows targets weights counts k flags
 part-asks {rows} {features} {values} {targets} {weights} {counts} {c} {l} {flags} q n {k} h =
-    record { tables = q .shaped .tables; targeted = q .shaped .targeted; below = rows-of k h; count = omega (arith, q .count, less k h, bare-tally features values targets weights counts l); room = q .room }
+    record {
+      tables = q .shaped .tables;
+      targeted = q .shaped .targeted;
+      below = rows-of k h;
+      count = omega (
+        arith,
+        q .count,
+        less k h,
+        bare-tally features
+            values targets weights counts l,
+      );
+      room = q .room;
+    }
   where
     tallied : List ℕ → ℕ
     tallied m = tally (map (bare targets weights counts) m)
 
     both : tallied l ≡ tallied (take n l) + tallied (drop n l)
-    both = ap tallied (sym (take-append-drop n l)) ∙ ap tally (map-append (bare targets weights counts) (take n l) (drop n l)) ∙ total-append _ (map (bare targets weights counts) (take n l)) (map (bare targets weights counts) (drop n l))
+    both =
+        ap tallied (sym (take-append-drop n l)) ∙ ap tally (map-append (bare targets weights counts) (take n l) (drop n l))
+        ∙ total-append _ (map (bare targets weights counts) (take n l)) (map (bare targets weights counts) (drop n l))
 
     less : (k : List ℕ) → (k ≡ take n l) ⊎ (k ≡ drop n l) → tallied k ≤ tallied l
     less k (inl e) = omega (arith, both, ap tallied e)

@@ -106,20 +106,20 @@ module _ (f : ℕ → ℕ) (p : ℕ → Bool) (n : ℕ) where
     unfolding keep
     next b e = ap (λ c. k + total f (putIf c i (keep p (from (i + 1) (n - (i + 1)))))) (sym e) ∙ ap (λ l. k + total f (keep p l)) (sym (from-next i n h)) ∙ s .so
 
-    yes-sum : p i ≡ true → k + (f i + rest) ≡ total f (keep p (from 0 n))
+    kept-sum : p i ≡ true → k + (f i + rest) ≡ total f (keep p (from 0 n))
     unfolding putIf total rest
-    yes-sum e = next true e
+    kept-sum e = next true e
 
     pub counting-fits : p i ≡ true → k + f i ≤ total f (keep p (from 0 n))
-    counting-fits e = omega (arith, yes-sum e)
+    counting-fits e = omega (arith, kept-sum e)
 
-    pub counting-yes : p i ≡ true → Counting f p n (k + f i) (i + 1)
+    pub counting-kept : p i ≡ true → Counting f p n (k + f i) (i + 1)
     unfolding rest
-    counting-yes e = record { within = omega arith; so = omega (arith, yes-sum e) }
+    counting-kept e = record { within = omega arith; so = omega (arith, kept-sum e) }
 
-    pub counting-no : p i ≡ false → Counting f p n k (i + 1)
+    pub counting-left : p i ≡ false → Counting f p n k (i + 1)
     unfolding putIf
-    counting-no e = record { within = omega arith; so = next false e }
+    counting-left e = record { within = omega arith; so = next false e }
 
   pub counting-done : (k i : ℕ) → Counting f p n k i → n ≤ i → k ≡ total f (keep p (from 0 n))
   unfolding keep total
@@ -142,7 +142,9 @@ low-total counts rows p few low = small (total (countIn counts) (keep p (from 0 
     one i = leb→le (countIn counts i) 65535 (every-or (λ c. T (leb c 65535)) counts 0 i low tt)
 
     bound : total (countIn counts) (keep p (from 0 rows)) ≤ length (keep p (from 0 rows)) * 65535
-    bound = subst (λ m. total (countIn counts) (keep p (from 0 rows)) ≤ m) (times 65535 (keep p (from 0 rows))) (total-le (countIn counts) (λ i. 65535) (keep p (from 0 rows)) (every-all _ one (keep p (from 0 rows))))
+    bound =
+        subst (λ m. total (countIn counts) (keep p (from 0 rows)) ≤ m) (times 65535 (keep p (from 0 rows)))
+        (total-le (countIn counts) (λ i. 65535) (keep p (from 0 rows)) (every-all _ one (keep p (from 0 rows))))
 
     small : (t k : ℕ) → t ≤ k * 65535 → k ≤ rows → rows ≤ 65535 → t < 4294967296
     small t k a b c = omega arith

@@ -3,9 +3,9 @@ ghost use mathlib.Core.Path.{_≡_};
 ghost use Prim.Native.Nat.{_+_, _≤_, _<_};
 ghost use mathlib.Core.Bool.{false};
 ghost use mathlib.Core.List.{map};
-ghost use lib.ListN.{length, replicate};
+ghost use lib.ListN.{length};
 ghost use lib.Seq.{paste};
-ghost use Rattle.rules.specs.Words.{nought, from, keep, total, filled};
+ghost use Rattle.rules.specs.Words.{from, keep, total};
 ghost use Rattle.rules.specs.Lent.{countIn, keptIn, cell};
 ghost use Rattle.rules.specs.Totals.{empty};
 ghost use Rattle.rules.specs.Search.{totalsOf};
@@ -222,7 +222,8 @@ fn gather(
     start: Totals,
 ) -> Gathered
     requires { ⌜ GatherAsks rows (now targets) (now weights) (now counts) (now col) (length (now flags)) ⌝ }
-    ensures { λ r. ⌜ GatherDone (bare (now (targets .entry)) (now (weights .entry)) (now (counts .entry))) t start (now (col .entry)) (now (flags .entry)) (now (flags .exit)) r ⌝ }
+    ensures { λ r. ⌜
+        GatherDone (bare (now (targets .entry)) (now (weights .entry)) (now (counts .entry))) t start (now (col .entry)) (now (flags .entry)) (now (flags .exit)) r ⌝ }
 {
     let mut side = criterion::no_side();
     let mut all = start;
@@ -251,7 +252,9 @@ pub fn split_pass(
     cut: Cut,
 ) -> Sides
     requires { ⌜ PassAsks rows features (now values) (now targets) (now weights) (now counts) cut (now col) (length (now flags)) ⌝ }
-    ensures { λ r. ⌜ PassDone (elementIn features (now (values .entry)) (now (targets .entry)) (now (weights .entry)) (now (counts .entry))) cut (now (col .entry)) (now (flags .entry)) (now (flags .exit)) r ⌝ }
+    ensures { λ r. ⌜
+        PassDone (elementIn features (now (values .entry)) (now (targets .entry)) (now (weights .entry)) (now (counts .entry))) cut (now (col .entry))
+        (now (flags .entry)) (now (flags .exit)) r ⌝ }
 {
     let n = true_rows(values, col, rows, features, cut);
     let none = criterion::no_rows();
@@ -302,7 +305,9 @@ pub fn split_sides(
     cut: Cut,
 ) -> Sides
     requires { ⌜ SplitAsks rows features start end (now values) (now targets) (now weights) (now counts) cut (now order) (length (now flags)) ⌝ }
-    ensures { λ r. ⌜ SplitDone rows start end (elementIn features (now (values .entry)) (now (targets .entry)) (now (weights .entry)) (now (counts .entry))) cut (now (order .entry)) (now (flags .exit)) r ⌝ }
+    ensures { λ r. ⌜
+        SplitDone rows start end (elementIn features (now (values .entry)) (now (targets .entry)) (now (weights .entry)) (now (counts .entry))) cut (now (order .entry))
+        (now (flags .exit)) r ⌝ }
 {
     let j = slices::wide(cut.feature);
     let base = j * rows;

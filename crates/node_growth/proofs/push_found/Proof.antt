@@ -11,7 +11,9 @@ enum-told : tie.Need-enum-told
 enum-told c = search needs
 
 returns : tie.Need-returns
-returns c = let a = c .before .before .args in push-none (a .wholes .now) (a .reals .now) (a .n) (a .node) (a .level) (a .from) (a .to) (a .a) (a .d) (c .enum-told .given .1)
+returns c =
+    let a = c .before .before .args in
+    push-none (a .wholes .now) (a .reals .now) (a .n) (a .node) (a .level) (a .from) (a .to) (a .a) (a .d) (c .enum-told .given .1)
 
 enum-told-2 : tie.Need-enum-told-2
 enum-told-2 c = search needs
@@ -25,8 +27,23 @@ push-requires c κs = search needs
 add-t23 : tie.Need-add-t23
 add-t23 c = search needs
 
+abbrev start-of-enum-told2 : tie.After-enum-told2 → tie.Start
+start-of-enum-told2 c = c .before .before .before .before .before
+
+abbrev at-h : tie.After-reals → tie.After-h
+at-h c = c .before .before .before .before .before .before .before
+
+abbrev at-r : tie.After-reals → tie.After-r
+at-r c = at-h c .before .before .before
+
+abbrev start-of-reals : tie.After-reals → tie.Start
+start-of-reals c = at-r c .before .before
+
 returns-2 : tie.Need-returns-2
-returns-2 c = let a = c .before .before .before .before .before .args in push-uncut (a .wholes .now) (a .reals .now) (a .n) (a .node) (a .level) (a .from) (a .to) (a .a) (a .d) (c .before .before .before .r .given .1) (c .enum-told2 .given .1)
+returns-2 c =
+    let a = start-of-enum-told2 c .args in
+    push-uncut (a .wholes .now) (a .reals .now) (a .n) (a .node) (a .level) (a .from) (a .to) (a .a) (a .d) (c .before .before .before .r .given .1)
+    (c .enum-told2 .given .1)
 
 same-length : tie.Need-same-length
 same-length c = search needs
@@ -36,8 +53,9 @@ same-length-2 c = search needs
 
 returns-3 : tie.Need-returns-3
 returns-3 c =
-    let a = c .before .before .before .before .before .before .before .before .before .before .before .before .args in
-    push-cut (a .wholes .now) (a .reals .now) (a .n) (a .node) (a .level) (a .from) (a .to) (a .a) (a .d) (c .before .before .before .before .before .before .before .before .before .before .before .before .pre .0) (c .before .before .before .before .before .before .before .before .before .before .before .before .pre .1) (c .before .before .before .before .before .before .before .before .before .before .r .given .1) (c .before .before .before .before .before .before .before .h .given .1) (c .before .before .push .ensures .0) (c .before .before .push .ensures .1)
+    let a = start-of-reals c .args in
+    push-cut (a .wholes .now) (a .reals .now) (a .n) (a .node) (a .level) (a .from) (a .to) (a .a) (a .d) (start-of-reals c .pre .0) (start-of-reals c .pre .1)
+    (at-r c .r .given .1) (at-h c .h .given .1) (c .before .before .push .ensures .0) (c .before .before .push .ensures .1)
 
 pub push-found-spec : {M : Type 1} → statement M
 push-found-spec =

@@ -1,6 +1,8 @@
 -- `node_growth::search_child` meets its contract: what the search of a child finds is pushed, and a child that is not searched leaves all as it was. Assumes nothing.
 use mathlib.Core.Path.{sym, _∙_}
 use borrow.Author.Needs.{needs}
+use Rattle.search.specs.Flat.{Tables, tablesOf}
+use Rattle.node_growth.specs.Rooms.{Ground, groundOf}
 use Rattle.node_growth.specs.Steps.{node-at, ask-not, ask-goes}
 use Rattle.node_growth.proofs.search_child.Statement.{statement}
 use Rattle.node_growth.proofs.search_child.Tie as tie
@@ -14,11 +16,55 @@ wide-requires c κs = search needs
 wide-requires-2 : tie.Need-wide-requires-2
 wide-requires-2 c κs = search needs
 
+abbrev ground : tie.Start → Ground
+ground s =
+    groundOf (s .args .rows) (s .args .features) (s .args .values .now) (s .args .targets .now) (s .args .weights .now) (s .args .counts .now)
+    (s .args .order .now)
+
+abbrev tables : tie.Start → Tables
+tables s = tablesOf (s .args .values .now) (s .args .targets .now) (s .args .weights .now) (s .args .counts .now)
+
+abbrev start-of-else1 : tie.Else1 → tie.Start
+start-of-else1 c = c .before .before .before .before .before .before .before .before .before .before
+
+abbrev start-of-wide2 : tie.After-wide2 → tie.Start
+start-of-wide2 c = c .before .before .before .before .before .before .before .before .before .before .before .before
+
+abbrev start-to-push-found : tie.After-push-found-arg2 → tie.Start
+start-to-push-found c = start-of-wide2 (c .before .before .before)
+
+abbrev at-search-node : tie.After-reals → tie.After-search-node
+at-search-node c = c .before .before .before .before .before
+
+abbrev at-wide2 : tie.After-reals → tie.After-wide2
+at-wide2 c = at-search-node c .before
+
+abbrev at-wide : tie.After-reals → tie.After-wide
+at-wide c = at-wide2 c .before
+
+abbrev at-then1 : tie.After-reals → tie.Then1
+at-then1 c = at-wide c .before
+
+abbrev at-is-searched : tie.After-reals → tie.After-is-searched
+at-is-searched c = at-then1 c .before
+
+abbrev start-of-reals : tie.After-reals → tie.Start
+start-of-reals c = start-of-wide2 (at-wide2 c)
+
 search-node-requires : tie.Need-search-node-requires
-search-node-requires c κs = let a = c .before .before .before .before .before .before .before .before .before .before .before .before .args in let q = c .before .before .before .before .before .before .before .before .before .before .before .before .pre in (node-at (a .rows) (a .features) (record { values = a .values .now; targets = a .targets .now; weights = a .weights .now; counts = a .counts .now }) (a .order .now) (a .a .count) (a .from) (a .to) (c .before .wide .ensures) (c .wide2 .ensures) (q .node), q .same, q .few, q .some, q .fair)
+search-node-requires c κs =
+    let a = start-of-wide2 c .args in
+    let q = start-of-wide2 c .pre in (
+      node-at (a .rows) (a .features) (tables (start-of-wide2 c)) (a .order .now) (a .a .count) (a .from) (a .to) (c .before .wide .ensures) (c .wide2 .ensures)
+          (q .node),
+      q .same,
+      q .few,
+      q .some,
+      q .fair,
+    )
 
 push-found-requires : tie.Need-push-found-requires
-push-found-requires c κs = (c .before .before .before .before .before .before .before .before .before .before .before .before .before .before .before .pre .wholes, c .before .before .before .before .before .before .before .before .before .before .before .before .before .before .before .pre .reals)
+push-found-requires c κs = (start-to-push-found c .pre .wholes, start-to-push-found c .pre .reals)
 
 same-length : tie.Need-same-length
 same-length c = search needs
@@ -27,10 +73,17 @@ same-length-2 : tie.Need-same-length-2
 same-length-2 c = search needs
 
 returns : tie.Need-returns
-returns c = let a = c .before .before .before .before .before .before .before .before .before .before .before .before .before .before .before .before .before .before .args in ask-goes (record { rows = a .rows; features = a .features; tables = (record { values = a .values .now; targets = a .targets .now; weights = a .weights .now; counts = a .counts .now }); order = a .order .now }) (a .p) (a .words .now) (a .thresholds .now) (a .wholes .now) (a .reals .now) (a .node) (a .level) (a .from) (a .to) (a .a) (a .s) (sym (c .before .before .before .before .before .before .before .before .before .is-searched .ensures) ∙ c .before .before .before .before .before .before .before .before .if1 .taken) (c .before .before .before .before .before .before .before .wide .ensures) (c .before .before .before .before .before .before .wide2 .ensures) (c .before .before .before .before .before .search-node .ensures) (c .before .before .push-found .ensures)
+returns c =
+    let a = start-of-reals c .args in
+    ask-goes (ground (start-of-reals c)) (a .p) (a .words .now) (a .thresholds .now) (a .wholes .now) (a .reals .now) (a .node) (a .level) (a .from) (a .to)
+    (a .a) (a .s) (sym (at-is-searched c .is-searched .ensures) ∙ at-then1 c .if1 .taken) (at-wide c .wide .ensures) (at-wide2 c .wide2 .ensures)
+    (at-search-node c .search-node .ensures) (c .before .before .push-found .ensures)
 
 returns-2 : tie.Need-returns-2
-returns-2 c = let a = c .before .before .before .before .before .before .before .before .before .before .args in ask-not (record { rows = a .rows; features = a .features; tables = (record { values = a .values .now; targets = a .targets .now; weights = a .weights .now; counts = a .counts .now }); order = a .order .now }) (a .p) (a .words .now) (a .thresholds .now) (a .wholes .now) (a .reals .now) (a .node) (a .level) (a .from) (a .to) (a .a) (a .s) (sym (c .before .is-searched .ensures) ∙ c .if1 .left) (c .before .before .before .before .before .before .before .before .before .before .pre .fair)
+returns-2 c =
+    let a = start-of-else1 c .args in
+    ask-not (ground (start-of-else1 c)) (a .p) (a .words .now) (a .thresholds .now) (a .wholes .now) (a .reals .now) (a .node) (a .level) (a .from) (a .to)
+    (a .a) (a .s) (sym (c .before .is-searched .ensures) ∙ c .if1 .left) (start-of-else1 c .pre .fair)
 
 pub search-child-spec : {M : Type 1} → statement M
 search-child-spec =

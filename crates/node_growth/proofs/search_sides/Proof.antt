@@ -11,11 +11,23 @@ use Rattle.node_growth.proofs.search_sides.Tie as tie
 few : (c : tie.Start) → c .args .w .count < 4294967296
 few c = c .good .1 .1 .1 .1 .1 .1 .1 .1 .1 .1 .1 .1 .1 .1 .0 .1 .1 .1 .1 .1 .1 .0 .1
 
-abbrev from : tie.After-either-searched → tie.Start
-from c = c .before .before .before .before .before .before .before .before .before .before .before .before .before
+abbrev start-of : tie.After-either-searched → tie.Start
+start-of c = c .before .before .before .before .before .before .before .before .before .before .before .before .before
 
-abbrev from-parts : tie.After-wide3 → tie.Start
-from-parts c = from (c .before .before .before .before .before .before)
+abbrev asked-to-part : tie.After-wide3 → tie.After-either-searched
+asked-to-part c = c .before .before .before .before .before .before
+
+abbrev to-part : tie.After-struct-known3 → tie.After-wide3
+to-part c = c .before .before .before .before .before .before .before
+
+abbrev parted-to-search : tie.After-search-both-arg3 → tie.After-partition-columns
+parted-to-search c = c .before .before .before .before .before .before .before .before .before
+
+abbrev parted-end : tie.After-reals → tie.After-partition-columns
+parted-end c = parted-to-search (c .before .before .before)
+
+abbrev start-to-part : tie.After-wide3 → tie.Start
+start-to-part c = start-of (asked-to-part c)
 
 add-l : tie.Need-add-l
 add-l c = search needs
@@ -34,17 +46,21 @@ wide-requires-3 c κs = search needs
 
 partition-columns-requires : tie.Need-partition-columns-requires
 partition-columns-requires c κs =
-    let b = from-parts c in
-    taken-parts _ _ _ _ (now (b .args .flags)) _ _ _ _ _ (b .pre .taken) _ (b .pre .split) (few b) (c .before .before .before .wide .ensures) (c .before .before .wide2 .ensures) (c .wide3 .ensures)
+    let b = start-to-part c in
+    taken-parts _ _ _ _ (now (b .args .flags)) _ _ _ _ _ (b .pre .taken) _ (b .pre .split) (few b) (c .before .before .before .wide .ensures)
+    (c .before .before .wide2 .ensures) (c .wide3 .ensures)
 
 add-mid : tie.Need-add-mid
-add-mid c = let b = from-parts (c .before .before .before .before .before .before .before) in omega (arith, sides-fit _ _ _ _ (now (b .args .flags)) _ _ _ _ _ (b .pre .taken) _ (b .pre .split), b .pre .taken .high, b .pre .taken .small)
+add-mid c =
+    let b = start-to-part (to-part c) in
+    omega (arith, sides-fit _ _ _ _ (now (b .args .flags)) _ _ _ _ _ (b .pre .taken) _ (b .pre .split), b .pre .taken .high, b .pre .taken .small)
 
 search-both-requires : tie.Need-search-both-requires
 search-both-requires c κs =
-    let p = c .before .before .before .before .before .before .before .before .before in
-    let b = from-parts (p .before) in
-    both-asks _ _ _ _ (now (b .args .flags)) _ _ _ _ _ (b .pre .taken) _ (b .pre .split) (few b) _ (p .before .before .before .before .wide .ensures) (p .before .before .before .wide2 .ensures) (p .partition-columns .ensures)
+    let p = parted-to-search c in
+    let b = start-to-part (p .before) in
+    both-asks _ _ _ _ (now (b .args .flags)) _ _ _ _ _ (b .pre .taken) _ (b .pre .split) (few b) _ (p .before .before .before .before .wide .ensures)
+    (p .before .before .before .wide2 .ensures) (p .partition-columns .ensures)
 
 same-length : tie.Need-same-length
 same-length c = search needs
@@ -60,13 +76,14 @@ same-length-4 c = search needs
 
 returns : tie.Need-returns
 returns c =
-    let p = c .before .before .before .before .before .before .before .before .before .before .before .before in
-    let b = from-parts (p .before) in
-    sides-both _ _ _ _ (now (b .args .flags)) _ _ _ _ _ (b .pre .taken) _ (b .pre .split) (few b) _ (p .before .before .before .before .wide .ensures) (p .before .before .before .wide2 .ensures) (p .partition-columns .ensures) _ _ _ _ (c .before .before .search-both .ensures)
+    let p = parted-end c in
+    let b = start-to-part (p .before) in
+    sides-both _ _ _ _ (now (b .args .flags)) _ _ _ _ _ (b .pre .taken) _ (b .pre .split) (few b) _ (p .before .before .before .before .wide .ensures)
+    (p .before .before .before .wide2 .ensures) (p .partition-columns .ensures) _ _ _ _ (c .before .before .search-both .ensures)
 
 returns-2 : tie.Need-returns-2
 returns-2 c =
-    let b = from (c .before) in
+    let b = start-of (c .before) in
     sides-skip _ _ _ _ (now (b .args .flags)) _ _ _ _ _ (b .pre .taken) _ (b .pre .split) _ (sym (c .before .either-searched .ensures) ∙ c .if1 .left)
 
 pub search-sides-spec : {M : Type 1} → statement M

@@ -1,7 +1,8 @@
 -- `node_growth::split_node` meets its contract: the pass gives the sides, then three nodes are written. Assumes nothing.
 use mathlib.Core.Path.{ap, _∙_}
 use borrow.Author.Needs.{needs}
-use Rattle.node_growth.specs.Rooms.{wroteSplit}
+use Rattle.rules.specs.Lent.{Columns, columnsOf}
+use Rattle.node_entries.specs.Entries.{wroteSplit}
 use Rattle.node_growth.specs.Sides.{split-at, done-at}
 use Rattle.node_growth.proofs.split_node.Statement.{statement}
 use Rattle.node_growth.proofs.split_node.Tie as tie
@@ -12,14 +13,43 @@ wide-requires c κs = search needs
 wide-requires-2 : tie.Need-wide-requires-2
 wide-requires-2 c κs = search needs
 
+abbrev columns : tie.Start → Columns
+columns s =
+    columnsOf (s .args .value .now) (s .args .feature .now) (s .args .threshold .now) (s .args .score .now) (s .args .truechild .now) (s .args .falsechild .now)
+
+abbrev start-of-wide2 : tie.After-wide2 → tie.Start
+start-of-wide2 c = c .before .before .before .before .before .before .before .before .before .before .before .before .before .before .before
+
+abbrev start-to-write-split : tie.After-write-split-arg6 → tie.Start
+start-to-write-split c =
+    start-of-wide2 (c .before .before .before .before .before .before .before .before .before .before .before .before .before .before .before)
+
+abbrev at-write-split : tie.After-slice-known14 → tie.After-write-split
+at-write-split c = c .before .before .before .before .before .before .before .before .before .before .before .before
+
+abbrev at-score-of : tie.After-slice-known14 → tie.After-score-of
+at-score-of c = at-write-split c .before .before .before .before .before .before .before
+
+abbrev at-split-sides : tie.After-slice-known14 → tie.After-split-sides
+at-split-sides c = at-score-of c .before .before .before .before .before .before .before .before
+
+abbrev at-wide2 : tie.After-slice-known14 → tie.After-wide2
+at-wide2 c = at-split-sides c .before
+
+abbrev at-wide : tie.After-slice-known14 → tie.After-wide
+at-wide c = at-wide2 c .before
+
+abbrev start-of-end : tie.After-slice-known14 → tie.Start
+start-of-end c = start-of-wide2 (at-wide2 c)
+
 split-sides-requires : tie.Need-split-sides-requires
-split-sides-requires c κs = split-at (c .before .wide .ensures) (c .wide2 .ensures) (c .before .before .before .before .before .before .before .before .before .before .before .before .before .before .before .pre .0)
+split-sides-requires c κs = split-at (c .before .wide .ensures) (c .wide2 .ensures) (start-of-wide2 c .pre .0)
 
 score-of-requires : tie.Need-score-of-requires
 score-of-requires c κs = search needs
 
 write-split-requires : tie.Need-write-split-requires
-write-split-requires c κs = c .before .before .before .before .before .before .before .before .before .before .before .before .before .before .before .before .before .before .before .before .before .before .before .before .before .before .before .before .before .before .pre .1
+write-split-requires c κs = start-to-write-split c .pre .1
 
 same-length : tie.Need-same-length
 same-length c = search needs
@@ -44,10 +74,12 @@ same-length-7 c = search needs
 
 returns : tie.Need-returns
 returns c =
-    let a = c .before .before .before .before .before .before .before .before .before .before .before .before .before .before .before .before .before .before .before .before .before .before .before .before .before .before .before .before .before .before .before .before .before .before .before .before .before .before .before .before .before .before .before .args in
-    let s = c .before .before .before .before .before .before .before .before .before .before .before .before .before .before .before .before .before .before .before .before .before .before .before .before .before .before .before .split-sides .result in (
-      done-at (c .before .before .before .before .before .before .before .before .before .before .before .before .before .before .before .before .before .before .before .before .before .before .before .before .before .before .before .before .before .wide .ensures) (c .before .before .before .before .before .before .before .before .before .before .before .before .before .before .before .before .before .before .before .before .before .before .before .before .before .before .before .before .wide2 .ensures) (c .before .before .before .before .before .before .before .before .before .before .before .before .before .before .before .before .before .before .before .before .before .before .before .before .before .before .before .split-sides .ensures),
-      c .before .before .before .before .before .before .before .before .before .before .before .before .write-split .ensures ∙ ap (λ q. wroteSplit (a .w) (s .trueside .totals) (s .falseside .totals) q (a .n) (record { value = a .value .now; feature = a .feature .now; threshold = a .threshold .now; score = a .score .now; trueChild = a .truechild .now; falseChild = a .falsechild .now })) (c .before .before .before .before .before .before .before .before .before .before .before .before .before .before .before .before .before .before .before .score-of .ensures),
+    let a = start-of-end c .args in
+    let s = at-split-sides c .split-sides .result in (
+      done-at (at-wide c .wide .ensures) (at-wide2 c .wide2 .ensures) (at-split-sides c .split-sides .ensures),
+      at-write-split c .write-split .ensures
+          ∙ ap (λ q. wroteSplit (a .w) (s .trueside .totals) (s .falseside .totals) q (a .n) (columns (start-of-end c)))
+          (at-score-of c .score-of .ensures),
     )
 
 pub split-node-spec : {M : Type 1} → statement M

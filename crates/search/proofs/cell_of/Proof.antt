@@ -2,6 +2,7 @@
 use native.Mathlib.Omega.{arith}
 use mathlib.Core.Path.{sym, subst}
 use Prim.Native.Nat.{_<_}
+use Rattle.search.specs.Flat.{Tables, tablesOf}
 use Rattle.search.specs.Laws.{place, cell-is}
 use borrow.Author.Needs.{needs}
 use Rattle.search.proofs.cell_of.Statement.{statement}
@@ -19,19 +20,36 @@ mul-t c = search needs
 shared-slice-read-t : tie.Need-shared-slice-read-t
 shared-slice-read-t c = search needs
 
+abbrev tables : tie.Start → Tables
+tables s = tablesOf (s .args .values .now) (s .args .targets .now) (s .args .weights .now) (s .args .counts .now)
+
+abbrev start-of-known : tie.After-shared-slice-known6 → tie.Start
+start-of-known c = c .before .before .before .before .before .before
+
+abbrev start-of-mass-of : tie.After-mass-of → tie.Start
+start-of-mass-of c = start-of-known (c .before)
+
+abbrev start-of-value-of : tie.After-value-of → tie.Start
+start-of-value-of c = start-of-mass-of (c .before)
+
 mass-of-requires : tie.Need-mass-of-requires
 mass-of-requires c κs =
-    let p = c .before .before .before .before .before .before .pre in
+    let p = start-of-known c .pre in
     record {
       counted = omega (arith, p .0 .counted, p .1);
-      weighed = λ h. subst (λ n. c .before .before .before .before .before .before .args .r < n) (sym (p .0 .weighed h)) (p .1);
+      weighed = λ h. subst (λ n. start-of-known c .args .r < n) (sym (p .0 .weighed h)) (p .1);
     }
 
 value-of-requires : tie.Need-value-of-requires
-value-of-requires c κs = let p = c .before .before .before .before .before .before .before .pre in let a = c .before .before .before .before .before .before .before .args in place (a .r) (a .rows) (a .features) (a .j) (p .1) (p .0 .wide) (p .2)
+value-of-requires c κs =
+    let p = start-of-mass-of c .pre in
+    let a = start-of-mass-of c .args in
+    place (a .r) (a .rows) (a .features) (a .j) (p .1) (p .0 .wide) (p .2)
 
 returns : tie.Need-returns
-returns c = let a = c .before .before .before .before .before .before .before .before .args in cell-is (a .features) (record { values = a .values .now; targets = a .targets .now; weights = a .weights .now; counts = a .counts .now }) (a .j) (a .r) (c .before .before .before .before .before .before .before .before .pre .2) (c .before .mass-of .ensures) (c .value-of .ensures)
+returns c =
+    let a = start-of-value-of c .args in
+    cell-is (a .features) (tables (start-of-value-of c)) (a .j) (a .r) (start-of-value-of c .pre .2) (c .before .mass-of .ensures) (c .value-of .ensures)
 
 pub cell-of-spec : {M : Type 1} → statement M
 cell-of-spec =

@@ -32,19 +32,38 @@ same-length : tie.Need-same-length Inv-loop μ-loop
 same-length c = c .before .before .before .loop .inv .long
 
 returns : tie.Need-returns Inv-loop μ-loop
-returns c = choice-out _ _ _ (c .before .before .before .before .pre .1) _ _ (c .before .before .before .loop .inv) (c .before .before .loop-test .taken) (c .if1 .taken)
+returns c =
+    choice-out _ _ _ (c .before .before .before .before .pre .1) _ _ (c .before .before .before .loop .inv) (c .before .before .loop-test .taken)
+    (c .if1 .taken)
+
+abbrev start-of-known : tie.After-slice-known Inv-loop μ-loop → tie.Start Inv-loop μ-loop
+start-of-known c = c .before .before .before .before .before
+
+abbrev at-loop-of-then2 : tie.Then2 Inv-loop μ-loop → tie.At-loop Inv-loop μ-loop
+at-loop-of-then2 c = c .before .before .before .before .before
+
+abbrev at-loop-of-else2 : tie.Else2 Inv-loop μ-loop → tie.At-loop Inv-loop μ-loop
+at-loop-of-else2 c = c .before .before .before .before .before
+
+abbrev start-of-then2 : tie.Then2 Inv-loop μ-loop → tie.Start Inv-loop μ-loop
+start-of-then2 c = start-of-known (c .before)
+
+abbrev start-of-else2 : tie.Else2 Inv-loop μ-loop → tie.Start Inv-loop μ-loop
+start-of-else2 c = start-of-known (c .before)
 
 slice-read-if2 : tie.Need-slice-read-if2 Inv-loop μ-loop
-slice-read-if2 c = omega (arith, c .before .if1 .left, c .before .before .before .before .before .pre .0, c .before .before .before .before .loop .inv .long)
+slice-read-if2 c = omega (arith, c .before .if1 .left, start-of-known c .pre .0, c .before .before .before .before .loop .inv .long)
 
 same-length-2 : tie.Need-same-length-2 Inv-loop μ-loop
-same-length-2 c = c .before .before .before .before .before .loop .inv .long
+same-length-2 c = at-loop-of-then2 c .loop .inv .long
 
 returns-2 : tie.Need-returns-2 Inv-loop μ-loop
-returns-2 c = choice-twice _ _ _ (c .before .before .before .before .before .before .pre .1) _ _ (c .before .before .before .before .before .loop .inv) (c .before .before .before .before .loop-test .taken) (c .before .before .if1 .left) (c .if2 .taken)
+returns-2 c =
+    choice-twice _ _ _ (start-of-then2 c .pre .1) _ _ (at-loop-of-then2 c .loop .inv) (c .before .before .before .before .loop-test .taken)
+    (c .before .before .if1 .left) (c .if2 .taken)
 
 slice-write-seen : tie.Need-slice-write-seen Inv-loop μ-loop
-slice-write-seen c = omega (arith, c .before .before .if1 .left, c .before .before .before .before .before .before .pre .0, c .before .before .before .before .before .loop .inv .long)
+slice-write-seen c = omega (arith, c .before .before .if1 .left, start-of-else2 c .pre .0, at-loop-of-else2 c .loop .inv .long)
 
 add-i : tie.Need-add-i Inv-loop μ-loop
 add-i c = search needs
@@ -53,7 +72,9 @@ loop-less : tie.Need-loop-less Inv-loop μ-loop
 loop-less c = search needs
 
 loop-again : tie.Need-loop-again Inv-loop μ-loop
-loop-again c = choice-next _ _ _ (c .before .before .before .before .before .before .pre .1) _ _ (c .before .before .before .before .before .loop .inv) (c .before .before .before .before .before .before .pre .0) (c .before .before .before .before .loop-test .taken) (c .before .before .if1 .left) (c .if2 .left)
+loop-again c =
+    choice-next _ _ _ (start-of-else2 c .pre .1) _ _ (at-loop-of-else2 c .loop .inv) (start-of-else2 c .pre .0)
+    (c .before .before .before .before .loop-test .taken) (c .before .before .if1 .left) (c .if2 .left)
 
 same-length-3 : tie.Need-same-length-3 Inv-loop μ-loop
 same-length-3 c = c .before .loop .inv .long

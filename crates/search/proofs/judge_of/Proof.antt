@@ -17,7 +17,10 @@ better-of-requires : tie.Need-better-of-requires
 better-of-requires c κs = search needs
 
 returns-2 : tie.Need-returns-2
-returns-2 c = let a = c .before .before .before .before .args in judge-goes (a .p) (a .a) (a .h) (a .t) (a .k) (a .c) (c .before .before .before .too-few .ensures) (c .before .before .if1 .left) (c .before .proxy-in .ensures) (c .better-of .ensures)
+returns-2 c =
+    let a = c .before .before .before .before .args in
+    judge-goes (a .p) (a .a) (a .h) (a .t) (a .k) (a .c) (c .before .before .before .too-few .ensures) (c .before .before .if1 .left)
+    (c .before .proxy-in .ensures) (c .better-of .ensures)
 
 pub judge-of-spec : {M : Type 1} → statement M
 judge-of-spec =

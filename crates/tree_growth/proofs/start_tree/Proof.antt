@@ -4,8 +4,14 @@ use Rattle.tree_growth.specs.Tree.{start-asks, start-some, start-none}
 use Rattle.tree_growth.proofs.start_tree.Statement.{statement}
 use Rattle.tree_growth.proofs.start_tree.Tie as tie
 
+abbrev at-start : tie.After-search-child-arg2 → tie.Start
+at-start c = c .before .before .before .before .before .before .before .before .before .before .before
+
+abbrev at-then1 : tie.After-reals → tie.Then1
+at-then1 c = c .before .before .before .before .before
+
 search-child-requires : tie.Need-search-child-requires
-search-child-requires c κs = start-asks _ _ _ _ _ _ _ (c .before .before .before .before .before .before .before .before .before .before .before .pre) (c .before .before .before .before .before .before .before .before .before .before .before .args .words .now)
+search-child-requires c κs = start-asks _ _ _ _ _ _ _ (at-start c .pre) (at-start c .args .words .now)
 
 same-length : tie.Need-same-length
 same-length c = search needs
@@ -14,7 +20,7 @@ same-length-2 : tie.Need-same-length-2
 same-length-2 c = search needs
 
 returns : tie.Need-returns
-returns c = start-some _ _ _ _ _ _ _ _ _ _ _ (c .before .before .before .before .before .if1 .taken) (c .before .before .search-child .ensures)
+returns c = start-some _ _ _ _ _ _ _ _ _ _ _ (at-then1 c .if1 .taken) (c .before .before .search-child .ensures)
 
 returns-2 : tie.Need-returns-2
 returns-2 c = start-none _ _ _ _ _ _ _ _ (c .if1 .left)

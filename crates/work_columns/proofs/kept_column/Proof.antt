@@ -14,7 +14,7 @@ use Rattle.rules.specs.Lent.{keptIn}
 use Rattle.lemmas.specs.Lists.{every-at}
 use Rattle.work_columns.specs.Columns.{KeptTo}
 use Rattle.work_columns.specs.Setup.{weighed-row}
-use Rattle.work_columns.specs.Fronts.{front-yes, front-no}
+use Rattle.work_columns.specs.Fronts.{front-kept, front-left}
 use Rattle.work_columns.proofs.kept_column.Statement.{statement}
 use Rattle.work_columns.proofs.kept_column.Tie as tie
 
@@ -29,11 +29,19 @@ module _ (p : ℕ → Bool) (l column₀ column : List ℕ) (n i : ℕ) (s : Kee
     abbrev next : List ℕ
     next = set column n (getD l i 0)
 
-    yes-turn : p (getD l i 0) ≡ true → Keeping p l column₀ next (n + 1) (i + 1)
-    yes-turn t = record { within = omega arith; few = omega arith; long = length-set column n _ ∙ s .long; front = front-yes p l column i n 0 _ refl h (s .front) (omega arith) t }
+    kept-turn : p (getD l i 0) ≡ true → Keeping p l column₀ next (n + 1) (i + 1)
+    kept-turn t =
+        record {
+          within = omega arith;
+          few = omega arith;
+          long = length-set column n _ ∙ s .long;
+          front = front-kept p l column i n 0 _ refl h (s .front) (omega
+              arith) t;
+        }
 
-    no-turn : p (getD l i 0) ≡ false → Keeping p l column₀ next n (i + 1)
-    no-turn t = record { within = omega arith; few = omega arith; long = length-set column n _ ∙ s .long; front = front-no p l column i n 0 _ refl h (s .front) t }
+    left-turn : p (getD l i 0) ≡ false → Keeping p l column₀ next n (i + 1)
+    left-turn t =
+        record { within = omega arith; few = omega arith; long = length-set column n _ ∙ s .long; front = front-left p l column i n 0 _ refl h (s .front) t }
 
   done : length l ≤ i → KeptTo p l column n
   done h =
@@ -65,9 +73,15 @@ mul-column c = search needs
 slice-write-column : tie.Need-slice-write-column Inv-loop μ-loop
 slice-write-column c = search needs
 
+abbrev start-of-loop : tie.After-loop Inv-loop μ-loop → tie.Start Inv-loop μ-loop
+start-of-loop c = c .before .before .before .before .before .before
+
+abbrev start-of-known : tie.After-shared-slice-known4 Inv-loop μ-loop → tie.Start Inv-loop μ-loop
+start-of-known c = c .before .before .before .before .before .before .before
+
 is-kept-requires : tie.Need-is-kept-requires Inv-loop μ-loop
 is-kept-requires c κs =
-    let a = c .before .before .before .before .before .before .before in
+    let a = start-of-known c in
     weighed-row _ _ _ _ (a .pre .tables) (every-at _ (now (a .args .listing)) 0 (c .before .before .loop .i) (a .pre .below) (c .before .loop-test .taken))
 
 add-n : tie.Need-add-n Inv-loop μ-loop
@@ -86,15 +100,17 @@ loop-again c =
     let k = b .before .loop in
     let p = keptIn (now (a .args .weights)) (now (a .args .counts)) in
     ⊎-elim
-    (λ u. rw (u .1) (yes-turn p (now (a .args .listing)) (now (a .args .column)) (k .column) (k .n) (k .i) (k .inv) (a .pre .room) (b .loop-test .taken) (sym (c .before .is-kept .ensures) ∙ u .0 .taken)))
-    (λ u. rw (u .1) (no-turn p (now (a .args .listing)) (now (a .args .column)) (k .column) (k .n) (k .i) (k .inv) (a .pre .room) (b .loop-test .taken) (sym (c .before .is-kept .ensures) ∙ u .0 .left)))
+    (λ u. rw (u .1) (kept-turn p (now (a .args .listing)) (now (a .args .column)) (k .column) (k .n) (k .i) (k .inv) (a .pre .room) (b .loop-test .taken)
+    (sym (c .before .is-kept .ensures) ∙ u .0 .taken)))
+    (λ u. rw (u .1) (left-turn p (now (a .args .listing)) (now (a .args .column)) (k .column) (k .n) (k .i) (k .inv) (a .pre .room) (b .loop-test .taken)
+    (sym (c .before .is-kept .ensures) ∙ u .0 .left)))
     (c .if1 .came)
 
 same-length : tie.Need-same-length Inv-loop μ-loop
 same-length c = c .before .loop .inv .long
 
 returns : tie.Need-returns Inv-loop μ-loop
-returns c = done _ _ _ _ _ _ (c .before .loop .inv) (c .before .before .before .before .before .before .pre .room) (c .loop-test .left)
+returns c = done _ _ _ _ _ _ (c .before .loop .inv) (start-of-loop c .pre .room) (c .loop-test .left)
 
 pub kept-column-spec : {M : Type 1} → statement M
 kept-column-spec =

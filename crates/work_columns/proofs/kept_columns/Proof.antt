@@ -29,7 +29,8 @@ record Setting (rows : ℕ) (listings : List ℕ) (p : ℕ → Bool) (order₀ o
 
 -- in a turn
 module _ (rows features : ℕ) (listings : List ℕ) (weights : List Float) (counts order₀ order : List ℕ) (n k : ℕ)
-    (q : KeepAllAsks rows features listings weights counts (length order₀)) (s : Setting rows listings (keptIn weights counts) order₀ order n k) (h : k < features) where
+    (q : KeepAllAsks rows features listings weights counts (length order₀)) (s : Setting rows listings (keptIn weights counts) order₀ order n k)
+    (h : k < features) where
   abbrev p : ℕ → Bool
   p = keptIn weights counts
 
@@ -53,7 +54,9 @@ module _ (rows features : ℕ) (listings : List ℕ) (weights : List Float) (cou
   asks =
       record {
         tables = record { counted = refl; weighed = λ w. q .tables .weighed w ∙ sym (q .tables .counted) };
-        below = subst (Every (λ i. i < length counts)) (sym mine) (subst (λ m. Every (λ i. i < m) (listingAt rows listings k)) (sym (q .tables .counted)) (once-below rows (listingAt rows listings k) (q .once k h)));
+        below =
+            subst (Every (λ i. i < length counts)) (sym mine) (subst (λ m. Every (λ i. i < m) (listingAt rows listings k)) (sym (q .tables .counted))
+            (once-below rows (listingAt rows listings k) (q .once k h)));
         room = omega (arith, part-size listings (ends .1), part-size order (omega (arith, ends .0, ends .2)));
       }
 
@@ -80,7 +83,8 @@ module _ (rows features : ℕ) (listings : List ℕ) (weights : List Float) (cou
     here : part rows k 0 r next ≡ keep p (listingAt rows listings k)
     unfolding changed
     here =
-        sym (stretch-in (k * rows) width 0 (r - 0) next (omega (arith, wide, few))) ∙ ap (take (r - 0)) (changed-here (k * rows) width (λ z. new) order room-here as-long)
+        sym (stretch-in (k * rows) width 0 (r - 0) next (omega (arith, wide, few)))
+        ∙ ap (take (r - 0)) (changed-here (k * rows) width (λ z. new) order room-here as-long)
         ∙ ap (λ m. take m new) all ∙ t .written ∙ ap (keep p) mine
 
     before : (j : ℕ) → j < k → part rows j 0 r next ≡ keep p (listingAt rows listings j)
@@ -112,30 +116,42 @@ abbrev μ-loop : tie.MeasureT-loop
 abbrev start : tie.In-loop Inv-loop μ-loop → tie.Start Inv-loop μ-loop
 start c = c .before .before .before .before .before .before
 
+abbrev start-of-loop : tie.After-loop Inv-loop μ-loop → tie.Start Inv-loop μ-loop
+start-of-loop c = c .before .before .before .before .before .before
+
+abbrev at-in-loop : tie.After-slice-known2 Inv-loop μ-loop → tie.In-loop Inv-loop μ-loop
+at-in-loop c = c .before .before .before .before .before
+
 room : (c : tie.In-loop Inv-loop μ-loop) → (c .before .loop .k * start c .args .rows + start c .args .rows ≤ length (now (start c .args .order)))
-    × (c .before .loop .k * start c .args .rows + start c .args .rows ≤ length (now (start c .args .listings))) × (length (c .before .loop .order) ≡ length (now (start c .args .order)))
+    × (c .before .loop .k * start c .args .rows + start c .args .rows ≤ length (now (start c .args .listings))) ×
+    (length (c .before .loop .order) ≡ length (now (start c .args .order)))
 room c = ends _ _ _ _ _ _ _ _ _ (start c .pre) (c .before .loop .inv) (c .loop-test .taken)
 
 loop-holds : tie.Need-loop-holds Inv-loop μ-loop
 loop-holds c = record { long = refl; kept = λ u. absurd (lt-irrefl 0 u) }
 
 mul-base : tie.Need-mul-base Inv-loop μ-loop
-mul-base c = omega (arith, room c .0, room c .1, room c .2, start c .good .0 .0, start c .good .0 .1, start c .good .1 .1 .1 .0 .0, start c .good .1 .1 .1 .0 .1)
+mul-base c =
+    omega (arith, room c .0, room c .1, room c .2, start c .good .0 .0, start c .good .0 .1, start c .good .1 .1 .1 .0 .0, start c .good .1 .1 .1 .0 .1)
 
 add-end : tie.Need-add-end Inv-loop μ-loop
 add-end c = omega (arith, room c .0, room c .1, room c .2, start c .good .0 .0, start c .good .0 .1, start c .good .1 .1 .1 .0 .0, start c .good .1 .1 .1 .0 .1)
 
 mul-kept-column : tie.Need-mul-kept-column Inv-loop μ-loop
-mul-kept-column c = omega (arith, room c .0, room c .1, room c .2, start c .good .0 .0, start c .good .0 .1, start c .good .1 .1 .1 .0 .0, start c .good .1 .1 .1 .0 .1)
+mul-kept-column c =
+    omega (arith, room c .0, room c .1, room c .2, start c .good .0 .0, start c .good .0 .1, start c .good .1 .1 .1 .0 .0, start c .good .1 .1 .1 .0 .1)
 
 sub-kept-column : tie.Need-sub-kept-column Inv-loop μ-loop
-sub-kept-column c = omega (arith, room c .0, room c .1, room c .2, start c .good .0 .0, start c .good .0 .1, start c .good .1 .1 .1 .0 .0, start c .good .1 .1 .1 .0 .1)
+sub-kept-column c =
+    omega (arith, room c .0, room c .1, room c .2, start c .good .0 .0, start c .good .0 .1, start c .good .1 .1 .1 .0 .0, start c .good .1 .1 .1 .0 .1)
 
 part-kept-column-start : tie.Need-part-kept-column-start Inv-loop μ-loop
-part-kept-column-start c = omega (arith, room c .0, room c .1, room c .2, start c .good .0 .0, start c .good .0 .1, start c .good .1 .1 .1 .0 .0, start c .good .1 .1 .1 .0 .1)
+part-kept-column-start c =
+    omega (arith, room c .0, room c .1, room c .2, start c .good .0 .0, start c .good .0 .1, start c .good .1 .1 .1 .0 .0, start c .good .1 .1 .1 .0 .1)
 
 part-kept-column-end : tie.Need-part-kept-column-end Inv-loop μ-loop
-part-kept-column-end c = omega (arith, room c .0, room c .1, room c .2, start c .good .0 .0, start c .good .0 .1, start c .good .1 .1 .1 .0 .0, start c .good .1 .1 .1 .0 .1)
+part-kept-column-end c =
+    omega (arith, room c .0, room c .1, room c .2, start c .good .0 .0, start c .good .0 .1, start c .good .1 .1 .1 .0 .0, start c .good .1 .1 .1 .0 .1)
 
 mul-kept-column-2 : tie.Need-mul-kept-column-2 Inv-loop μ-loop
 mul-kept-column-2 c = let b = c .before in omega (arith, room b .0, room b .1, room b .2, start b .good .1 .1 .1 .0 .0, start b .good .1 .1 .1 .0 .1)
@@ -160,7 +176,7 @@ loop-less c = search needs
 
 loop-again : tie.Need-loop-again Inv-loop μ-loop
 loop-again c =
-    let b = c .before .before .before .before .before in
+    let b = at-in-loop c in
     let k = c .before .before .kept-column in
     turn _ _ _ _ _ _ _ _ _ (start b .pre) (b .before .loop .inv) (b .loop-test .taken) (k .last .1 .1 .1 .0) (k .result) (k .ensures) (k .kept .1 .1 .1 .0)
 
@@ -169,7 +185,7 @@ same-length c = c .before .loop .inv .long
 
 returns : tie.Need-returns Inv-loop μ-loop
 returns c =
-    let q = c .before .before .before .before .before .before .pre in
+    let q = start-of-loop c .pre in
     let s = c .before .loop .inv .kept (omega (arith, q .some, c .loop-test .left)) in
     record { within = s .within; count = s .count; written = λ j h. s .written j (omega (arith, h, c .loop-test .left)) }
 

@@ -6,7 +6,7 @@ use mathlib.Core.Path.{sym, _∙_}
 use mathlib.Core.Logic.{⊎-elim}
 use denote.Ref.{now}
 use Rattle.rules.specs.Lent.{countIn, keptIn}
-use Rattle.work_columns.specs.Setup.{weighed-row, low-total, Counting, counting-start, counting-fits, counting-yes, counting-no, counting-done}
+use Rattle.work_columns.specs.Setup.{weighed-row, low-total, Counting, counting-start, counting-fits, counting-kept, counting-left, counting-done}
 use Rattle.work_columns.proofs.kept_count.Statement.{statement}
 use Rattle.work_columns.proofs.kept_count.Tie as tie
 
@@ -37,7 +37,8 @@ add-n c =
     let k = b .before .loop in
     omega (
       arith,
-      counting-fits (countIn (now (a .args .counts))) (keptIn (now (a .args .weights)) (now (a .args .counts))) (a .args .rows) (k .n) (k .i) (k .inv) (b .loop-test .taken) (sym (c .before .before .is-kept .ensures) ∙ c .before .if1 .taken),
+      counting-fits (countIn (now (a .args .counts))) (keptIn (now (a .args .weights)) (now (a .args .counts))) (a .args .rows) (k .n) (k .i) (k .inv)
+          (b .loop-test .taken) (sym (c .before .before .is-kept .ensures) ∙ c .before .if1 .taken),
       low-total (now (a .args .counts)) (a .args .rows) (keptIn (now (a .args .weights)) (now (a .args .counts))) (a .pre .few) (a .pre .low),
     )
 
@@ -53,8 +54,8 @@ loop-again c =
     let b = c .before .before in
     let a = b .before .before .before .before .args in
     let k = b .before .loop in
-    let turn = counting-yes (countIn (now (a .counts))) (keptIn (now (a .weights)) (now (a .counts))) (a .rows) (k .n) (k .i) (k .inv) (b .loop-test .taken) in
-    let none = counting-no (countIn (now (a .counts))) (keptIn (now (a .weights)) (now (a .counts))) (a .rows) (k .n) (k .i) (k .inv) (b .loop-test .taken) in
+    let turn = counting-kept (countIn (now (a .counts))) (keptIn (now (a .weights)) (now (a .counts))) (a .rows) (k .n) (k .i) (k .inv) (b .loop-test .taken) in
+    let none = counting-left (countIn (now (a .counts))) (keptIn (now (a .weights)) (now (a .counts))) (a .rows) (k .n) (k .i) (k .inv) (b .loop-test .taken) in
     ⊎-elim (λ u. rw (u .2) (turn (sym (c .before .is-kept .ensures) ∙ u .0 .taken))) (λ u. rw (u .1) (none (sym (c .before .is-kept .ensures) ∙ u .0 .left))) (c .if1 .came)
 
 returns : tie.Need-returns Inv-loop μ-loop

@@ -40,18 +40,21 @@ module _ (rows features a e : ℕ) (flags : List Bool) (order₀ order : List �
   asks : k < features → {n : ℕ} → n ≡ scratch → PartAsks (stretch (k * rows + a) (k * rows + e - (k * rows + a)) order) n (length flags)
   asks h {n} m =
       let same : stretch (k * rows + a) (k * rows + e - (k * rows + a)) order ≡ part rows k a e order₀ =
-      ap (λ w. stretch (k * rows + a) w order) wide ∙ going-rest rows a e (way flags) features order₀ (q .ordered) (q .high) (q .long) (keeps flags features (e - a)) order k s in
+      ap (λ w. stretch (k * rows + a) w order) wide
+      ∙ going-rest rows a e (way flags) features order₀ (q .ordered) (q .high) (q .long) (keeps flags features (e - a)) order k s in
       record {
         room = omega (arith, m, ap length same, part-long rows features k a e order₀ (q .long) h (q .ordered) (q .high), q .room);
         below = subst (Every (λ r. r < length flags)) (sym same) (q .below k h);
       }
 
   -- column k is the one that is parted as it stands
-  past : k < features → {but : ℕ} → k ≡ but → parted (flagged flags) (part rows but a e order₀) ≡ part rows but a e order₀ → Going rows a e (way flags) features order₀ order (k + 1)
+  past : k < features → {but : ℕ} → k ≡ but → parted (flagged flags) (part rows but a e order₀) ≡ part rows but a e order₀
+      → Going rows a e (way flags) features order₀ order (k + 1)
   past h is p = going-past rows a e (way flags) features order₀ (q .ordered) (q .high) (q .long) (keeps flags features (e - a)) order k s h (rw is p)
 
 abbrev Inv-loop : tie.InvT-loop
-Inv-loop order₀ rows features start end scratch₀ flags but k₀ order scratch k = Going rows start end (way flags) features order₀ order k × (length scratch ≡ length scratch₀)
+Inv-loop order₀ rows features start end scratch₀ flags but k₀ order scratch k =
+    Going rows start end (way flags) features order₀ order k × (length scratch ≡ length scratch₀)
 
 abbrev μ-loop : tie.MeasureT-loop
 μ-loop order₀ rows features start end scratch₀ flags but k₀ order scratch k = features - k
@@ -59,12 +62,16 @@ abbrev μ-loop : tie.MeasureT-loop
 abbrev from : tie.In-loop Inv-loop μ-loop → tie.Start Inv-loop μ-loop
 from c = c .before .before .before .before .before
 
+abbrev start-of-loop : tie.After-loop Inv-loop μ-loop → tie.Start Inv-loop μ-loop
+start-of-loop c = c .before .before .before .before .before
+
 room : (c : tie.Then1 Inv-loop μ-loop) → let b = c .before in let a = from b .args in let l = b .before .loop in
     (l .k * a .rows + a .end ≤ length (l .order)) × (length (l .order) * 4 < 9223372036854775808) × (a .start ≤ a .end)
 room c =
     let b = c .before in
     let a = from b .args in
-    ends (a .rows) (a .features) (a .start) (a .end) (now (a .flags)) (now (a .order)) _ _ (b .before .loop .k) (from b .pre .0) (b .before .loop .inv .0) (b .loop-test .taken) (from b .good .0 .1)
+    ends (a .rows) (a .features) (a .start) (a .end) (now (a .flags)) (now (a .order)) _ _ (b .before .loop .k) (from b .pre .0) (b .before .loop .inv .0)
+    (b .loop-test .taken) (from b .good .0 .1)
 
 loop-holds : tie.Need-loop-holds Inv-loop μ-loop
 loop-holds c = (going-start _ _ _ _ _ _, refl)
@@ -94,7 +101,8 @@ stable-partition-requires : tie.Need-stable-partition-requires Inv-loop μ-loop
 stable-partition-requires c κs =
     let b = c .before .before .before in
     let a = from b .args in
-    asks (a .rows) (a .features) (a .start) (a .end) (now (a .flags)) (now (a .order)) _ _ (b .before .loop .k) (from b .pre .0) (b .before .loop .inv .0) (b .loop-test .taken) (b .before .loop .inv .1)
+    asks (a .rows) (a .features) (a .start) (a .end) (now (a .flags)) (now (a .order)) _ _ (b .before .loop .k) (from b .pre .0) (b .before .loop .inv .0)
+    (b .loop-test .taken) (b .before .loop .inv .1)
 
 add-k : tie.Need-add-k Inv-loop μ-loop
 add-k c = search needs
@@ -110,19 +118,22 @@ loop-again c =
     let low = l .k * a .rows + a .start in
     ⊎-elim
     (λ u. (
-      rw (u .8) (going-turn (a .rows) (a .start) (a .end) (way (now (a .flags))) (a .features) (now (a .order)) (l .order) (u .3 .last .0) (l .k) low (l .k * a .rows + a .end - low) (l .inv .0) (b .loop-test .taken) refl (omega arith) (u .3 .ensures .parts)),
+      rw (u .8) (going-turn (a .rows) (a .start) (a .end) (way (now (a .flags))) (a .features) (now (a .order)) (l .order) (u .3 .last .0) (l .k) low
+          (l .k * a .rows + a .end - low) (l .inv .0) (b .loop-test .taken) refl (omega arith) (u .3 .ensures .parts)),
       ap length (u .9) ∙ u .3 .kept .1 .0 ∙ l .inv .1,
     ))
     (λ u. (
-      rw (u .1) (past (a .rows) (a .features) (a .start) (a .end) (now (a .flags)) (now (a .order)) (l .order) _ (l .k) (from b .pre .0) (l .inv .0) (b .loop-test .taken) (u .0 .left) (from b .pre .1)),
+      rw (u .1) (past (a .rows) (a .features) (a .start) (a .end) (now (a .flags)) (now (a .order)) (l .order) _ (l .k) (from b .pre .0) (l .inv .0)
+          (b .loop-test .taken) (u .0 .left) (from b .pre .1)),
       ap length (u .2) ∙ l .inv .1,
     ))
     (c .if1 .came)
 
 same-length : tie.Need-same-length Inv-loop μ-loop
 same-length c =
-    let a = c .before .before .before .before .before .args in
-    long (a .rows) (a .features) (a .start) (a .end) (now (a .flags)) (now (a .order)) _ _ (c .before .loop .k) (c .before .before .before .before .before .pre .0) (c .before .loop .inv .0)
+    let a = start-of-loop c .args in
+    long (a .rows) (a .features) (a .start) (a .end) (now (a .flags)) (now (a .order)) _ _ (c .before .loop .k) (start-of-loop c .pre .0)
+    (c .before .loop .inv .0)
 
 same-length-2 : tie.Need-same-length-2 Inv-loop μ-loop
 same-length-2 c = search needs

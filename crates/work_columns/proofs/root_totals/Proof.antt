@@ -22,9 +22,12 @@ no-rows-requires c κs = search needs
 loop-holds : tie.Need-loop-holds Inv-loop μ-loop
 loop-holds c = adding-start _ _ (c .no-rows .ensures)
 
+abbrev at-start : tie.In-loop Inv-loop μ-loop → tie.Start Inv-loop μ-loop
+at-start c = c .before .before .before .before .before .before
+
 mass-of-requires : tie.Need-mass-of-requires Inv-loop μ-loop
 mass-of-requires c κs =
-    let a = c .before .before .before .before .before .before in weighed-row (a .args .rows) _ _ _ (a .pre .tables) (c .loop-test .taken)
+    let a = at-start c in weighed-row (a .args .rows) _ _ _ (a .pre .tables) (c .loop-test .taken)
 
 mul-take-in : tie.Need-mul-take-in Inv-loop μ-loop
 mul-take-in c = search needs

@@ -33,9 +33,12 @@ same-length c = search needs
 same-length-2 : tie.Need-same-length-2
 same-length-2 c = search needs
 
+abbrev at-sweep : tie.After-slice-known5 → tie.After-sweep
+at-sweep c = c .before .before .before .before .before .before .before .before .before
+
 returns : tie.Need-returns
 returns c =
-    let s = c .before .before .before .before .before .before .before .before .before .sweep in
+    let s = at-sweep c .sweep in
     joined _ _ _ _ _ _ (s .ensures) (s .kept .0) (c .before .before .copy-in .ensures)
 
 pub stable-partition-spec : {M : Type 1} → statement M

@@ -12,7 +12,7 @@ use lib.Seq.{take-all, length-take-le}
 use Rattle.rules.specs.Words.{keep}
 use Rattle.lemmas.specs.Lists.{every-at}
 use Rattle.work_columns.specs.Columns.{flagged, fails, Swept}
-use Rattle.work_columns.specs.Fronts.{front-yes, front-no, rest-more, head-same}
+use Rattle.work_columns.specs.Fronts.{front-kept, front-left, rest-more, head-same}
 use Rattle.work_columns.proofs.sweep.Statement.{statement}
 use Rattle.work_columns.proofs.sweep.Tie as tie
 
@@ -36,29 +36,29 @@ module _ (col₀ scratch₀ : List ℕ) (flags : List Bool) (col scratch : List 
     abbrev scratch′ : List ℕ
     scratch′ = set scratch (i - w) (getD col i 0)
 
-    yes-turn : flagged flags (getD col i 0) ≡ true → Passed col₀ scratch₀ flags col′ scratch′ (w + 1) (i + 1)
-    yes-turn t =
+    kept-turn : flagged flags (getD col i 0) ≡ true → Passed col₀ scratch₀ flags col′ scratch′ (w + 1) (i + 1)
+    kept-turn t =
         let e : i + 1 - (w + 1) ≡ i - w = omega arith in
         record {
           within = omega arith;
           few = omega arith;
           long = length-set col w _ ∙ s .long;
           long-s = length-set scratch (i - w) _ ∙ s .long-s;
-          front = front-yes (flagged flags) col₀ col i w 0 _ same h (s .front) (omega arith) t;
-          front-s = ap (λ n. take n scratch′) e ∙ front-no (fails (flagged flags)) col₀ scratch i (i - w) 0 _ same h (s .front-s) (ap not t);
+          front = front-kept (flagged flags) col₀ col i w 0 _ same h (s .front) (omega arith) t;
+          front-s = ap (λ n. take n scratch′) e ∙ front-left (fails (flagged flags)) col₀ scratch i (i - w) 0 _ same h (s .front-s) (ap not t);
           rest = rest-more col col₀ w i _ (s .few) (s .rest);
         }
 
-    no-turn : flagged flags (getD col i 0) ≡ false → Passed col₀ scratch₀ flags col′ scratch′ w (i + 1)
-    no-turn t =
+    left-turn : flagged flags (getD col i 0) ≡ false → Passed col₀ scratch₀ flags col′ scratch′ w (i + 1)
+    left-turn t =
         let e : i + 1 - w ≡ i - w + 1 = omega arith in
         record {
           within = omega arith;
           few = omega arith;
           long = length-set col w _ ∙ s .long;
           long-s = length-set scratch (i - w) _ ∙ s .long-s;
-          front = front-no (flagged flags) col₀ col i w 0 _ same h (s .front) t;
-          front-s = ap (λ n. take n scratch′) e ∙ front-yes (fails (flagged flags)) col₀ scratch i (i - w) 0 _ same h (s .front-s) (omega arith) (ap not t);
+          front = front-left (flagged flags) col₀ col i w 0 _ same h (s .front) t;
+          front-s = ap (λ n. take n scratch′) e ∙ front-kept (fails (flagged flags)) col₀ scratch i (i - w) 0 _ same h (s .front-s) (omega arith) (ap not t);
           rest = rest-more col col₀ w i _ (s .few) (s .rest);
         }
 
@@ -126,8 +126,8 @@ loop-again c =
     let s = at .loop .inv in
     let h : at .loop .i < length (now (at .before .args .col)) = omega arith in
     ⊎-elim
-    (λ u. rw (u .1) (yes-turn _ _ _ _ _ _ _ s h (at .before .pre .room) (u .0 .taken)))
-    (λ u. rw (u .1) (no-turn _ _ _ _ _ _ _ s h (at .before .pre .room) (u .0 .left)))
+    (λ u. rw (u .1) (kept-turn _ _ _ _ _ _ _ s h (at .before .pre .room) (u .0 .taken)))
+    (λ u. rw (u .1) (left-turn _ _ _ _ _ _ _ s h (at .before .pre .room) (u .0 .left)))
     (c .if1 .came)
 
 same-length : tie.Need-same-length Inv-loop μ-loop

@@ -19,9 +19,35 @@ Inv-loop values col rows features cut j i₀ i = (i ≤ length col) × Every (λ
 abbrev μ-loop : tie.MeasureT-loop
 μ-loop values col rows features cut j i₀ i = length col - i
 
+abbrev start-of-wide2 : tie.After-wide2 Inv-loop μ-loop → tie.Start Inv-loop μ-loop
+start-of-wide2 c = c .before .before .before .before .before .before .before
+
+abbrev at-wide : tie.After-value-at Inv-loop μ-loop → tie.After-wide Inv-loop μ-loop
+at-wide c = c .before .before .before .before .before
+
+abbrev start-of-value-at : tie.After-value-at Inv-loop μ-loop → tie.Start Inv-loop μ-loop
+start-of-value-at c = start-of-wide2 (c .before)
+
+abbrev at-in-loop : tie.Then1 Inv-loop μ-loop → tie.In-loop Inv-loop μ-loop
+at-in-loop c = c .before .before .before .before .before
+
+abbrev at-loop-of-then1 : tie.Then1 Inv-loop μ-loop → tie.At-loop Inv-loop μ-loop
+at-loop-of-then1 c = at-in-loop c .before
+
+abbrev at-loop-of-else1 : tie.Else1 Inv-loop μ-loop → tie.At-loop Inv-loop μ-loop
+at-loop-of-else1 c = c .before .before .before .before .before .before
+
+abbrev start-of-then1 : tie.Then1 Inv-loop μ-loop → tie.Start Inv-loop μ-loop
+start-of-then1 c = start-of-value-at (c .before .before)
+
 -- the value that was read is the row's
-read : (c : tie.After-value-at Inv-loop μ-loop) → let a = c .before .before .before .before .before .before .before .before .args in le (c .value-at .result) (a .cut .threshold) ≡ tested (a .features) (a .values .now) (a .cut) (getD (a .col .now) (c .before .before .before .before .loop .i) 0)
-read c = let a = c .before .before .before .before .before .before .before .before .args in ap (λ x. le x (a .cut .threshold)) (c .value-at .ensures ∙ (λ z. cell (a .features) (a .values .now) (c .before .before .before .before .before .wide .ensures z) (c .before .wide2 .ensures z)))
+read : (c : tie.After-value-at Inv-loop μ-loop)
+    → let a = c .before .before .before .before .before .before .before .before .args in le (c .value-at .result) (a .cut .threshold) ≡ tested (a .features)
+    (a .values .now) (a .cut) (getD (a .col .now) (c .before .before .before .before .loop .i) 0)
+read c =
+    let a = start-of-value-at c .args in
+    ap (λ x. le x (a .cut .threshold))
+    (c .value-at .ensures ∙ (λ z. cell (a .features) (a .values .now) (at-wide c .wide .ensures z) (c .before .wide2 .ensures z)))
 
 wide-requires : tie.Need-wide-requires Inv-loop μ-loop
 wide-requires c κs = search needs
@@ -40,8 +66,8 @@ wide-requires-2 c κs = search needs
 
 value-at-requires : tie.Need-value-at-requires Inv-loop μ-loop
 value-at-requires c κs =
-    let p = c .before .before .before .before .before .before .before .pre in
-    let r = every-at _ (c .before .before .before .before .before .before .before .args .col .now) 0 (c .before .before .before .loop .i) (p .below) (c .before .before .loop-test .taken) in
+    let p = start-of-wide2 c .pre in
+    let r = every-at _ (start-of-wide2 c .args .col .now) 0 (c .before .before .before .loop .i) (p .below) (c .before .before .loop-test .taken) in
     record { wide = p .wide; row = omega (arith, r, c .wide2 .ensures); known = omega (arith, p .known, c .before .before .before .before .wide .ensures) }
 
 add-i : tie.Need-add-i Inv-loop μ-loop
@@ -52,13 +78,16 @@ loop-less c = search needs
 
 loop-again : tie.Need-loop-again Inv-loop μ-loop
 loop-again c =
-    let a = c .before .before .before .before .before .before .before .before .before .before .args in
-    let l = c .before .before .before .before .before .before .loop in
-    (omega (arith, c .before .before .before .before .before .loop-test .taken), front-turn (tested (a .features) (a .values .now) (a .cut)) (a .col .now) (l .i) (c .before .before .before .before .before .loop-test .taken) (sym (read (c .before .before)) ∙ c .if1 .taken) (l .inv .1))
+    let a = start-of-then1 c .args in
+    let l = at-loop-of-then1 c .loop in (
+      omega (arith, at-in-loop c .loop-test .taken),
+      front-turn (tested (a .features) (a .values .now) (a .cut)) (a .col .now) (l .i)
+          (at-in-loop c .loop-test .taken) (sym (read (c .before .before)) ∙ c .if1 .taken) (l .inv .1),
+    )
 
 returns : tie.Need-returns Inv-loop μ-loop
 returns c =
-    let l = c .before .before .before .before .before .before .loop in
+    let l = at-loop-of-else1 c .loop in
     record { within = l .inv .0; passed = l .inv .1; stop = λ h. sym (read (c .before .before)) ∙ c .if1 .left }
 
 returns-2 : tie.Need-returns-2 Inv-loop μ-loop

@@ -2,39 +2,70 @@
 use native.Mathlib.Omega.{arith}
 use mathlib.Core.Path.{refl, _∙_}
 use lib.ListN.{getD}
-use Rattle.search.specs.Flat.{elementOf, cutsIn, runAt}
+use Rattle.search.specs.Flat.{Tables, tablesOf, elementOf, cutsIn, runAt}
 use Rattle.search.specs.Laws.{value-is, best-none, best-sweep}
 use borrow.Author.Needs.{needs}
 use Rattle.search.proofs.best.best_in.Statement.{statement}
 use Rattle.search.proofs.best.best_in.Tie as tie
 
+abbrev tables : tie.Start → Tables
+tables s = tablesOf (s .args .values .now) (s .args .targets .now) (s .args .weights .now) (s .args .counts .now)
+
+abbrev start-of-then1 : tie.Then1 → tie.Start
+start-of-then1 c = c .before .before .before .before .before .before
+
+abbrev start-of-else1 : tie.Else1 → tie.Start
+start-of-else1 c = c .before .before .before .before .before .before
+
+abbrev start-of-spot-of : tie.After-spot-of → tie.Start
+start-of-spot-of c = start-of-else1 (c .before .before)
+
+abbrev start-of-earlier-of : tie.After-earlier-of → tie.Start
+start-of-earlier-of c = start-of-spot-of (c .before .before)
+
+abbrev at-else1 : tie.After-held-of → tie.Else1
+at-else1 c = c .before .before .before .before .before
+
+abbrev start-of-held-of : tie.After-held-of → tie.Start
+start-of-held-of c = start-of-else1 (at-else1 c)
+
 returns : tie.Need-returns
-returns c = let a = c .before .before .before .before .before .before .args in best-none (elementOf (a .features) (record { values = a .values .now; targets = a .targets .now; weights = a .weights .now; counts = a .counts .now })) (a .col .now) (c .if1 .taken) (a .p) (a .a) (a .j) (a .h)
+returns c =
+    let a = start-of-then1 c .args in
+    best-none (elementOf (a .features) (tables (start-of-then1 c))) (a .col .now) (c .if1 .taken) (a .p) (a .a) (a .j) (a .h)
 
 value-here-requires : tie.Need-value-here-requires
-value-here-requires c κs = let p = c .before .before .before .before .before .before .pre in (record { below = p .0; wide = p .1 .0 .0 .wide; one = p .1 .0 .1 }, omega (arith, c .if1 .left))
+value-here-requires c κs = let p = start-of-else1 c .pre in (record { below = p .0; wide = p .1 .0 .0 .wide; one = p .1 .0 .1 }, omega (arith, c .if1 .left))
 
 spot-of-requires : tie.Need-spot-of-requires
 spot-of-requires c κs = search needs
 
 sweep-column-requires : tie.Need-sweep-column-requires
 unfolding runAt
-sweep-column-requires c κs = let p = c .before .before .before .before .before .before .before .before .pre in (p .0, (p .1 .0, (omega (arith, p .1 .1), (c .spot-of .ensures .0, c .before .value-here .ensures))))
+sweep-column-requires c κs =
+    let p = start-of-spot-of c .pre in
+    (p .0, (p .1 .0, (omega (arith, p .1 .1), (c .spot-of .ensures .0, c .before .value-here .ensures))))
 
 earlier-of-requires : tie.Need-earlier-of-requires
 earlier-of-requires c κs = search needs
 
 held-of-requires : tie.Need-held-of-requires
-held-of-requires c κs = let p = c .before .before .before .before .before .before .before .before .before .before .pre in (record { below = p .0; wide = p .1 .0 .0 .wide; one = p .1 .0 .1 }, c .before .sweep-column .ensures .0)
+held-of-requires c κs =
+    let p = start-of-earlier-of c .pre in
+    (record { below = p .0; wide = p .1 .0 .0 .wide; one = p .1 .0 .1 }, c .before .sweep-column .ensures .0)
 
 returns-2 : tie.Need-returns-2
 unfolding cutsIn
 returns-2 c =
-    let a = c .before .before .before .before .before .before .before .before .before .before .before .args in
-    let first = value-is (a .features) (record { values = a .values .now; targets = a .targets .now; weights = a .weights .now; counts = a .counts .now }) (a .j) (getD (a .col .now) 0 0) (c .before .before .before .before .before .before .before .before .before .before .before .pre .1 .0 .1) (c .before .before .before .before .value-here .ensures) refl refl in
+    let a = start-of-held-of c .args in
+    let first =
+    value-is (a .features) (tables (start-of-held-of c)) (a .j) (getD (a .col .now) 0 0) (start-of-held-of c .pre .1 .0 .1)
+    (c .before .before .before .before .value-here .ensures) refl refl in
     let b = c .before .earlier-of .result in
     c .held-of .ensures
-    ∙ best-sweep (elementOf (a .features) (record { values = a .values .now; targets = a .targets .now; weights = a .weights .now; counts = a .counts .now })) (a .col .now) (c .before .before .before .before .before .if1 .left) (a .p) (a .a) (a .j) (a .h) first (c .before .before .before .spot-of .ensures .1 (cutsIn (a .features) (a .values .now) (a .j) (a .col .now) b) (c .before .earlier-of .ensures)) (c .before .before .sweep-column .ensures .1 b)
+    ∙ best-sweep (elementOf (a .features) (tables (start-of-held-of c))) (a .col .now) (at-else1 c .if1 .left) (a .p) (a .a) (a .j) (a .h) first
+    (c .before .before .before .spot-of .ensures .1 (cutsIn (a .features) (a .values .now) (a .j) (a .col .now) b) (c .before .earlier-of .ensures))
+    (c .before .before .sweep-column .ensures .1 b)
 
 pub best-in-spec : {M : Type 1} → statement M
 best-in-spec =

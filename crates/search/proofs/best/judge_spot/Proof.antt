@@ -1,5 +1,5 @@
 -- `search::best::judge_spot` meets its contract: what is held is judged as the definition does. Assumes nothing.
-use Rattle.search.specs.Flat.{heldOf}
+use Rattle.candidates.specs.Held.{heldOf}
 use Rattle.search.specs.Laws.{judge-few, judge-goes}
 use borrow.Author.Needs.{needs}
 use Rattle.search.proofs.best.judge_spot.Statement.{statement}
@@ -21,8 +21,11 @@ better-spot-requires c κs = search needs
 
 returns-2 : tie.Need-returns-2
 returns-2 c =
-    let a = c .before .before .before .before .args in
-    (c .better-spot .ensures .0, λ k. judge-goes (a .p) (a .a) (heldOf k (a .s)) (a .t) (a .k) (k (a .place)) (c .before .before .before .too-few .ensures) (c .before .before .if1 .left) (c .before .proxy-in .ensures) (c .better-spot .ensures .1 k))
+    let a = c .before .before .before .before .args in (
+      c .better-spot .ensures .0,
+      λ k. judge-goes (a .p) (a .a) (heldOf k (a .s)) (a .t) (a .k) (k (a .place)) (c .before .before .before .too-few .ensures)
+          (c .before .before .if1 .left) (c .before .proxy-in .ensures) (c .better-spot .ensures .1 k),
+    )
 
 pub judge-spot-spec : {M : Type 1} → statement M
 judge-spot-spec =

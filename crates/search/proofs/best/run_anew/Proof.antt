@@ -35,15 +35,24 @@ add-i c = search needs
 loop-less : tie.Need-loop-less Inv-loop μ-loop
 loop-less c = omega (arith, c .before .before .loop-test .taken)
 
+abbrev start-of-loop : tie.After-loop Inv-loop μ-loop → tie.Start Inv-loop μ-loop
+start-of-loop c = c .before .before .before .before .before
+
+abbrev start-of-run-on : tie.After-run-on Inv-loop μ-loop → tie.Start Inv-loop μ-loop
+start-of-run-on c = c .before .before .before .before .before .before .before
+
 loop-again : tie.Need-loop-again Inv-loop μ-loop
 loop-again c =
-    let a = c .before .before .before .before .before .before .before .args in
-    let l = c .before .before .before .loop in
-    (omega (arith, c .before .before .loop-test .taken), c .run-on .ensures ∙ (λ k. cond (eq (c .before .value-here2 .ensures k) (l .inv .1 k)) (l .inv .1 k) (c .before .value-here2 .ensures k)) ∙ sym (run-next (valueIn (a .features) (a .values .now) (a .j)) (a .col .now) (l .i)))
+    let a = start-of-run-on c .args in
+    let l = c .before .before .before .loop in (
+      omega (arith, c .before .before .loop-test .taken),
+      c .run-on .ensures ∙ (λ k. cond (eq (c .before .value-here2 .ensures k) (l .inv .1 k)) (l .inv .1 k)
+          (c .before .value-here2 .ensures k)) ∙ sym (run-next (valueIn (a .features) (a .values .now) (a .j)) (a .col .now) (l .i)),
+    )
 
 returns : tie.Need-returns Inv-loop μ-loop
 returns c =
-    let a = c .before .before .before .before .before .args in
+    let a = start-of-loop c .args in
     let l = c .before .loop in
     l .inv .1 ∙ ap (runAt (valueIn (a .features) (a .values .now) (a .j)) (a .col .now)) (omega (arith, l .inv .0, c .loop-test .left))
 

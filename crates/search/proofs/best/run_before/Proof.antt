@@ -11,14 +11,23 @@ sub-value-here c = omega (arith, c .if1 .taken)
 value-here-requires : tie.Need-value-here-requires
 value-here-requires c κs = (c .before .before .before .pre .0, omega (arith, c .before .before .before .pre .1))
 
+abbrev start-of-then2 : tie.Then2 → tie.Start
+start-of-then2 c = c .before .before .before .before .before
+
+abbrev start-of-else2 : tie.Else2 → tie.Start
+start-of-else2 c = c .before .before .before .before .before
+
 run-anew-requires : tie.Need-run-anew-requires
-run-anew-requires c κs = c .before .before .before .before .before .pre
+run-anew-requires c κs = start-of-then2 c .pre
 
 returns : tie.Need-returns
 returns c = c .run-anew .ensures
 
 returns-2 : tie.Need-returns-2
-returns-2 c = let a = c .before .before .before .before .before .args in run-last (valueIn (a .features) (a .values .now) (a .j)) (a .col .now) (λ r. c .before .before .before .before .shared-slice-known .given _) (a .n) (c .before .before .if1 .taken) (c .before .value-here .ensures) (c .if2 .left)
+returns-2 c =
+    let a = start-of-else2 c .args in
+    run-last (valueIn (a .features) (a .values .now) (a .j)) (a .col .now) (λ r. c .before .before .before .before .shared-slice-known .given _) (a .n)
+    (c .before .before .if1 .taken) (c .before .value-here .ensures) (c .if2 .left)
 
 run-anew-requires-2 : tie.Need-run-anew-requires-2
 run-anew-requires-2 c κs = c .before .before .before .pre
