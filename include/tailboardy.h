@@ -1,24 +1,22 @@
-/* Tailboardy: a regression forest, proved. The calls of target/staticlib/libexports.a, which is x86-64 code.
+/* Tailboardy: a proved regression forest. The calls of target/staticlib/libexports.a, which is x86-64 code.
  *
- * A slice is a pointer and then a length in entries. A `const` one is read; any other is lent, to be written. Every call answers on
- * every input: what it does not take it refuses by number, and nothing is asked of the numbers that it is handed. Of the memory
- * the caller owes (docs/BOUNDARY.md says more):
- *   - each pointer is valid for its length, aligned for its entries, and not null, of an empty slice too;
- *   - every entry has been written, those of lent slices too, and a bool holds 0 or 1;
- *   - no lent slice overlaps another slice, lent or read, and nothing else reads or writes one during the call;
- *   - floats are rounded to nearest, with no trap and with subnormals kept: what a program starts with.
+ * A slice is passed as a pointer followed by a length in entries. A `const` slice is only read; every other slice is written, and is
+ * said to be lent to the call. Every call returns on every input: an input that it does not accept is refused with a number, and the
+ * numbers in the slices may be anything. The caller must guarantee the following about memory (docs/BOUNDARY.md has the details):
+ *   - each pointer is valid for its length, aligned for its entries, and not null, even if the slice is empty;
+ *   - every entry is initialised, those of lent slices too, and a bool holds 0 or 1;
+ *   - no lent slice overlaps another slice, and nothing else reads or writes a lent slice during the call;
+ *   - the floating-point mode is the default: round to nearest, no traps, subnormals not flushed to zero.
  *
- * Lists. `values` lie row after row, `counts` tree after tree, `listings` feature after feature. `weights` are one a row, or none:
- * length 0. A tree's nodes are six columns, value, feature, threshold, score, yes and no; the shortest counts. `yes` is the number of
- * the child for values at or below the threshold, `no` that of the other; both 0 is a leaf. The trees of a forest lie one after
- * another, each with node numbers of its own from 0; `starts` has trees + 1 positions, where each begins and the last ends.
+ * Lists: `values` are stored row after row, `counts` tree after tree, `listings` feature after feature. There is one weight per row,
+ * or none (length 0). The nodes of a tree are in six columns: value, feature, threshold, score, yes and no; the shortest column
+ * decides how many nodes there are. `yes` is the number of the child for values at or below the threshold, `no` that of the other
+ * child; a node where both are 0 is a leaf. The trees of a forest are stored one after another, each with its own node numbers
+ * starting at 0; `starts` has trees + 1 positions: where each tree begins, and where the last one ends.
  *
- * Refusals: 1 rows, features or trees out of range (1 to 65,535, 1,024 and 1,024); 2 a length is not as the sizes ask, or a cut
- * table is wrong; 3 a value or target is not finite, or a weight is not or is below 0; 4 a count is above 65,535, or, in a forest
- * with weights, not 1; 5 a listing has not each row once, or a value falls along it; 6 a room is too short, or a result is not
- * exactly as long as asked; 7 a bad draw; 8 a lent table is bad; 9 no counts; 10 counts that are not trees times rows.
- * The numbers behind each call below are its refusals, in the order of its checks. A refusal leaves every lent slice as it was,
- * except 7, which fills each with zero. */
+ * Refusals: 1 sizes, 2 lengths, 3 numbers, 4 counts, 5 listing, 6 rooms, 7 draw, 8 table, 9 no counts, 10 other counts. The table in
+ * docs/RULES.md says when each is given. Below, the refusals that a call can give are listed after its description, in the order of
+ * its checks. A refused call leaves every lent slice unchanged, except that refusal 7 fills them all with zeros. */
 #ifndef TAILBOARDY_H
 #define TAILBOARDY_H
 
@@ -30,8 +28,8 @@
 extern "C" {
 #endif
 
-/* How one tree is grown: greatest depth, `limit` if `limited` and else none; least leaf; least split; how many features a search
- * tries; the random splitter, or else the best. */
+/* The parameters of one tree: the maximum depth, which is `limit` if `limited` is true and unlimited otherwise; the least leaf; the
+ * least split; how many features each search tries; and whether the splitter is random or the best. */
 typedef struct {
     bool limited;
     uint16_t limit;
@@ -41,7 +39,8 @@ typedef struct {
     bool random;
 } TailboardyTreeSettings;
 
-/* The same of a forest's trees. How many features a search tries is `tried` if `said`, else the floor of the root of the features. */
+/* The same for the trees of a forest. How many features each search tries is `tried` if `said` is true, and otherwise the square root
+ * of the number of features, rounded down. */
 typedef struct {
     bool limited;
     uint16_t limit;
@@ -52,8 +51,8 @@ typedef struct {
     bool random;
 } TailboardyForestSettings;
 
-/* 0 or a refusal; with 7 the tree, which is 0, and the search of the bad draw; with 0 nodes, depth, root mass, searches, and how
- * many words and thresholds were used. All else is 0. */
+/* 0 or a refusal. With refusal 7: the tree, which is always 0, and the search of the bad draw. With 0: the number of nodes, the depth,
+ * the root mass, and how many searches, words and thresholds were used. All other fields are 0. */
 typedef struct {
     uint32_t number;
     uint32_t tree;
@@ -66,20 +65,21 @@ typedef struct {
     uint32_t thresholds;
 } TailboardyTreeTold;
 
-/* 0 or a refusal; with 7 the tree and the search of the bad draw. All else is 0. */
+/* 0 or a refusal. With refusal 7: the tree and the search of the bad draw. All other fields are 0. */
 typedef struct {
     uint32_t number;
     uint32_t tree;
     uint32_t search;
 } TailboardyForestTold;
 
-/* 0 or a refusal; with 0 the error, else 0. */
+/* 0 or a refusal. With 0: the error; otherwise that field is 0. */
 typedef struct {
     uint32_t number;
     double error;
 } TailboardyErrorTold;
 
-/* 0 or a refusal; with 0 whether the node is there, and if it is, its value and, of a split, its other entries. All else is 0. */
+/* 0 or a refusal. With 0: whether the node exists and, if it does, its value and, if it is a split, its other entries. All other
+ * fields are 0. */
 typedef struct {
     uint32_t number;
     bool there;
@@ -91,10 +91,12 @@ typedef struct {
     uint32_t no;
 } TailboardyNodeTold;
 
-/* Grows one tree. 1, 2, 3, 4, 5, 6, 7.
- * Rooms: the six columns at least 2 x kept rows - 1 long (at least 1; a row is kept if its count and any weight are above 0);
- * `order` features x rows, `scratch` rows, `flags` the greater of rows and features, `wholes` and `reals` rows.
- * Leaves the nodes at the front of the columns, what is behind them as it was, and the other five zero. */
+/* Grows one tree. Refusals: 1, 2, 3, 4, 5, 6, 7.
+ * Required lengths: at least 2 x kept rows - 1, and at least 1, for the six columns of nodes (a row is kept if its count is above 0
+ * and its weight, if there are weights, is above 0); at least features x rows for `order`, rows for `scratch`, the greater of rows
+ * and features for `flags`, and rows for `wholes` and `reals`.
+ * Afterwards the nodes are at the front of the six columns, the entries after them are unchanged, and the other five slices are all
+ * zero. */
 TailboardyTreeTold tailboardy_fit_tree(
     size_t rows,
     size_t features,
@@ -118,13 +120,13 @@ TailboardyTreeTold tailboardy_fit_tree(
     uint32_t (*wholes)[6], size_t wholes_length,
     double (*reals)[3], size_t reals_length);
 
-/* Grows a forest. 1, 2, 3, 4, 5, 6, 7.
- * Each tree has its own counts and its own part of both tapes: `wordcuts` and `thresholdcuts` have trees + 1 positions in them, from
- * 0 to the tape's length, never falling.
- * Rooms: the columns as long as one tree's, added up over the trees; `starts` at least trees + 1; the six columns from `nodes` to
- * `thresholdsused` exactly trees; the last five as for one tree.
- * Leaves the trees at the front of the columns, where they start in `starts`, what is behind them as it was, a report of each tree
- * in the columns from `nodes` on, and the last five zero. */
+/* Grows a forest. Refusals: 1, 2, 3, 4, 5, 6, 7.
+ * Each tree has its own counts and its own part of both tapes: `wordcuts` and `thresholdcuts` each have trees + 1 positions, from 0
+ * to the length of the tape, in ascending order.
+ * Required lengths: for the six columns of nodes the sum over all trees of what one tree requires; at least trees + 1 for `starts`;
+ * exactly trees for the six columns from `nodes` to `thresholdsused`; for the last five as for one tree.
+ * Afterwards the trees are at the front of the columns and `starts` says where each begins, the entries after them are unchanged, the
+ * columns from `nodes` to `thresholdsused` report on each tree, and the last five slices are all zero. */
 TailboardyForestTold tailboardy_fit_forest(
     size_t rows,
     size_t features,
@@ -158,7 +160,8 @@ TailboardyForestTold tailboardy_fit_forest(
     uint32_t (*wholes)[6], size_t wholes_length,
     double (*reals)[3], size_t reals_length);
 
-/* The value of the leaf that each row comes to. 1, 2, 6, 8. All entries of the columns are the tree; `out` has one a row. */
+/* The value of the leaf that each row reaches. Refusals: 1, 2, 6, 8. The tree is made of all entries of the columns; `out` has one
+ * entry per row. */
 uint32_t tailboardy_predict_tree(
     size_t rows,
     size_t features,
@@ -171,7 +174,7 @@ uint32_t tailboardy_predict_tree(
     const uint32_t *no, size_t no_length,
     double *out, size_t out_length);
 
-/* The mean of the trees' predictions of each row. 1, 2, 6, 8. `out` has one a row. */
+/* The mean of the trees' predictions for each row. Refusals: 1, 2, 6, 8. `out` has one entry per row. */
 uint32_t tailboardy_forest_means(
     size_t rows,
     size_t features,
@@ -186,7 +189,8 @@ uint32_t tailboardy_forest_means(
     const uint32_t *no, size_t no_length,
     double *out, size_t out_length);
 
-/* The mean over the trees where the row's count is 0, and NaN over none. 1, 9, 10, 2, 6, 8. `out` has one a row. */
+/* For each row the mean over the trees in which its count is 0, or NaN if there are none. Refusals: 1, 9, 10, 2, 6, 8. `out` has one
+ * entry per row. */
 uint32_t tailboardy_out_of_bag_means(
     size_t rows,
     size_t features,
@@ -202,8 +206,8 @@ uint32_t tailboardy_out_of_bag_means(
     const uint32_t *no, size_t no_length,
     double *out, size_t out_length);
 
-/* The scores of the splits by feature, divided by `mass` if `by_mass`, else by their sum, where that is above 0. 1, 6, 8.
- * `out` has one a feature. */
+/* The scores of the splits, added up by feature and divided by `mass` if `by_mass` is true, and by their total otherwise, provided that
+ * the divisor is above 0. Refusals: 1, 6, 8. `out` has one entry per feature. */
 uint32_t tailboardy_tree_importances(
     size_t features,
     bool by_mass,
@@ -216,8 +220,8 @@ uint32_t tailboardy_tree_importances(
     const uint32_t *no, size_t no_length,
     double *out, size_t out_length);
 
-/* The trees' importances by their sums, added, divided by the trees, then by their sum where that is above 0. 1, 6, 8.
- * `out` has one a feature. */
+/* The mean of the trees' importances, each divided by its total, and then divided by the total of these means if that is above 0.
+ * Refusals: 1, 6, 8. `out` has one entry per feature. */
 uint32_t tailboardy_forest_importances(
     size_t features,
     size_t trees,
@@ -230,20 +234,21 @@ uint32_t tailboardy_forest_importances(
     const uint32_t *no, size_t no_length,
     double *out, size_t out_length);
 
-/* The squares of target less mean, added up and divided by the rows; a mean that is NaN adds nothing. 1, 2. */
+/* The sum of the squared differences between target and mean, divided by the number of rows; a mean that is NaN adds nothing.
+ * Refusals: 1, 2. */
 TailboardyErrorTold tailboardy_out_of_bag_error(
     size_t rows,
     const double *targets, size_t targets_length,
     const double *means, size_t means_length);
 
-/* Whether each feature's listing has each row once and no value falls along it. 1, 2, 5. */
+/* Checks that each feature's listing contains each row exactly once, and that values never decrease along it. Refusals: 1, 2, 5. */
 uint32_t tailboardy_check_listings(
     size_t rows,
     size_t features,
     const double *values, size_t values_length,
     const uint32_t *listings, size_t listings_length);
 
-/* Whether all entries of the columns are a good tree. 1, 8. */
+/* Checks that all entries of the columns are a valid tree. Refusals: 1, 8. */
 uint32_t tailboardy_check_tree(
     size_t features,
     const double *value, size_t value_length,
@@ -253,7 +258,7 @@ uint32_t tailboardy_check_tree(
     const uint32_t *yes, size_t yes_length,
     const uint32_t *no, size_t no_length);
 
-/* Whether the starts and each tree are good. 1, 6, 8. */
+/* Checks that the starts and all trees are valid. Refusals: 1, 6, 8. */
 uint32_t tailboardy_check_forest(
     size_t features,
     size_t trees,
@@ -265,7 +270,7 @@ uint32_t tailboardy_check_forest(
     const uint32_t *yes, size_t yes_length,
     const uint32_t *no, size_t no_length);
 
-/* The node of this number, of one tree. 1, 8. A node that a good tree has not is no refusal. */
+/* The node with number `k` of one tree. Refusals: 1, 8. It is not refused if a valid tree has no such node. */
 TailboardyNodeTold tailboardy_read_node(
     size_t features,
     const double *value, size_t value_length,

@@ -1,4 +1,4 @@
-//! Rounds of both sides in turn, and what they took.
+//! Runs both sides in turn, and measures the time that they take.
 
 use crate::input::{Input, Size};
 use crate::memory;
@@ -6,7 +6,7 @@ use crate::ours::Rooms;
 use copy::harness::Grown;
 use copy::ready::{Ready, Rows};
 
-/// Seconds of each round.
+/// The seconds of each round.
 #[derive(Default)]
 pub struct Times {
     rust_fit: Vec<f64>,
@@ -17,7 +17,7 @@ pub struct Times {
     means: Vec<f64>,
 }
 
-/// Both sides of one thing that was timed.
+/// The times of both sides for one task.
 pub struct Pair<'a> {
     pub rust: &'a [f64],
     pub ours: &'a [f64],
@@ -89,7 +89,7 @@ unsafe extern "C" {
     fn clock_gettime(clock: i32, time: *mut Timespec) -> i32;
 }
 
-/// Linux's number for the clock of this thread's own processor time, the system's work for it included.
+/// Linux's number for the clock of this thread's own processor time, including the system's work for it.
 const THREAD: i32 = 3;
 
 fn now() -> f64 {
@@ -106,7 +106,7 @@ fn timed<T>(times: &mut Vec<f64>, work: impl FnOnce() -> T) -> T {
     made
 }
 
-/// Our side of a round: a fit with its rooms, the means of the fresh rows, and the call again in the same rooms.
+/// Our side of a round: a fit including its rooms, the means of the new rows, and the same fit again in the same rooms.
 fn ours(input: &Input, times: &mut Times) -> (Rooms, Vec<f64>) {
     let mut refused = 0;
     memory::fresh();
@@ -125,7 +125,7 @@ fn ours(input: &Input, times: &mut Times) -> (Rooms, Vec<f64>) {
     (rooms, means)
 }
 
-/// The Rust's: the same, and again where a fit before it left its memory.
+/// smartcore's side: the same, and again with the memory that an earlier fit left.
 fn rusts(input: &Input, ready: &Ready, fresh: &Rows, times: &mut Times) -> (Vec<Grown>, Vec<f64>) {
     let params = input.size.params();
     memory::fresh();
@@ -141,7 +141,7 @@ fn rusts(input: &Input, ready: &Ready, fresh: &Rows, times: &mut Times) -> (Vec<
     (trees, means)
 }
 
-/// The rounds of a size, or nothing if the two sides differ in a bit.
+/// The times for a size, or `None` if the two sides differ in a single bit.
 pub fn rounds(size: Size, count: usize) -> Option<Times> {
     let input = Input::new(size);
     let ready = input.ready();
@@ -159,7 +159,7 @@ pub fn rounds(size: Size, count: usize) -> Option<Times> {
     Some(times)
 }
 
-/// Our side alone, for a profiler.
+/// Only our side, for a profiler.
 pub fn alone(size: Size, count: usize) {
     let input = Input::new(size);
     for _ in 0..count {

@@ -1,10 +1,10 @@
-//! What both sides are given: values, targets, listings, bags, and the draws that the Rust makes on them.
+//! What both sides are given: values, targets, listings, bags, and the draws that smartcore makes for them.
 
 use copy::harness::{Data, Params, Tape, argsorted};
 use copy::ready::Ready;
-use driver::chance::Chance;
+use driver::make::chance::Chance;
 
-/// A size to measure at. `values` is how many values a feature has, or 0 for a new one in each row.
+/// A size to measure. `values` is the number of different values of a feature, or 0 if each row has a new one.
 #[derive(Clone, Copy)]
 pub struct Size {
     pub rows: usize,
@@ -19,7 +19,7 @@ pub struct Input {
     pub y: Vec<f64>,
     pub counts: Vec<u32>,
     pub listings: Vec<u32>,
-    /// Rows of the same kind that no tree has seen, to be predicted.
+    /// Rows of the same kind that no tree has seen, for predictions.
     pub fresh: Vec<f64>,
     pub tapes: Vec<Tape>,
     pub words: Vec<u32>,
@@ -27,11 +27,11 @@ pub struct Input {
     pub threshold_cuts: Vec<usize>,
 }
 
-/// Seeds of the inputs and of the draws; any would do.
+/// Seeds of the inputs and of the draws; any numbers would do.
 const SEED: u64 = 1;
 
 impl Size {
-    /// The crate's defaults, and its number of features tried where none is said.
+    /// smartcore's defaults, including its default number of features tried.
     pub fn params(&self) -> Params {
         Params {
             limit: None,
@@ -50,14 +50,14 @@ impl Size {
         (0..self.rows * self.features).map(value).collect()
     }
 
-    /// Waves over the first features, with noise, so that trees grow until a leaf has one row or equal ones.
+    /// Waves over the first features, with noise, so that trees grow until each leaf has one row or equal rows.
     fn targets(&self, chance: &mut Chance, x: &[f64]) -> Vec<f64> {
         let wave = |row: &[f64]| -> f64 { row.iter().take(4).map(|v| (6.0 * v).sin()).sum() };
         let rows = x.chunks(self.features);
         rows.map(|row| wave(row) + 0.2 * chance.unit()).collect()
     }
 
-    /// As many draws with replacement a tree as there are rows.
+    /// For each tree as many draws with replacement as there are rows.
     fn bags(&self, chance: &mut Chance) -> Vec<u32> {
         let mut counts = vec![0; self.trees * self.rows];
         for bag in counts.chunks_mut(self.rows) {

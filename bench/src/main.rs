@@ -1,4 +1,5 @@
-//! Fit and means beside the Rust: same inputs, one run, one thread, results compared by bits. docs/SPEED.md says what is measured.
+//! Times of fits and means beside those of smartcore: the same inputs, one run, one thread, results compared bit for bit. docs/SPEED.md says
+//! what is measured.
 
 mod clock;
 mod input;
@@ -9,7 +10,7 @@ use clock::{Pair, Times, median, minimum};
 use input::Size;
 use std::process::ExitCode;
 
-/// The sizes, each with the aims: the greatest ratio of our time to the Rust's, of fit and of predict.
+/// The sizes, each with its aims: the greatest ratio of our time to smartcore's, for fit and for predict.
 const CASES: [(&str, Size, f64, f64); 5] = [
     ("a", size(2_000, 3, 100, 0), 0.60, 0.25),
     ("b", size(10_000, 3, 100, 0), 0.60, 0.25),
@@ -18,7 +19,7 @@ const CASES: [(&str, Size, f64, f64); 5] = [
     ("e", size(2_000, 3, 100, 20), 0.80, 0.40),
 ];
 
-/// Rows, then features, then trees, each alone.
+/// Growing numbers of rows, of features and of trees, one at a time.
 const GROWTH: [(&str, [Size; 4]); 3] = [
     (
         "rows",
@@ -49,7 +50,7 @@ const GROWTH: [(&str, [Size; 4]); 3] = [
     ),
 ];
 
-/// Rounds of a line of the second table.
+/// The number of rounds for a line of the second table.
 const FEW: usize = 3;
 
 const fn size(rows: usize, features: usize, trees: usize, values: usize) -> Size {
@@ -93,7 +94,7 @@ fn cases(count: usize) -> bool {
     true
 }
 
-/// A time, and how many times the one before it.
+/// A time, and its factor over the one before it.
 fn grown(times: &[f64], before: &mut Option<f64>) -> String {
     let now = minimum(times);
     let factor = before

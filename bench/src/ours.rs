@@ -1,11 +1,11 @@
-//! The proved library's side: rooms, the fit and the means, by the linked calls.
+//! The proved library's side: rooms, the fit and the means, with the linked calls.
 
 use crate::input::Input;
 use copy::harness::Grown;
 use tailboardy_sys::ForestSettings;
 use tailboardy_sys::linked;
 
-/// All rooms that a fit is lent.
+/// All rooms that a fit writes to.
 pub struct Rooms {
     value: Vec<f64>,
     feature: Vec<u32>,
@@ -28,7 +28,7 @@ pub struct Rooms {
 }
 
 impl Rooms {
-    /// As long as is asked: a tree has at most one node less than twice its kept rows.
+    /// Of the required lengths: a tree has at most one node fewer than twice its kept rows.
     pub fn new(input: &Input) -> Self {
         let (rows, features, trees) = (input.size.rows, input.size.features, input.size.trees);
         let kept = input.counts.iter().filter(|count| **count > 0).count();
@@ -55,7 +55,7 @@ impl Rooms {
         }
     }
 
-    /// Answers 0, or a refusal's number.
+    /// Returns 0, or the number of a refusal.
     pub fn fit(&mut self, input: &Input) -> u32 {
         let params = input.size.params();
         let settings = ForestSettings {
@@ -120,7 +120,7 @@ impl Rooms {
         )
     }
 
-    /// Whether these are the trees that the Rust grew, by bits, with what goes with each.
+    /// Whether these are the trees that smartcore grew, with their reports, bit for bit.
     pub fn same(&self, trees: &[Grown]) -> bool {
         let all = trees.len() == self.nodes.len();
         all && trees

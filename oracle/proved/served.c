@@ -1,6 +1,6 @@
-// The exported calls for a program that has not linked them: each call is read from standard input and answered on standard output.
-// First comes its kind, as in the list. A number has 64 bits; a slice is its length and its entries. Back go the numbers told, then
-// the entries of the lent slices.
+// Serves the exported calls to a program that has not linked them: each call is read from standard input and answered on standard output.
+// A call starts with its kind, as in the list. A number has 64 bits; a slice is its length followed by its entries. The answer has the
+// numbers of the result, and then the entries of the slices that were written.
 #include "tailboardy.h"
 #include <stdio.h>
 #include <stdlib.h>
@@ -34,7 +34,7 @@ static void tell_real(double f) {
     give(&f, sizeof f);
 }
 
-// The slices of the call at hand. Before and behind each lies one more entry of a fixed pattern, which must stay.
+// The slices of the current call. Before and after each there is one more entry with a fixed pattern, which must not change.
 enum { MOST = 27, PATTERN = 0xA5 };
 
 typedef uint32_t Wholes[6];
@@ -71,7 +71,7 @@ static void take_slices(const char *entries) {
     }
 }
 
-// Gives back all slices from this one on.
+// Writes all slices from this one on.
 static void give_slices(int from) {
     for (int i = 0; i < taken; i++) {
         struct Slice *s = &slices[i];
@@ -221,7 +221,7 @@ static void read_node(void) {
     give_slices(taken);
 }
 
-// By kind; both ways to divide a tree's importances are one call.
+// By kind; the two ways to divide a tree's importances are one call.
 static void (*const calls[])(void) = {
     NULL, fit_tree, fit_forest, predict_tree, forest_means, out_of_bag_means, tree_importances, NULL, forest_importances,
     out_of_bag_error, check_listings, check_tree, check_forest, read_node,

@@ -1,13 +1,13 @@
-//! Counts: how often each row is in each tree's bag.
+//! Counts: how many times each row is in each tree's bag.
 
 use crate::refusal::{Cause, Fault, Refusal};
 use crate::seed::SplitMix64;
 use crate::sizes;
 use std::ops::Range;
 
-/// How often each row is in each tree's bag, tree after tree. A row with 0 is left out of that tree.
+/// How many times each row is in each tree's bag, tree after tree. A row with count 0 is left out of that tree.
 ///
-/// [`drawn`](Counts::drawn) makes them from a seed, in plain Rust, outside the proved core. A fit takes any counts up to 65,535.
+/// [`drawn`](Counts::drawn) makes counts from a seed, in plain Rust, outside the proved core. A fit accepts any counts up to 65,535.
 ///
 /// ```
 /// use tailboardy::Counts;
@@ -25,7 +25,7 @@ pub struct Counts {
 }
 
 impl Counts {
-    /// Of numbers that lie tree after tree.
+    /// Takes the counts tree after tree.
     pub fn new(trees: usize, rows: usize, numbers: Vec<u32>) -> Result<Self, Refusal> {
         sizes::check(rows, 1, trees)?;
         let (is, asked) = (numbers.len(), trees * rows);
@@ -46,13 +46,13 @@ impl Counts {
         })
     }
 
-    /// Every row once in every tree.
+    /// Every row exactly once in every tree.
     pub fn ones(trees: usize, rows: usize) -> Result<Self, Refusal> {
         sizes::check(rows, 1, trees)?;
         Counts::new(trees, rows, vec![1; trees * rows])
     }
 
-    /// Bags from a seed: for each tree as many rows as there are, with replacement, all from one [stream](SplitMix64).
+    /// Draws bags from a seed: for each tree as many rows as there are, with replacement, all from one [stream](SplitMix64).
     pub fn drawn(trees: usize, rows: usize, seed: u64) -> Result<Self, Refusal> {
         sizes::check(rows, 1, trees)?;
         let mut draws = SplitMix64::new(seed);
@@ -60,9 +60,10 @@ impl Counts {
         Counts::bags(trees, rows, || draws.up_to(last) as usize)
     }
 
-    /// Bags from a seed in which a row comes up by its weight, as smartcore draws them. Where all weights are 0 none comes up.
+    /// Draws bags from a seed with a probability proportional to each row's weight, as smartcore does. If all weights are 0, the bags
+    /// are empty.
     ///
-    /// The weights are held to the rule of a fit (refusal 3) here, in plain Rust: the trees of such bags are given none.
+    /// The weights are checked here, in plain Rust, by the rule of a fit (refusal 3), because the trees themselves get no weights.
     pub fn drawn_by_weight(trees: usize, weights: &[f64], seed: u64) -> Result<Self, Refusal> {
         sizes::check(weights.len(), 1, trees)?;
         if let Some(fault) = bad_weight(weights) {
@@ -99,7 +100,7 @@ impl Counts {
         &self.numbers
     }
 
-    /// The counts of some trees, for data of so many rows. For any other number of rows there are none, which the library refuses.
+    /// The counts of some trees, if they are for data with `rows` rows. Otherwise an empty list, which the library refuses.
     pub(crate) fn of_trees(&self, trees: Range<usize>, rows: usize) -> &[u32] {
         match self.rows == rows {
             true => &self.numbers[trees.start * rows..trees.end * rows],
@@ -107,7 +108,7 @@ impl Counts {
         }
     }
 
-    /// One tree's counts; none of a tree that is not there.
+    /// One tree's counts; an empty slice if there is no such tree.
     #[must_use]
     pub fn of_tree(&self, tree: usize) -> &[u32] {
         match tree < self.trees {
@@ -117,7 +118,7 @@ impl Counts {
     }
 }
 
-/// The first weight that no fit takes.
+/// The first weight that a fit would refuse.
 pub(crate) fn bad_weight(weights: &[f64]) -> Option<Fault> {
     let bad = |weight: &f64| !weight.is_finite() || *weight < 0.0;
     let row = weights.iter().position(bad)?;
@@ -125,7 +126,7 @@ pub(crate) fn bad_weight(weights: &[f64]) -> Option<Fault> {
     Some(Fault::Weight { row, value })
 }
 
-/// Sums of the weights up to each row, as parts of the greatest so that no sum is infinite.
+/// The sum of the weights up to each row, each weight divided by the greatest so that no sum is infinite.
 fn running(weights: &[f64]) -> Vec<f64> {
     let greatest = weights.iter().fold(0.0, |held: f64, it| held.max(*it));
     let part = |weight: &f64| {
@@ -145,7 +146,7 @@ fn running(weights: &[f64]) -> Vec<f64> {
         .collect()
 }
 
-/// The row whose stretch of the sums a number lies in. One that rounding took to the end is in the last stretch that there is.
+/// The row whose interval of the running sums contains a number. A number that was rounded up to the end is in the last interval.
 fn row_at(sums: &[f64], at: f64) -> usize {
     let last = sums.last().copied().unwrap_or(0.0);
     let end = sums.partition_point(|sum| *sum < last);
@@ -156,7 +157,7 @@ fn row_at(sums: &[f64], at: f64) -> usize {
 mod tests {
     use super::*;
 
-    /// Worked out apart from this code.
+    /// These numbers were computed independently of this code.
     #[test]
     fn bags_come_of_one_stream() {
         let bags = Counts::drawn(2, 6, 42).unwrap();

@@ -1,17 +1,17 @@
-//! Draws: the orders of features and the thresholds that growth takes, tree after tree.
+//! Draws: the orders of features and the thresholds that growth uses, tree after tree.
 
 use crate::given::Given;
 use crate::parameters::{RandomForestRegressorParameters, Settings};
 use crate::scout;
 use crate::seed::TreeDraws;
 
-/// The draws of a fit, recorded: each tree has its own part of two tapes.
+/// The recorded draws of a fit: two tapes, of which each tree has its own part.
 ///
-/// Every search of a tree takes as many `words` as there are features, a permutation of them, and tries the first of these. With the
-/// random splitter it takes besides, for each feature tried whose values differ in the node, one threshold from the lowest of these
-/// values up to, not at, the highest. A draw that is missing or out of range is refusal 7; what is left over is not looked at.
+/// Every search in a tree takes as many `words` as there are features, which are a permutation of the features, and tries the first
+/// of them. With the random splitter it also takes one threshold for each feature tried whose values differ in the node: at least the
+/// lowest of these values and below the highest. A draw that is missing or out of range is refusal 7; draws left over are ignored.
 ///
-/// [`seeded`](Draws::seeded) makes them from a seed, in plain Rust, outside the proved core.
+/// [`seeded`](Draws::seeded) makes draws from a seed, in plain Rust, outside the proved core.
 ///
 /// ```
 /// use tailboardy::Draws;
@@ -25,11 +25,11 @@ use crate::seed::TreeDraws;
 pub struct Draws {
     /// Orders of the features, search after search.
     pub words: Vec<u32>,
-    /// Thresholds, in the order in which they are taken.
+    /// Thresholds, in the order in which they are used.
     pub thresholds: Vec<f64>,
-    /// Where each tree's part of the words begins and the last ends: trees + 1 positions.
+    /// Where each tree's part of the words begins, and where the last part ends: trees + 1 positions.
     pub word_cuts: Vec<usize>,
-    /// The same of the thresholds.
+    /// The same for the thresholds.
     pub threshold_cuts: Vec<usize>,
 }
 
@@ -40,7 +40,7 @@ impl Default for Draws {
 }
 
 impl Draws {
-    /// Of no tree yet.
+    /// Draws of no tree yet.
     #[must_use]
     pub fn none() -> Self {
         Draws {
@@ -58,8 +58,8 @@ impl Draws {
         self.cut();
     }
 
-    /// The draws of every tree of a seeded forest, whole: a fit that is [given](crate::RandomForestRegressor::fit_given) them is the
-    /// fit from that seed. A forest of many trees takes much memory in this form; the seeded fit makes a few trees' at a time.
+    /// All draws of a seeded forest. A fit that is [given](crate::RandomForestRegressor::fit_given) these draws is the same as the fit
+    /// from that seed. For a forest of many trees this takes a lot of memory; the seeded fit makes the draws of a few trees at a time.
     #[must_use]
     pub fn seeded(given: &Given, parameters: &RandomForestRegressorParameters) -> Self {
         let source = Source::new(given, parameters.settings(), parameters.seed);
@@ -76,7 +76,7 @@ impl Draws {
     }
 }
 
-/// Where the draws of a seeded fit come from. This is what a proved fit from seeds will replace.
+/// Where the draws of a seeded fit come from. A proved fit from seeds will replace this.
 pub(crate) struct Source<'a> {
     given: &'a Given<'a>,
     settings: Settings,
@@ -109,8 +109,8 @@ impl<'a> Source<'a> {
         }
     }
 
-    /// Adds one tree's draws. The best splitter takes no thresholds, so its orders are drawn ahead, for as many searches as there can
-    /// be; the random splitter's draws follow the growth.
+    /// Adds one tree's draws. The best splitter uses no thresholds, so its orders are drawn in advance, for as many searches as there
+    /// can be. The random splitter's draws depend on how the tree grows.
     pub(crate) fn draw(&self, tree: usize, draws: &mut Draws) {
         if self.fits {
             let own = TreeDraws::new(self.seed, tree, self.given.x.shape().1);
@@ -137,9 +137,9 @@ impl<'a> Source<'a> {
     }
 }
 
-/// No tree is searched more often. Its leaves share out the kept rows and their counts, with the least leaf each, and there is one
-/// split fewer than leaves; every split node is searched, and of the leaves those that reach the least split. And a level below the
-/// limit of depth has at most twice the nodes of the one above.
+/// An upper bound on the searches of a tree. Its leaves divide the kept rows and their counts among them, each with at least the least
+/// leaf, and there is one split fewer than there are leaves; every node that is split is searched, and so are the leaves that reach
+/// the least split. Also, each level above the depth limit has at most twice as many nodes as the level before.
 pub(crate) fn most_searches(kept: usize, total: u64, settings: &Settings) -> usize {
     if kept == 0 {
         return 0;

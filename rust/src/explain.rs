@@ -1,16 +1,16 @@
-//! Where a refused input is wrong, for a person to find. Plain Rust, run after the proved library has refused; it decides nothing.
+//! Finds where a refused input is wrong, so that a person can correct it. This is plain Rust that runs after the proved library has
+//! refused; it decides nothing.
 
+use crate::columns::Columns;
 use crate::counts::bad_weight;
 use crate::draws::Draws;
 use crate::given::Given;
-use crate::listings::Listings;
 use crate::matrix::DenseMatrix;
-use crate::nodes::Columns;
 use crate::refusal::{Fault, Refusal};
 use crate::rooms::Stopped;
 use crate::sizes;
 
-/// A fit of so many trees refused.
+/// The refusal of a fit of `trees` trees.
 pub(crate) fn fit(
     stopped: &Stopped,
     given: &Given,
@@ -24,29 +24,25 @@ pub(crate) fn fit(
         2 => lengths(given, trees).or_else(|| cuts(trees, draws?)),
         3 => numbers(given),
         4 => count(given),
-        5 => listings(5, given.x, given.listings),
+        5 => given.listings.fault_of(5, given.x),
         7 => Some(Fault::Draw { tree, search }),
         _ => None,
     };
     Refusal::of(stopped.number, fault)
 }
 
-fn length(list: &'static str, is: usize, asked: usize) -> Option<Fault> {
-    (is != asked).then_some(Fault::Length { list, is, asked })
-}
-
 fn lengths(given: &Given, trees: usize) -> Option<Fault> {
     let rows = given.x.shape().0;
     let weights = || match given.weights {
         [] => None,
-        weights => length("weights", weights.len(), rows),
+        weights => Fault::length("weights", weights.len(), rows),
     };
     let (counted, each) = given.counts.shape();
-    length("targets", given.y.len(), rows)
+    Fault::length("targets", given.y.len(), rows)
         .or_else(weights)
-        .or_else(|| length("counts of a tree", each, rows))
-        .or_else(|| length("trees that are counted", counted, trees))
-        .or_else(|| listings(2, given.x, given.listings))
+        .or_else(|| Fault::length("counts per tree", each, rows))
+        .or_else(|| Fault::length("trees with counts", counted, trees))
+        .or_else(|| given.listings.fault_of(2, given.x))
 }
 
 fn cuts(trees: usize, draws: &Draws) -> Option<Fault> {
@@ -81,7 +77,7 @@ fn numbers(given: &Given) -> Option<Fault> {
     value.or_else(target).or_else(|| bad_weight(given.weights))
 }
 
-/// A count that is too large, or else one beside weights that is not 1.
+/// The first count that is too large, or else the first that is not 1, which a forest with weights requires.
 fn count(given: &Given) -> Option<Fault> {
     let rows = given.counts.shape().1;
     let counts = given.counts.numbers();
@@ -94,24 +90,10 @@ fn count(given: &Given) -> Option<Fault> {
     })
 }
 
-/// The first listing that breaks, or how many there are if that is not as many as there are features.
-pub(crate) fn listings(number: u32, x: &DenseMatrix, listings: &Listings) -> Option<Fault> {
-    let (rows, features) = x.shape();
-    if number == 1 {
-        return sizes::fault(rows, features, 1);
-    }
-    let first = || {
-        let faults = (0..features).filter_map(|feature| listings.fault(x, feature));
-        faults.map(Fault::Listing).next()
-    };
-    length("listings", listings.features(), features)
-        .or_else(first)
-        .or_else(|| length("row numbers in a listing", listings.length(), rows))
-}
-
-/// A reader refused, of a good table: its rows are too many, or have other features.
+/// Why a reader refused a valid table: there are too many rows, or they have the wrong number of features.
 pub(crate) fn reader(x: &DenseMatrix, features: usize) -> Option<Fault> {
-    sizes::fault(x.shape().0, features, 1).or_else(|| length("values a row", x.shape().1, features))
+    sizes::fault(x.shape().0, features, 1)
+        .or_else(|| Fault::length("values per row", x.shape().1, features))
 }
 
 pub(crate) fn tree(features: usize, columns: Columns) -> Option<Fault> {
@@ -133,7 +115,7 @@ pub(crate) fn forest(features: usize, starts: &[u32], columns: Columns) -> Optio
     })
 }
 
-/// The place where starts do not begin at 0, do not rise, or pass the last node.
+/// The first position where the starts do not begin at 0, do not increase, or go past the last node.
 fn bad_start(starts: &[u32], columns: Columns) -> Option<Fault> {
     let nodes = [columns.feature, columns.true_child, columns.false_child].map(<[u32]>::len);
     let reals = [columns.value, columns.threshold, columns.score].map(<[f64]>::len);
@@ -150,7 +132,7 @@ fn bad_start(starts: &[u32], columns: Columns) -> Option<Fault> {
     Some(Fault::Starts { place })
 }
 
-/// The first node that is neither a leaf nor a good split; node 0 where there is none at all.
+/// The first node that is neither a leaf nor a valid split; node 0 if there are no nodes at all.
 fn bad_node(features: usize, columns: Columns) -> Option<usize> {
     let nodes = columns.true_child.len();
     let good = |node: usize| {

@@ -1,4 +1,4 @@
-//! A fit in the making.
+//! Fits from a seed.
 
 use crate::counts::Counts;
 use crate::draws::{Draws, Source};
@@ -13,7 +13,8 @@ use crate::sizes;
 use crate::tree::DecisionTreeRegressor;
 use std::borrow::Cow;
 
-/// A fit from a seed, with more to say than [`RandomForestRegressor::fit`]: listings of one's own, weights, and who watches.
+/// A fit from a seed with more options than [`RandomForestRegressor::fit`]: your own listings, weights, and a function that is told
+/// about progress.
 ///
 /// ```
 /// use std::sync::atomic::{AtomicUsize, Ordering};
@@ -43,7 +44,7 @@ pub struct Fitting<'a> {
 }
 
 impl<'a> Fitting<'a> {
-    /// Of feature values and targets.
+    /// A fit on feature values and targets.
     pub fn new(x: &'a DenseMatrix, y: &'a [f64]) -> Self {
         Fitting {
             x,
@@ -54,32 +55,32 @@ impl<'a> Fitting<'a> {
         }
     }
 
-    /// With weights, one a row; an empty slice for none.
+    /// Adds weights, one per row; an empty slice means no weights.
     pub fn with_weights(mut self, weights: &'a [f64]) -> Self {
         self.weights = weights;
         self
     }
 
-    /// With listings of one's own in place of sorted ones.
+    /// Uses these listings instead of sorting the rows.
     pub fn with_listings(mut self, listings: &'a Listings) -> Self {
         self.listings = Some(listings);
         self
     }
 
-    /// With someone to be told, now and then, how many trees of a forest stand, and of how many. Calls come from several threads.
+    /// Adds a function that is called from time to time with the number of trees grown so far and the number of all trees. It is called
+    /// from several threads.
     pub fn with_watch(mut self, watch: &'a (dyn Fn(usize, usize) + Sync)) -> Self {
         self.watch = watch;
         self
     }
 
-    /// Whether data and listings are fit to use: the checks of a fit, all of them by the proved library, which then grows a root and no
-    /// more.
+    /// Checks that the data and listings can be used. The proved library makes all the checks of a fit and then grows only a root.
     pub fn check(&self) -> Result<(), Refusal> {
         let root = DecisionTreeRegressorParameters::default().with_max_depth(1);
         self.tree(&root).map(|_| ())
     }
 
-    /// Fits a forest from a seed: see [`RandomForestRegressor::fit`].
+    /// Fits a forest from a seed; see [`RandomForestRegressor::fit`].
     pub fn forest(
         &self,
         parameters: &RandomForestRegressorParameters,
@@ -104,7 +105,7 @@ impl<'a> Fitting<'a> {
         Ok(RandomForestRegressor::grown(features, grown, kept))
     }
 
-    /// Fits one tree on all rows: see [`DecisionTreeRegressor::fit`].
+    /// Fits one tree on all rows; see [`DecisionTreeRegressor::fit`].
     pub fn tree(
         &self,
         parameters: &DecisionTreeRegressorParameters,
@@ -133,7 +134,7 @@ impl<'a> Fitting<'a> {
         }
     }
 
-    /// How often each row is in each bag. Weights are held to as many as rows here, where the bags are drawn by them.
+    /// How many times each row is in each bag. The number of weights is checked here, because the bags are drawn by them.
     fn counts(&self, parameters: &RandomForestRegressorParameters) -> Result<Counts, Refusal> {
         let (trees, rows) = (parameters.n_trees, self.x.shape().0);
         let (is, asked) = (self.weights.len(), rows);
@@ -152,5 +153,50 @@ impl<'a> Fitting<'a> {
                 },
             )),
         }
+    }
+}
+
+impl RandomForestRegressor {
+    /// Fits a forest: sorts the listings and draws bags, orders and thresholds from the seed in plain Rust, and grows the trees with
+    /// the proved library. [`Fitting`] has more options; [`fit_given`](Self::fit_given) uses no seed at all.
+    pub fn fit(
+        x: &DenseMatrix,
+        y: &[f64],
+        parameters: RandomForestRegressorParameters,
+    ) -> Result<Self, Refusal> {
+        Fitting::new(x, y).forest(&parameters)
+    }
+
+    /// Fits a forest with weights. As in smartcore, they decide how often a row is drawn into the bags or, without bags (`bootstrap`
+    /// false), are used by the trees themselves. An empty slice means a fit without weights. If all weights are 0, every tree is a
+    /// single leaf with value 0.
+    pub fn fit_with_weights(
+        x: &DenseMatrix,
+        y: &[f64],
+        weights: &[f64],
+        parameters: RandomForestRegressorParameters,
+    ) -> Result<Self, Refusal> {
+        Fitting::new(x, y).with_weights(weights).forest(&parameters)
+    }
+}
+
+impl DecisionTreeRegressor {
+    /// Fits a tree on all rows: sorts the listings and draws from the seed in plain Rust, and grows the tree with the proved library.
+    pub fn fit(
+        x: &DenseMatrix,
+        y: &[f64],
+        parameters: DecisionTreeRegressorParameters,
+    ) -> Result<Self, Refusal> {
+        Fitting::new(x, y).tree(&parameters)
+    }
+
+    /// The same with weights, one per row.
+    pub fn fit_with_weights(
+        x: &DenseMatrix,
+        y: &[f64],
+        weights: &[f64],
+        parameters: DecisionTreeRegressorParameters,
+    ) -> Result<Self, Refusal> {
+        Fitting::new(x, y).with_weights(weights).tree(&parameters)
     }
 }

@@ -1,11 +1,11 @@
 //! Forests.
 
+use crate::columns::{Nodes, over};
 use crate::counts::Counts;
 use crate::draws::Draws;
-use crate::fitting::Fitting;
 use crate::given::Given;
 use crate::matrix::DenseMatrix;
-use crate::nodes::{Nodes, Tree, check_forest, over};
+use crate::nodes::{Tree, check_forest};
 use crate::parameters::RandomForestRegressorParameters;
 use crate::refusal::Refusal;
 use crate::results::{Importances, Means, OutOfBagMeans, Report};
@@ -32,7 +32,7 @@ use crate::{explain, sizes};
 /// let pan = forest.predict(&new)?;
 /// assert!(pan[0] < -5.0 && pan[1] > 5.0);
 ///
-/// // how far off the trees are on fixtures that they did not see, and what they went by
+/// // how far off the trees are on fixtures that they did not see, and which feature matters most
 /// let error = forest.predict_oob(&x)?.error(&y)?;
 /// assert!(error.sqrt() < 15.0);
 /// assert_eq!(forest.compute_feature_importances()?.ranked()[0].0, 1);
@@ -48,29 +48,8 @@ pub struct RandomForestRegressor {
 }
 
 impl RandomForestRegressor {
-    /// Fits a forest: sorts listings and draws bags, orders and thresholds from the seed, in plain Rust, and grows the trees by the
-    /// proved library. [`Fitting`] has more to say, [`fit_given`](Self::fit_given) leaves nothing to a seed.
-    pub fn fit(
-        x: &DenseMatrix,
-        y: &[f64],
-        parameters: RandomForestRegressorParameters,
-    ) -> Result<Self, Refusal> {
-        Fitting::new(x, y).forest(&parameters)
-    }
-
-    /// Fits a forest with weights. As in smartcore, they decide how often a row comes up in the bags, or, without bags
-    /// (`bootstrap` false), are given to the trees. No weights at all is a fit without them; where all are 0, every tree is a leaf of 0.
-    pub fn fit_with_weights(
-        x: &DenseMatrix,
-        y: &[f64],
-        weights: &[f64],
-        parameters: RandomForestRegressorParameters,
-    ) -> Result<Self, Refusal> {
-        Fitting::new(x, y).with_weights(weights).forest(&parameters)
-    }
-
-    /// The proved call as it is: a forest of lent counts, listings and draws, as many trees as counts are given for. The parameters'
-    /// number of trees, seed, threads and bags are not looked at.
+    /// A direct call of the proved library: fits a forest from the given counts, listings and draws, with as many trees as there are
+    /// counts for. The number of trees, seed, threads and bootstrap of the parameters are ignored.
     ///
     /// ```
     /// use tailboardy::{Counts, DenseMatrix, Draws, Given, Listings, RandomForestRegressor};
@@ -85,7 +64,7 @@ impl RandomForestRegressor {
     /// assert_eq!(forest.nodes().threshold, [2.5, 1.5, 3.5, 0.0, 0.0, 0.0, 0.0]);
     /// assert_eq!(forest.reports()[0].searches, 3);
     ///
-    /// // one order too few
+    /// // one order is missing
     /// draws = Draws::none();
     /// draws.push_tree(&[0, 0], &[]);
     /// let refusal = RandomForestRegressor::fit_given(&given, &draws, &Default::default()).unwrap_err();
@@ -118,8 +97,8 @@ impl RandomForestRegressor {
         }
     }
 
-    /// A forest from a table that was kept or sent: where each tree starts and the last ends, and the nodes. The proved library
-    /// checks it; a bad one is refused (8). It has no reports and no counts.
+    /// Makes a forest from a stored table: where each tree starts and the last one ends, and the nodes. The proved library checks the
+    /// table and refuses a damaged one (8). The forest has no reports and no counts.
     ///
     /// ```
     /// # use tailboardy::{DenseMatrix, RandomForestRegressor};
@@ -151,7 +130,7 @@ impl RandomForestRegressor {
         })
     }
 
-    /// The mean of the trees' predictions for each row: smartcore's `predict_mean`.
+    /// The mean of the trees' predictions for each row, as smartcore's `predict_mean`.
     pub fn predict(&self, x: &DenseMatrix) -> Result<Means, Refusal> {
         let (rows, trees) = (x.shape().0, self.n_trees());
         let mut out = sizes::room(rows, self.features, trees)?;
@@ -165,8 +144,9 @@ impl RandomForestRegressor {
         }
     }
 
-    /// For each row that the forest was fitted on, the mean over the trees that left it out: smartcore's `predict_mean_oob`. It needs
-    /// `keep_samples` (else refusal 9) and the same rows again; other rows are refused (10) only where there are more or fewer.
+    /// For each row that the forest was fitted on, the mean over the trees that left it out, as smartcore's `predict_mean_oob`. It
+    /// requires `keep_samples` (otherwise refusal 9) and the same rows as the fit; a different number of rows is refused (10), but
+    /// different rows of the same number cannot be detected.
     pub fn predict_oob(&self, x: &DenseMatrix) -> Result<OutOfBagMeans, Refusal> {
         let (rows, trees) = (x.shape().0, self.n_trees());
         let mut out = sizes::room(rows, self.features, trees)?;
@@ -182,7 +162,7 @@ impl RandomForestRegressor {
         }
     }
 
-    /// How much each feature tells: the mean of the trees' importances, which together make 1, or 0 where no tree is split.
+    /// How important each feature is: the mean of the trees' importances. They add up to 1, or to 0 if no tree has a split.
     pub fn compute_feature_importances(&self) -> Result<Importances, Refusal> {
         let mut out = vec![0.0; self.features];
         let columns = self.nodes.columns();
@@ -195,13 +175,13 @@ impl RandomForestRegressor {
         }
     }
 
-    /// How many trees there are.
+    /// The number of trees.
     #[must_use]
     pub fn n_trees(&self) -> usize {
         self.starts.len().saturating_sub(1)
     }
 
-    /// How many features rows must have.
+    /// The number of features that rows must have.
     #[must_use]
     pub fn n_features(&self) -> usize {
         self.features
@@ -222,7 +202,7 @@ impl RandomForestRegressor {
         (0..self.n_trees()).filter_map(|tree| self.tree(tree))
     }
 
-    /// What the fit told of each tree; nothing of a forest that came as a table.
+    /// What the fit reported about each tree; empty for a forest made from a table.
     #[must_use]
     pub fn reports(&self) -> &[Report] {
         &self.reports
@@ -234,13 +214,13 @@ impl RandomForestRegressor {
         &self.nodes
     }
 
-    /// Where each tree starts among the nodes, and where the last ends.
+    /// Where each tree starts among the nodes, and where the last one ends.
     #[must_use]
     pub fn starts(&self) -> &[u32] {
         &self.starts
     }
 
-    /// How often each row was in each tree's bag, if that was kept.
+    /// How many times each row was in each tree's bag, if that was kept.
     #[must_use]
     pub fn samples(&self) -> Option<&Counts> {
         self.counts.as_ref()

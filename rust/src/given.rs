@@ -1,21 +1,21 @@
-//! What a fit is given, beside its parameters and its draws.
+//! The data of a fit.
 
 use crate::counts::{Counts, bad_weight};
 use crate::listings::Listings;
 use crate::matrix::DenseMatrix;
 
-/// What a fit is given, beside its parameters and its draws: the paper's "what is lent".
+/// The data of a fit: all that it is given apart from its parameters and draws.
 #[derive(Debug, Clone, Copy)]
 pub struct Given<'a> {
     /// Feature values.
     pub x: &'a DenseMatrix,
-    /// Targets, one a row.
+    /// Targets, one per row.
     pub y: &'a [f64],
-    /// Weights, one a row, or none: an empty slice.
+    /// Weights, one per row, or an empty slice for none.
     pub weights: &'a [f64],
-    /// How often each row is in each tree's bag.
+    /// How many times each row is in each tree's bag.
     pub counts: &'a Counts,
-    /// For each feature its rows by value.
+    /// For each feature the rows in ascending order of value.
     pub listings: &'a Listings,
 }
 
@@ -26,7 +26,7 @@ impl Given<'_> {
         weighs && counts.get(row).is_some_and(|count| *count > 0)
     }
 
-    /// Whether draws need to be made: of anything else a fit is refused before it looks at one.
+    /// Whether draws are needed: a fit on any other data is refused before it uses a draw.
     pub(crate) fn fits(&self) -> bool {
         let rows = self.x.shape().0;
         let finite = |list: &[f64]| list.iter().all(|number| number.is_finite());

@@ -1,8 +1,8 @@
-//! A seeded forest, some trees at a time: so many as their tapes stay small, on as many threads as there are.
+//! Grows a seeded forest in groups of trees, on several threads. A group is small enough to keep its tapes small.
 //!
-//! Each group of trees is grown by one call of the proved library, and the groups are then laid one after another, here, in plain
-//! Rust. That a forest's tree is the one that its own counts and draws give, whatever stands beside it, is proved (`its-trees` and
-//! `some-at-a-time` in the crate `demands`); that the groups are laid as one call would, the tests hold by bits.
+//! Each group is grown by one call of the proved library, and the groups are then joined here, in plain Rust. It is proved that a tree
+//! of a forest depends only on its own counts and draws, whatever other trees there are (`its-trees` and `some-at-a-time` in the crate
+//! `demands`). The tests compare the joined forest with that of a single call, bit for bit.
 
 use crate::draws::{Draws, Source};
 use crate::explain;
@@ -15,17 +15,17 @@ use std::sync::OnceLock;
 use std::sync::atomic::{AtomicUsize, Ordering};
 use std::thread;
 
-/// Told how many trees stand, and of how many.
+/// A function that is told how many trees have been grown, and of how many.
 pub(crate) type Watch<'a> = &'a (dyn Fn(usize, usize) + Sync);
 
-/// A forest is parted in at least so many groups, if it has so many trees, for threads to share and for a watcher to see it grow.
+/// The least number of groups of a forest with at least as many trees, for threads to share and for progress to be reported.
 const PARTS: usize = 32;
-/// Trees of one group share at most so many words of tape, or else are alone.
+/// The most words of tape that a group of several trees may use.
 const TAPE: usize = 4 << 20;
-/// All threads together work in so many bytes, or else there is one.
+/// The most bytes that several threads together may work in.
 const MEMORY: usize = 1 << 30;
 
-/// Grows the trees that counts are given for. The sizes are those that the library takes.
+/// Grows the trees that there are counts for. The sizes have been checked by the library.
 pub(crate) fn grow(
     given: &Given,
     parameters: &RandomForestRegressorParameters,
@@ -48,7 +48,7 @@ pub(crate) fn grow(
     };
     thread::scope(|scope| {
         for _ in 1..threads {
-            // where no more threads are to be had, those that are do the work
+            // if a thread cannot be started, the others do the work
             let _ = thread::Builder::new().spawn_scoped(scope, || field.work());
         }
         field.work();
@@ -62,7 +62,7 @@ pub(crate) fn grow(
     Ok(join(grown))
 }
 
-/// Groups of trees that follow each other, and how many words of tape the largest has.
+/// Divides the trees into groups; also returns how many words of tape the largest group has.
 fn plan(source: &Source, trees: usize) -> (Vec<Range<usize>>, usize) {
     let most = trees / PARTS + 1;
     let mut groups: Vec<Range<usize>> = Vec::new();
@@ -91,7 +91,7 @@ fn threads(said: Option<usize>, shape: (usize, usize), words: usize) -> usize {
         .clamp(1, (MEMORY / each).max(1))
 }
 
-/// What all threads look at.
+/// What all threads share.
 struct Field<'a> {
     given: &'a Given<'a>,
     settings: Settings,
@@ -104,7 +104,7 @@ struct Field<'a> {
 }
 
 impl Field<'_> {
-    /// Grows the next group that nobody has taken, until all are.
+    /// Grows the next group that no thread has taken, until there is none left.
     fn work(&self) {
         let mut work = Work::new(self.given.x.shape());
         loop {
@@ -113,7 +113,7 @@ impl Field<'_> {
                 return;
             };
             let answer = self.group(trees.clone(), &mut work);
-            // each group is taken once, so nothing stands there yet
+            // each group is taken once, so the slot is empty
             let _ = slot.set(answer);
             let done = self.done.fetch_add(trees.len(), Ordering::Relaxed) + trees.len();
             (self.watch)(done, self.given.counts.shape().0);
@@ -129,7 +129,7 @@ impl Field<'_> {
     }
 }
 
-/// Lays groups one after another, each let go once it is laid.
+/// Joins the groups in order, freeing each one once it is joined.
 fn join(groups: Vec<Grown>) -> Grown {
     let mut whole = Grown {
         starts: vec![0],

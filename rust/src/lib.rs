@@ -1,8 +1,8 @@
-//! A regression forest that can be trusted with a show: smartcore 0.7.0's, bit for bit, in a library that is proved to do what its
-//! rules say, and here in safe Rust.
+//! A regression forest that can be trusted with a show: the forest of smartcore 0.7.0, bit for bit, in a library that is proved to
+//! follow its rules (docs/RULES.md). This crate makes it available in safe Rust.
 //!
-//! A lighting firm that clones touring rigs fits a forest on trim height, truss offset and mounting angle of fixtures that are
-//! focused, and gets the pan correction in the next house:
+//! A lighting firm that clones touring rigs fits a forest on the trim height, truss offset and mounting angle of fixtures that are
+//! already focused, and predicts the pan correction of each fixture in the next house:
 //!
 //! ```
 //! use tailboardy::{DenseMatrix, RandomForestRegressor, RandomForestRegressorParameters};
@@ -26,26 +26,27 @@
 //!
 //! # What is proved, and what is not
 //!
-//! Every tree is grown, and every prediction, mean, out-of-bag mean, error and importance computed, by the proved library. It
-//! decides, too, whether sizes, numbers, counts, listings, draws and tables are good, and refuses what is not, by the paper's
-//! numbers ([`Cause`]). It ends on every input.
+//! The proved library grows every tree and computes every prediction, mean, out-of-bag mean, error and importance. It also decides
+//! whether sizes, numbers, counts, listings, draws and tables are valid, and refuses those that are not with a number ([`Cause`]).
+//! It terminates on every input.
 //!
-//! Plain Rust, in this crate, tested and not proved:
+//! The following is plain Rust in this crate, tested but not proved:
 //!
-//! - sorting listings ([`Listings::sorted`]); a wrong one would be refused;
-//! - drawing bags, orders and thresholds from a seed ([`Counts::drawn`], [`Draws::seeded`], [`SplitMix64`]); any draws are good draws, and
-//!   those that are not would be refused;
-//! - growing a forest some trees at a time on several threads, and laying these one after another
-//!   ([`RandomForestRegressor::fit_given`] is one call of the library, and the same forest by bits);
+//! - sorting listings ([`Listings::sorted`]); a wrong listing would be refused;
+//! - drawing bags, orders and thresholds from a seed ([`Counts::drawn`], [`Draws::seeded`], [`SplitMix64`]); a draw that is out of
+//!   range would be refused, and every other draw is as good as the next;
+//! - growing a forest a few trees at a time on several threads, and joining these trees into one forest
+//!   ([`RandomForestRegressor::fit_given`] is a single call of the library, and gives the same forest bit for bit);
 //! - finding the place of what was refused ([`Fault`]);
-//! - the list of calls that the library is linked by, in `tailboardy-sys`, which is the one place with `unsafe`.
+//! - the list of calls through which the library is linked, in `tailboardy-sys`, the only place with `unsafe`.
 //!
-//! Nothing here panics, whatever it is handed. Memory that cannot be had ends the program, as it does everywhere in Rust.
+//! Nothing here panics, whatever the input. Running out of memory ends the program, as it does everywhere in Rust.
 //!
-//! Names are near smartcore's where they mean the same: docs/SMARTCORE.md is for those who come from there.
+//! Names follow smartcore's where they mean the same; docs/SMARTCORE.md is for those who come from there.
 
 #![forbid(unsafe_code)]
 
+mod columns;
 mod counts;
 mod draws;
 mod explain;
@@ -53,6 +54,7 @@ mod fitting;
 mod forest;
 mod given;
 mod grow;
+mod limits;
 mod listings;
 mod matrix;
 mod nodes;
@@ -65,28 +67,23 @@ mod seed;
 mod sizes;
 mod tree;
 
+pub use columns::Nodes;
 pub use counts::Counts;
 pub use draws::Draws;
 pub use fitting::Fitting;
 pub use forest::RandomForestRegressor;
 pub use given::Given;
-pub use listings::{Breach, ListingFault, Listings};
+pub use limits::{MAX_FEATURES, MAX_ROWS, MAX_TREES};
+pub use listings::Listings;
 pub use matrix::DenseMatrix;
-pub use nodes::{Kind, Node, Nodes, Split, Tree};
+pub use nodes::{Kind, Node, Split, Tree};
 pub use parameters::{DecisionTreeRegressorParameters, RandomForestRegressorParameters, Splitter};
-pub use refusal::{Cause, Fault, Refusal};
+pub use refusal::{Breach, Cause, Fault, ListingFault, Refusal};
 pub use results::{Importances, Means, OutOfBagMeans, Report};
 pub use seed::SplitMix64;
 pub use tree::DecisionTreeRegressor;
 
-/// The most rows that a call takes.
-pub const MAX_ROWS: usize = 65_535;
-/// The most features that a call takes.
-pub const MAX_FEATURES: usize = 1_024;
-/// The most trees that a forest has.
-pub const MAX_TREES: usize = 1_024;
-
-/// The page for those who come from smartcore, whose examples run as tests too.
+/// The page for those who come from smartcore. Its examples run as tests too.
 #[cfg(doctest)]
 #[doc = include_str!("../../docs/SMARTCORE.md")]
 struct ComingFromSmartcore;

@@ -1,16 +1,16 @@
-//! Listings: for each feature all row numbers, by value never falling.
+//! Listings: for each feature all row numbers in ascending order of value.
 
+use crate::limits::MAX_ROWS;
 use crate::matrix::DenseMatrix;
-use crate::refusal::{Cause, Fault, Refusal};
-use crate::{MAX_ROWS, explain, sizes};
-use std::fmt;
+use crate::refusal::{Breach, Cause, Fault, ListingFault, Refusal};
+use crate::sizes;
 use tailboardy_sys::linked;
 
-/// For each feature all row numbers, counted from 0, by value never falling.
+/// For each feature all row numbers, counted from 0, in ascending order of value.
 ///
-/// [`sorted`](Listings::sorted) makes them, in plain Rust, outside the proved core. A show database that keeps its own hands them in
-/// ([`from_columns`](Listings::from_columns)). Either way nothing rests on it: every fit checks its listings, and so does
-/// [`check`](Listings::check), by the proved library.
+/// [`sorted`](Listings::sorted) makes listings, in plain Rust, outside the proved core. A show database that keeps its own can pass
+/// them in ([`from_columns`](Listings::from_columns)). Either way they need not be trusted: the proved library checks them in every
+/// fit, and in [`check`](Listings::check).
 ///
 /// ```
 /// use tailboardy::{DenseMatrix, Listings};
@@ -25,8 +25,8 @@ use tailboardy_sys::linked;
 /// assert_eq!(refusal.number(), 5);
 /// assert_eq!(
 ///     refusal.to_string(),
-///     "refusal 5 (listing): feature 0: row 3 stands twice, at places 1 and 2, and row 2 is missing; \
-///      sort the rows of this feature anew, with each row once"
+///     "refusal 5 (listing): feature 0: row 3 appears twice, at positions 1 and 2, and row 2 is missing; \
+///      sort the rows of this feature again, with each row exactly once"
 /// );
 /// # Ok::<(), tailboardy::Refusal>(())
 /// ```
@@ -38,70 +38,9 @@ pub struct Listings {
     numbers: Vec<u32>,
 }
 
-/// The first place where a feature's listing breaks.
-#[derive(Debug, Clone, PartialEq, Eq)]
-pub struct ListingFault {
-    /// The feature.
-    pub feature: usize,
-    /// The place in its listing.
-    pub place: usize,
-    /// What is wrong there.
-    pub breach: Breach,
-    /// The lowest row that the whole listing lacks.
-    pub missing: Option<usize>,
-}
-
-/// How a listing breaks. At each place these are looked for in this order.
-#[derive(Debug, Clone, Copy, PartialEq, Eq)]
-#[non_exhaustive]
-pub enum Breach {
-    /// There is no such row.
-    NoSuchRow(u32),
-    /// The row stood at an earlier place.
-    Twice {
-        /// The row.
-        row: u32,
-        /// The earlier place.
-        before: usize,
-    },
-    /// The row's value is below that of the row before it.
-    Falls {
-        /// The row.
-        row: u32,
-        /// The row before it.
-        after: u32,
-    },
-    /// The listing ends before every row has stood.
-    Ends,
-}
-
-impl fmt::Display for ListingFault {
-    fn fmt(&self, f: &mut fmt::Formatter<'_>) -> fmt::Result {
-        let place = self.place;
-        write!(f, "feature {}: ", self.feature)?;
-        match self.breach {
-            Breach::NoSuchRow(row) => write!(f, "place {place} has row {row}, which is not there")?,
-            Breach::Twice { row, before } => {
-                write!(f, "row {row} stands twice, at places {before} and {place}")?;
-            }
-            Breach::Falls { row, after } => {
-                write!(
-                    f,
-                    "at place {place} the value of row {row} is below that of row {after}"
-                )?;
-            }
-            Breach::Ends => write!(f, "it ends after {place} rows")?,
-        }
-        match self.missing {
-            Some(row) => write!(f, ", and row {row} is missing"),
-            None => Ok(()),
-        }
-    }
-}
-
 impl Listings {
-    /// Sorted by value, and rows of one value by number; -0 and +0 are one value. Plain Rust, outside the proved core. Of a matrix
-    /// with more rows or features than any fit takes there are none.
+    /// Sorts the rows of each feature by value, and rows with the same value by number; -0 and +0 are the same value. This is plain
+    /// Rust, outside the proved core. For a matrix with more rows or features than a fit accepts, the listings are empty.
     #[must_use]
     pub fn sorted(x: &DenseMatrix) -> Self {
         let (rows, features) = x.shape();
@@ -128,7 +67,7 @@ impl Listings {
         }
     }
 
-    /// One listing a feature, all equally long.
+    /// Takes one listing per feature, all of the same length.
     pub fn from_columns<C: AsRef<[u32]>>(columns: &[C]) -> Result<Self, Refusal> {
         let length = columns.first().map_or(0, |column| column.as_ref().len());
         let other = columns.iter().find(|it| it.as_ref().len() != length);
@@ -149,17 +88,17 @@ impl Listings {
         })
     }
 
-    /// Whether each feature's listing has each row once and no value falls along it: decided by the proved library.
+    /// Checks, with the proved library, that each feature's listing contains each row exactly once and that its values never decrease.
     pub fn check(&self, x: &DenseMatrix) -> Result<(), Refusal> {
         let (rows, features) = x.shape();
         match linked::check_listings(rows, features, x.values(), self.numbers(x)) {
             0 => Ok(()),
-            number => Err(Refusal::of(number, explain::listings(number, x, self))),
+            number => Err(Refusal::of(number, self.fault_of(number, x))),
         }
     }
 
-    /// The first place where a feature's listing breaks: found by plain Rust, for a person to look at. [`check`](Listings::check)
-    /// decides.
+    /// The first position where a feature's listing is wrong, if there is one. It is found by plain Rust, to tell a person where to
+    /// look; whether a listing is accepted is decided by [`check`](Listings::check).
     #[must_use]
     pub fn fault(&self, x: &DenseMatrix, feature: usize) -> Option<ListingFault> {
         let rows = x.shape().0;
@@ -184,6 +123,21 @@ impl Listings {
         })
     }
 
+    /// What is wrong if the library refuses with this number: a size, the number of listings, or the first listing that is wrong.
+    pub(crate) fn fault_of(&self, number: u32, x: &DenseMatrix) -> Option<Fault> {
+        let (rows, features) = x.shape();
+        if number == 1 {
+            return sizes::fault(rows, features, 1);
+        }
+        let first = || {
+            let mut faults = (0..features).filter_map(|feature| self.fault(x, feature));
+            faults.next().map(Fault::Listing)
+        };
+        Fault::length("listings", self.features, features)
+            .or_else(first)
+            .or_else(|| Fault::length("row numbers in a listing", self.length, rows))
+    }
+
     /// How many features have a listing.
     #[must_use]
     pub fn features(&self) -> usize {
@@ -197,21 +151,17 @@ impl Listings {
         (feature < self.features).then(|| &self.numbers[start..start + self.length])
     }
 
-    /// All of them for a matrix of their own shape. For any other there are none, which the library refuses: as many numbers, cut into
-    /// other columns, could pass for good listings.
+    /// All listings, if the matrix has the shape that they are for. Otherwise an empty list, which the library refuses: the same
+    /// numbers, cut into other columns, could pass for good listings.
     pub(crate) fn numbers(&self, x: &DenseMatrix) -> &[u32] {
         match x.shape() == (self.length, self.features) {
             true => &self.numbers,
             false => &[],
         }
     }
-
-    pub(crate) fn length(&self) -> usize {
-        self.length
-    }
 }
 
-/// A number that rises as the value does, and is one for both zeros.
+/// A number that increases with the value, and is the same for both zeros.
 fn rank(value: f64) -> u64 {
     let bits = (value + 0.0).to_bits();
     if bits >> 63 == 1 {
@@ -221,7 +171,7 @@ fn rank(value: f64) -> u64 {
     }
 }
 
-/// What is wrong with a row at its place, if anything is.
+/// What is wrong with a row at its position, if anything is.
 fn breach(
     x: &DenseMatrix,
     feature: usize,

@@ -2,8 +2,8 @@
 
 use crate::refusal::{Cause, Fault, Refusal};
 
-/// Feature values, row after row. It holds whatever numbers it is given: a fit refuses those that are not finite, and a prediction
-/// takes them (a NaN goes to the false child).
+/// Feature values, row after row. It may hold any numbers: a fit refuses those that are not finite, while a prediction accepts them
+/// (a row with a NaN goes to the false child).
 ///
 /// ```
 /// use tailboardy::DenseMatrix;
@@ -24,7 +24,7 @@ pub struct DenseMatrix {
 }
 
 impl DenseMatrix {
-    /// Of values that lie row after row.
+    /// Takes the values row after row.
     pub fn new(rows: usize, features: usize, values: Vec<f64>) -> Result<Self, Refusal> {
         let asked = rows.checked_mul(features);
         if asked != Some(values.len()) {
@@ -44,7 +44,7 @@ impl DenseMatrix {
         })
     }
 
-    /// Of rows that are all as long as the first: arrays, slices or vectors.
+    /// Takes rows, as arrays, slices or vectors, that all have the same length.
     pub fn from_2d_array<R: AsRef<[f64]>>(rows: &[R]) -> Result<Self, Refusal> {
         let features = rows.first().map_or(0, |row| row.as_ref().len());
         let mut values = Vec::with_capacity(rows.len().saturating_mul(features).min(1 << 20));

@@ -1,18 +1,18 @@
-//! How trees and forests are grown.
+//! Parameters of trees and forests.
 
 use tailboardy_sys::{ForestSettings, TreeSettings};
 
-/// How a search chooses a feature's cut.
+/// How a search chooses the cut of a feature.
 #[derive(Debug, Clone, Copy, PartialEq, Eq, Default)]
 pub enum Splitter {
-    /// One threshold drawn between the lowest value and the highest.
+    /// A single threshold, drawn at random between the lowest and the highest value.
     Random,
-    /// The best of all cuts.
+    /// The best of all possible cuts.
     #[default]
     Best,
 }
 
-/// How a forest is grown. Names are smartcore's where they mean the same; see docs/SMARTCORE.md.
+/// The parameters of a forest. The names are smartcore's where they mean the same; see docs/SMARTCORE.md.
 ///
 /// ```
 /// use tailboardy::RandomForestRegressorParameters;
@@ -28,25 +28,25 @@ pub enum Splitter {
 #[derive(Debug, Clone, PartialEq, Eq)]
 #[must_use]
 pub struct RandomForestRegressorParameters {
-    /// How many trees: 100 unless said.
+    /// The number of trees. Default: 100.
     pub n_trees: usize,
-    /// How many features a search tries: the floor of the root of the features unless said.
+    /// How many features each search tries. Default: the square root of the number of features, rounded down.
     pub m: Option<u32>,
-    /// The greatest depth, none unless said. The root has depth 1.
+    /// The maximum depth, where the root has depth 1. Default: no limit.
     pub max_depth: Option<u16>,
-    /// How many rows of the bag a leaf has at least: 1 unless said.
+    /// The minimum number of rows of the bag in a leaf. Default: 1.
     pub min_samples_leaf: u32,
-    /// How many rows of the bag a node must have to be split: 2 unless said.
+    /// The minimum number of rows of the bag that a node must have to be split. Default: 2.
     pub min_samples_split: u32,
-    /// Whether each tree has a bag of its own, drawn with replacement, as is so unless said; else every tree has all rows once.
+    /// Whether each tree is grown on its own bag of rows, drawn with replacement; otherwise every tree uses each row once. Default: true.
     pub bootstrap: bool,
-    /// Whether the forest keeps which rows each tree left out, which out-of-bag means need: not unless said.
+    /// Whether the forest records which rows each tree left out, which out-of-bag means require. Default: false.
     pub keep_samples: bool,
-    /// How cuts are chosen: the best unless said.
+    /// How cuts are chosen. Default: the best.
     pub splitter: Splitter,
-    /// What bags, orders and thresholds are drawn from: 0 unless said.
+    /// The seed from which bags, orders and thresholds are drawn. Default: 0.
     pub seed: u64,
-    /// How many threads grow trees: as many as the machine runs at once unless said. It changes nothing but the time.
+    /// How many threads grow trees. It affects only the time taken, not the forest. Default: as many as the machine can run at once.
     pub n_threads: Option<usize>,
 }
 
@@ -67,21 +67,21 @@ impl Default for RandomForestRegressorParameters {
     }
 }
 
-/// How one tree is grown.
+/// The parameters of a single tree.
 #[derive(Debug, Clone, PartialEq, Eq)]
 #[must_use]
 pub struct DecisionTreeRegressorParameters {
-    /// How many features a search tries: all unless said.
+    /// How many features each search tries. Default: all.
     pub m: Option<u32>,
-    /// The greatest depth, none unless said. The root has depth 1.
+    /// The maximum depth, where the root has depth 1. Default: no limit.
     pub max_depth: Option<u16>,
-    /// How many rows a leaf has at least: 1 unless said.
+    /// The minimum number of rows in a leaf. Default: 1.
     pub min_samples_leaf: u32,
-    /// How many rows a node must have to be split: 2 unless said.
+    /// The minimum number of rows that a node must have to be split. Default: 2.
     pub min_samples_split: u32,
-    /// How cuts are chosen: the best unless said.
+    /// How cuts are chosen. Default: the best.
     pub splitter: Splitter,
-    /// What orders and thresholds are drawn from: 0 unless said. Orders matter where cuts are equally good.
+    /// The seed from which orders and thresholds are drawn. The order matters only between cuts that are equally good. Default: 0.
     pub seed: u64,
 }
 
@@ -98,10 +98,10 @@ impl Default for DecisionTreeRegressorParameters {
     }
 }
 
-/// A setter for a field: smartcore's way to say parameters.
-macro_rules! say {
+/// Makes a setter for each field, in the style of smartcore.
+macro_rules! setters {
     ($($field:ident as $with:ident: $type:ty => $held:expr;)*) => {$(
-        #[doc = concat!("Says [`", stringify!($field), "`](Self::", stringify!($field), ").")]
+        #[doc = concat!("Sets [`", stringify!($field), "`](Self::", stringify!($field), ").")]
         pub fn $with(mut self, $field: $type) -> Self {
             self.$field = $held;
             self
@@ -110,7 +110,7 @@ macro_rules! say {
 }
 
 impl RandomForestRegressorParameters {
-    say! {
+    setters! {
         n_trees as with_n_trees: usize => n_trees;
         m as with_m: u32 => Some(m);
         max_depth as with_max_depth: u16 => Some(max_depth);
@@ -135,7 +135,7 @@ impl RandomForestRegressorParameters {
 }
 
 impl DecisionTreeRegressorParameters {
-    say! {
+    setters! {
         m as with_m: u32 => Some(m);
         max_depth as with_max_depth: u16 => Some(max_depth);
         min_samples_leaf as with_min_samples_leaf: u32 => min_samples_leaf;
@@ -144,7 +144,7 @@ impl DecisionTreeRegressorParameters {
         seed as with_seed: u64 => seed;
     }
 
-    /// Of a tree that has all features to try unless a number is said.
+    /// The settings of a tree, which tries all features by default.
     pub(crate) fn settings(&self, features: usize) -> Settings {
         let all = u32::try_from(features).unwrap_or(u32::MAX);
         Settings {
@@ -157,13 +157,13 @@ impl DecisionTreeRegressorParameters {
     }
 }
 
-/// What a fit needs to know of either, in the paper's words.
+/// What a fit needs to know of either kind of parameters, named as in the rules.
 #[derive(Debug, Clone, Copy)]
 pub(crate) struct Settings {
     pub max_depth: Option<u16>,
     pub leaf: u32,
     pub split: u32,
-    /// None for the floor of the root of the features.
+    /// `None` for the square root of the number of features, rounded down.
     pub tried: Option<u32>,
     pub random: bool,
 }
@@ -192,13 +192,13 @@ impl Settings {
         }
     }
 
-    /// How many features a search tries.
+    /// How many features each search tries.
     pub(crate) fn tried(&self, features: usize) -> u32 {
         let root = || u32::try_from(features.isqrt()).unwrap_or(u32::MAX);
         self.tried.unwrap_or_else(root)
     }
 
-    /// The limit of depth; none acts as the greatest.
+    /// The depth limit; no limit counts as the largest one.
     pub(crate) fn limit(&self) -> u32 {
         self.max_depth.unwrap_or(u16::MAX).into()
     }

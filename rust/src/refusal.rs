@@ -1,12 +1,11 @@
-//! Refusals: the paper's number, a name, what was found, and what to do about it.
+//! Refusals: a number, a name, what is wrong and where, and what to do about it.
 
-use crate::listings::ListingFault;
-use crate::{MAX_FEATURES, MAX_ROWS, MAX_TREES};
+use crate::limits::{MAX_FEATURES, MAX_ROWS, MAX_TREES};
 use std::error::Error;
 use std::fmt;
 
-/// Why a call was refused. The proved library gives the number; what is told besides, the [`Fault`], is found by plain Rust that
-/// looks at the same input, for a person to find the place by.
+/// Why a call was refused. The number comes from the proved library. The [`Fault`], which tells a person where to look, is found by
+/// plain Rust code that examines the same input.
 ///
 /// ```
 /// use tailboardy::{Cause, DenseMatrix, RandomForestRegressor};
@@ -27,31 +26,31 @@ pub struct Refusal {
     fault: Option<Fault>,
 }
 
-/// The paper's refusals.
+/// The refusals, numbered as in the table of docs/RULES.md.
 #[derive(Debug, Clone, Copy, PartialEq, Eq, Hash)]
 #[non_exhaustive]
 pub enum Cause {
-    /// 1: rows, features or trees out of range.
+    /// 1: the number of rows, features or trees is out of range.
     Sizes,
-    /// 2: a list is not as long as the sizes ask, or a cut table is wrong.
+    /// 2: a list does not have the length that the sizes require, or a cut table is wrong.
     Lengths,
-    /// 3: a value or target is not finite, or a weight is not or is below 0.
+    /// 3: a value or target is not finite, or a weight is not finite or is below 0.
     Numbers,
-    /// 4: a count is above 65,535, or, in a forest with weights, not 1.
+    /// 4: a count is above 65,535, or is not 1 in a forest with weights.
     Counts,
-    /// 5: a listing has not each row once, or a value falls along it.
+    /// 5: a listing does not contain each row exactly once, or a value in it is lower than the one before.
     Listing,
-    /// 6: a room is too short, or a result not exactly as long as asked. This crate makes the rooms, so it is never seen here.
+    /// 6: a room is too short, or a result is not exactly as long as required. This crate makes the rooms, so users never see it.
     Rooms,
-    /// 7: a bad draw.
+    /// 7: a draw is missing or out of range.
     Draw,
-    /// 8: a lent table is bad.
+    /// 8: a table of nodes is damaged.
     Table,
-    /// 9: out-of-bag means of a forest that kept no counts.
+    /// 9: out-of-bag means were requested of a forest that kept no counts.
     NoCounts,
-    /// 10: out-of-bag means of other rows than the forest was fitted on.
+    /// 10: out-of-bag means were requested for other rows than the forest was fitted on.
     OtherCounts,
-    /// A number that this crate does not know: the library is newer.
+    /// A number that this crate does not know, because the library is newer.
     Unlisted(u32),
 }
 
@@ -74,7 +73,7 @@ impl Cause {
         listed.copied().unwrap_or(Cause::Unlisted(number))
     }
 
-    /// The paper's number.
+    /// The refusal's number.
     #[must_use]
     pub fn number(self) -> u32 {
         match self {
@@ -92,7 +91,7 @@ impl Cause {
         }
     }
 
-    /// A word or two.
+    /// A name of one or two words.
     #[must_use]
     pub fn name(self) -> &'static str {
         match self {
@@ -114,45 +113,49 @@ impl Cause {
     #[must_use]
     pub fn advice(self) -> &'static str {
         match self {
-            Cause::Sizes => "rows go from 1 to 65,535, features and trees from 1 to 1,024",
-            Cause::Lengths => "make each list as long as rows, features and trees ask",
+            Cause::Sizes => "use 1 to 65,535 rows, 1 to 1,024 features and 1 to 1,024 trees",
+            Cause::Lengths => {
+                "give each list the length that the numbers of rows, features and trees require"
+            }
             Cause::Numbers => "measure it again, or leave the row out",
-            Cause::Counts => "counts go up to 65,535, and are 1 where trees are given weights",
-            Cause::Listing => "sort the rows of this feature anew, with each row once",
-            Cause::Rooms => "lend longer rooms",
+            Cause::Counts => {
+                "a count must be at most 65,535, and exactly 1 in a forest with weights"
+            }
+            Cause::Listing => "sort the rows of this feature again, with each row exactly once",
+            Cause::Rooms => "make the rooms longer",
             Cause::Draw => {
-                "a search takes one whole order of the features, and a threshold from the lowest value of its rows up to, not at, the highest"
+                "each search needs a complete order of the features, and each threshold must be at least the lowest value of its rows and below the highest"
             }
-            Cause::Table => "the table is damaged: fetch it again, or fit anew",
+            Cause::Table => "the table is damaged: load it again, or fit again",
             Cause::NoCounts => {
-                "fit with keep_samples, so that it is known which rows each tree left out"
+                "fit with keep_samples, which records the rows that each tree left out"
             }
-            Cause::OtherCounts => "hand in the rows that the forest was fitted on",
-            Cause::Unlisted(_) => "build this crate anew for the library that it is linked with",
+            Cause::OtherCounts => "pass the rows that the forest was fitted on",
+            Cause::Unlisted(_) => "rebuild this crate for the library that it is linked with",
         }
     }
 }
 
-/// What was found to be wrong, and where. Rows, features, trees, nodes and places are counted from 0.
+/// What is wrong, and where. Rows, features, trees, nodes and positions are counted from 0.
 #[derive(Debug, Clone, PartialEq)]
 #[non_exhaustive]
 #[allow(missing_docs)]
 pub enum Fault {
-    /// So many rows.
+    /// The number of rows.
     Rows(usize),
-    /// So many features.
+    /// The number of features.
     Features(usize),
-    /// So many trees.
+    /// The number of trees.
     Trees(usize),
-    /// A list, by name, that is not as long as asked.
+    /// The name of a list, the length that it has and the length that is required.
     Length {
         list: &'static str,
         is: usize,
         asked: usize,
     },
-    /// A row of a matrix that is not as long as the first.
+    /// A row of a matrix that does not have as many values as the first.
     Ragged { row: usize, is: usize, asked: usize },
-    /// A table of cuts, by name, that does not begin at 0, falls, or does not end with its tape.
+    /// The name of a cut table that does not start at 0, decreases, or does not end where its tape ends.
     Cuts(&'static str),
     /// A feature value that is not finite.
     Value {
@@ -162,31 +165,81 @@ pub enum Fault {
     },
     /// A target that is not finite.
     Target { row: usize, value: f64 },
-    /// A weight that is not finite, or below 0.
+    /// A weight that is not finite, or is below 0.
     Weight { row: usize, value: f64 },
-    /// How often a row is in a tree's bag.
+    /// How many times a row is in a tree's bag.
     Count { tree: usize, row: usize, count: u32 },
-    /// The first place where a listing breaks.
+    /// The first position where a listing is wrong.
     Listing(ListingFault),
-    /// The search of a tree that met a bad draw.
+    /// The tree and search whose draw is missing or out of range.
     Draw { tree: usize, search: usize },
-    /// The place where a table of starts breaks.
+    /// The first position where a table of starts is wrong.
     Starts { place: usize },
-    /// The first node that is neither a leaf nor a good split.
+    /// The first node that is neither a leaf nor a valid split.
     Node { tree: usize, node: usize },
+}
+
+/// The first position where a feature's listing is wrong.
+#[derive(Debug, Clone, PartialEq, Eq)]
+pub struct ListingFault {
+    /// The feature.
+    pub feature: usize,
+    /// The position in its listing.
+    pub place: usize,
+    /// What is wrong there.
+    pub breach: Breach,
+    /// The lowest row that is missing from the whole listing.
+    pub missing: Option<usize>,
+}
+
+/// What is wrong with a listing. At each position the variants are tried in this order.
+#[derive(Debug, Clone, Copy, PartialEq, Eq)]
+#[non_exhaustive]
+pub enum Breach {
+    /// There is no row with this number.
+    NoSuchRow(u32),
+    /// The row already appeared at an earlier position.
+    Twice {
+        /// The row.
+        row: u32,
+        /// The earlier position.
+        before: usize,
+    },
+    /// The row's value is lower than that of the row before it.
+    Falls {
+        /// The row.
+        row: u32,
+        /// The row before it.
+        after: u32,
+    },
+    /// The listing ends before every row has appeared.
+    Ends,
+}
+
+impl Fault {
+    /// A list that is not as long as required, if it is not.
+    pub(crate) fn length(list: &'static str, is: usize, asked: usize) -> Option<Self> {
+        (is != asked).then_some(Fault::Length { list, is, asked })
+    }
 }
 
 impl fmt::Display for Fault {
     fn fmt(&self, f: &mut fmt::Formatter<'_>) -> fmt::Result {
         match self {
-            Fault::Rows(is) => write!(f, "{is} rows, where 1 to {MAX_ROWS} are taken"),
-            Fault::Features(is) => write!(f, "{is} features, where 1 to {MAX_FEATURES} are taken"),
-            Fault::Trees(is) => write!(f, "{is} trees, where 1 to {MAX_TREES} are taken"),
-            Fault::Length { list, is, asked } => write!(f, "{list}: {is}, where {asked} are asked"),
+            Fault::Rows(is) => write!(f, "{is} rows, but 1 to {MAX_ROWS} are required"),
+            Fault::Features(is) => write!(f, "{is} features, but 1 to {MAX_FEATURES} are required"),
+            Fault::Trees(is) => write!(f, "{is} trees, but 1 to {MAX_TREES} are required"),
+            Fault::Length { list, is, asked } => write!(f, "{list}: {is} given, {asked} required"),
             Fault::Ragged { row, is, asked } => {
-                write!(f, "row {row} has {is} values, and the first row {asked}")
+                write!(
+                    f,
+                    "row {row} has {is} values, but the first row has {asked}"
+                )
             }
-            Fault::Cuts(tape) => write!(f, "the {tape} cuts do not part their tape"),
+            Fault::Cuts(tape) => write!(
+                f,
+                "the {tape} cuts do not divide their tape into one part per tree"
+            ),
             Fault::Value {
                 row,
                 feature,
@@ -195,14 +248,54 @@ impl fmt::Display for Fault {
             Fault::Target { row, value } => write!(f, "the target of row {row} is {value}"),
             Fault::Weight { row, value } => write!(f, "the weight of row {row} is {value}"),
             Fault::Count { tree, row, count } => {
-                write!(f, "row {row} is {count} times in the bag of tree {tree}")
+                write!(
+                    f,
+                    "row {row} appears {count} times in the bag of tree {tree}"
+                )
             }
             Fault::Listing(fault) => fault.fmt(f),
             Fault::Draw { tree, search } => {
-                write!(f, "search {search} of tree {tree} met a bad draw")
+                write!(
+                    f,
+                    "the draw for search {search} of tree {tree} is missing or out of range"
+                )
             }
-            Fault::Starts { place } => write!(f, "the starts break at place {place}"),
-            Fault::Node { tree, node } => write!(f, "node {node} of tree {tree} is no good split"),
+            Fault::Starts { place } => {
+                write!(f, "the table of starts is wrong at position {place}")
+            }
+            Fault::Node { tree, node } => write!(
+                f,
+                "node {node} of tree {tree} is neither a leaf nor a valid split"
+            ),
+        }
+    }
+}
+
+impl fmt::Display for ListingFault {
+    fn fmt(&self, f: &mut fmt::Formatter<'_>) -> fmt::Result {
+        let place = self.place;
+        write!(f, "feature {}: ", self.feature)?;
+        match self.breach {
+            Breach::NoSuchRow(row) => {
+                write!(f, "position {place} has row {row}, which does not exist")?
+            }
+            Breach::Twice { row, before } => {
+                write!(
+                    f,
+                    "row {row} appears twice, at positions {before} and {place}"
+                )?;
+            }
+            Breach::Falls { row, after } => {
+                write!(
+                    f,
+                    "at position {place} the value of row {row} is lower than that of row {after} before it"
+                )?;
+            }
+            Breach::Ends => write!(f, "it ends at position {place}")?,
+        }
+        match self.missing {
+            Some(row) => write!(f, ", and row {row} is missing"),
+            None => Ok(()),
         }
     }
 }
@@ -215,7 +308,7 @@ impl Refusal {
         }
     }
 
-    /// Of a number of the library's, with what was found.
+    /// From the library's number, with the fault that was found.
     pub(crate) fn of(number: u32, fault: Option<Fault>) -> Self {
         Refusal {
             cause: Cause::of(number),
@@ -223,19 +316,19 @@ impl Refusal {
         }
     }
 
-    /// Which of the paper's refusals it is.
+    /// Which refusal it is.
     #[must_use]
     pub fn cause(&self) -> Cause {
         self.cause
     }
 
-    /// The paper's number.
+    /// The refusal's number.
     #[must_use]
     pub fn number(&self) -> u32 {
         self.cause.number()
     }
 
-    /// What was found, and where. None where there is nothing to point at.
+    /// What is wrong, and where. `None` if there is nothing to point at.
     #[must_use]
     pub fn fault(&self) -> Option<&Fault> {
         self.fault.as_ref()

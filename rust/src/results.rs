@@ -1,31 +1,31 @@
-//! What fits and readers tell.
+//! Results of fits and readers.
 
 use crate::refusal::{Fault, Refusal};
 use std::ops::Deref;
 use tailboardy_sys::linked;
 
-/// What a fit tells of one tree.
+/// What a fit reports about one tree.
 #[derive(Debug, Clone, Copy, PartialEq)]
 pub struct Report {
-    /// How many nodes it has.
+    /// The number of nodes.
     pub nodes: u32,
-    /// The greatest level of a child, where the root has level 1; 0 without a split.
+    /// The deepest level of any child, where the root is at level 1; 0 if there is no split.
     pub depth: u32,
-    /// The mass of all rows: counts, times weights where there are any.
+    /// The mass of all rows: the sum of their counts, each multiplied by its weight if there are weights.
     pub root_mass: f64,
-    /// How many searches were made.
+    /// The number of searches.
     pub searches: u32,
-    /// How many words of its tape were used: features times searches.
+    /// The number of words of its tape that were used: features times searches.
     pub words_used: u32,
-    /// How many thresholds of its tape were used.
+    /// The number of thresholds of its tape that were used.
     pub thresholds_used: u32,
 }
 
-/// A mean for each row, in the order of the rows. It is a slice to read; [`into_vec`](Means::into_vec) gives the numbers away.
+/// A mean for each row, in the order of the rows. It can be read as a slice; [`into_vec`](Means::into_vec) returns the numbers.
 #[derive(Debug, Clone, PartialEq)]
 pub struct Means(pub(crate) Vec<f64>);
 
-/// How much each feature tells: its part of what all splits gain. It is a slice to read, one entry a feature.
+/// How important each feature is: its share of what all splits gain. It can be read as a slice with one entry per feature.
 #[derive(Debug, Clone, PartialEq)]
 pub struct Importances(pub(crate) Vec<f64>);
 
@@ -56,7 +56,7 @@ macro_rules! list {
 list!(Means Importances);
 
 impl Importances {
-    /// Features with their importances, the greatest first.
+    /// Features with their importances, the most important first.
     #[must_use]
     pub fn ranked(&self) -> Vec<(usize, f64)> {
         let mut ranked: Vec<(usize, f64)> = self.iter().copied().enumerate().collect();
@@ -70,32 +70,33 @@ impl Importances {
 pub struct OutOfBagMeans(pub(crate) Vec<f64>);
 
 impl OutOfBagMeans {
-    /// A row's mean, if it has one: some tree left it out, and the values of those that did have a mean (targets near the greatest
-    /// float can add up to none).
+    /// A row's mean, if it has one: some tree must have left it out, and the mean must not be NaN, which targets near the largest float
+    /// can lead to.
     #[must_use]
     pub fn get(&self, row: usize) -> Option<f64> {
         self.0.get(row).copied().filter(|mean| !mean.is_nan())
     }
 
-    /// All of them, by row.
+    /// The means of all rows, in order.
     pub fn iter(&self) -> impl Iterator<Item = Option<f64>> + '_ {
         (0..self.0.len()).map(|row| self.get(row))
     }
 
-    /// The numbers themselves, NaN for a row that has none.
+    /// The numbers themselves, with NaN for a row that has no mean.
     #[must_use]
     pub fn as_slice(&self) -> &[f64] {
         &self.0
     }
 
-    /// How many rows have a mean.
+    /// The number of rows that have a mean.
     #[must_use]
     pub fn told(&self) -> usize {
         self.iter().flatten().count()
     }
 
-    /// The out-of-bag error, by the proved library: the squares of target less mean, added up and divided by all rows. A row without a
-    /// mean adds nothing, so the error flatters a forest that leaves few rows out; see [`told`](OutOfBagMeans::told).
+    /// The out-of-bag error, computed by the proved library: the sum of the squared differences between target and mean, divided by the
+    /// number of all rows. A row without a mean adds nothing, so the error is too optimistic for a forest that leaves few rows out; see
+    /// [`told`](OutOfBagMeans::told).
     pub fn error(&self, y: &[f64]) -> Result<f64, Refusal> {
         let rows = self.0.len();
         let told = linked::out_of_bag_error(rows, y, &self.0);

@@ -1,14 +1,14 @@
-//! The rooms that fits are lent, and the fits themselves, one call each.
+//! The fits, one call of the library each, and the rooms that it writes to.
 
+use crate::columns::Nodes;
 use crate::draws::Draws;
 use crate::given::Given;
-use crate::nodes::Nodes;
 use crate::parameters::Settings;
 use crate::results::Report;
 use std::ops::Range;
 use tailboardy_sys::{TreeTold, linked};
 
-/// What growth works in. A fit that answers leaves it zero, to be lent again.
+/// The memory that growth works in. A fit that succeeds leaves it zero, ready to be used again.
 #[derive(Debug)]
 pub(crate) struct Work {
     order: Vec<u32>,
@@ -19,7 +19,7 @@ pub(crate) struct Work {
 }
 
 impl Work {
-    /// For data of a shape that the library takes.
+    /// For data of a shape that the library accepts.
     pub(crate) fn new((rows, features): (usize, usize)) -> Self {
         Work {
             order: vec![0; rows * features],
@@ -30,13 +30,13 @@ impl Work {
         }
     }
 
-    /// How many bytes that takes.
+    /// How many bytes it takes.
     pub(crate) fn bytes((rows, features): (usize, usize)) -> usize {
         4 * rows * features + 52 * rows + rows.max(features)
     }
 }
 
-/// Trees as a fit leaves them.
+/// The trees that a fit leaves.
 #[derive(Debug, Default)]
 pub(crate) struct Grown {
     pub nodes: Nodes,
@@ -44,19 +44,19 @@ pub(crate) struct Grown {
     pub reports: Vec<Report>,
 }
 
-/// The number of a refusal, and the tree and search of a bad draw.
+/// The number of a refusal, and the tree and search of a draw that is missing or out of range.
 pub(crate) struct Stopped {
     pub number: u32,
     pub place: [usize; 2],
 }
 
-/// As many nodes as a tree of these counts can have.
+/// The most nodes that a tree with these counts can have.
 fn most_nodes(given: &Given, counts: &[u32]) -> usize {
     let kept = (0..counts.len()).filter(|row| given.keeps(counts, *row));
     (2 * kept.count()).saturating_sub(1).max(1)
 }
 
-/// Report columns as the library writes them, one entry a tree.
+/// Report columns as the library writes them, one entry per tree.
 struct Reports {
     nodes: Vec<u32>,
     depth: Vec<u32>,
@@ -92,7 +92,7 @@ impl Reports {
     }
 }
 
-/// Grows some of the trees that counts are given for, by one call of the library. The draws are those of these trees alone.
+/// Grows some of the trees that there are counts for, by one call of the library. The draws are those of these trees only.
 pub(crate) fn fit_forest(
     given: &Given,
     trees: Range<usize>,
@@ -156,7 +156,7 @@ pub(crate) fn fit_forest(
     })
 }
 
-/// Grows one tree, from all counts and the whole of both tapes.
+/// Grows one tree, from all counts and both tapes as a whole.
 pub(crate) fn fit_tree(
     given: &Given,
     settings: &Settings,

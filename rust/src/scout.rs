@@ -1,15 +1,15 @@
 //! Thresholds for the random splitter, from a seed.
 //!
-//! A threshold must lie within its node's values, and which nodes there are depends on the thresholds before. So the tape cannot be
-//! drawn ahead: this grows the tree once in plain Rust, only to learn the ranges, and keeps what it drew. The proved fit then grows
-//! the tree from that tape. It judges every draw anew, so a mistake here would be a refusal (7) or another tape, never another rule.
-//! When the proved library draws from seeds itself, this file goes.
+//! A threshold must lie within the values of its node, and which nodes there are depends on earlier thresholds. So the tape cannot be
+//! drawn in advance: this code grows the tree once in plain Rust, only to learn the ranges, and records what it draws. The proved fit
+//! then grows the tree from that tape. It checks every draw again, so a mistake here would lead to a refusal (7) or to another tape,
+//! but never to another rule. Once the proved library draws from seeds itself, this file can go.
 
 use crate::given::Given;
 use crate::parameters::Settings;
 use crate::seed::TreeDraws;
 
-/// A tape in the making, and the tree that it is drawn for: each feature's kept rows in the order of its listing, parted by nodes.
+/// The tape being drawn, and the tree that it is drawn for: each feature's kept rows in the order of its listing, grouped by node.
 pub(crate) struct Scout<'a> {
     given: &'a Given<'a>,
     settings: Settings,
@@ -29,7 +29,7 @@ struct Totals {
     mass: f64,
 }
 
-/// A node: its stretch of every column, and what is known of it.
+/// A node: its part of every column, and what is known about it.
 #[derive(Clone, Copy)]
 struct Node {
     start: usize,
@@ -70,7 +70,7 @@ impl Totals {
     }
 }
 
-/// Draws one tree's orders and thresholds onto the tapes. What is given has passed the checks of a fit.
+/// Draws one tree's orders and thresholds onto the tapes. The data has passed the checks of a fit.
 pub(crate) fn draw(
     given: &Given,
     tree: usize,
@@ -163,7 +163,7 @@ impl Scout<'_> {
             && node.count >= self.settings.split
     }
 
-    /// A node that is searched, and has a cut, waits to be split.
+    /// Searches a node, if it is to be searched, and lets it wait to be split if a cut is found.
     fn join(&mut self, node: Node, waiting: &mut Vec<(Node, Cut)>) {
         if self.searched(&node) {
             let found = self.search(&node);
@@ -185,7 +185,7 @@ impl Scout<'_> {
         held
     }
 
-    /// One threshold for one feature, where its values differ.
+    /// Tries one threshold for a feature, if its values differ.
     fn try_one(&mut self, node: &Node, feature: usize) -> Option<Cut> {
         let column = self.column(node, feature);
         let low = self.value(*column.first()?, feature);
@@ -216,7 +216,7 @@ impl Scout<'_> {
         &column[..end]
     }
 
-    /// The children of a split, and which side each row goes to.
+    /// The children of a split; also records which side each row goes to.
     fn split(&mut self, node: Node, cut: Cut) -> (Node, Node) {
         let middle = node.start + self.true_side(&node, cut.feature, cut.threshold).len();
         let child = |start: usize, end: usize| {
@@ -238,7 +238,7 @@ impl Scout<'_> {
         children
     }
 
-    /// Every column keeps its order on both sides.
+    /// Moves the rows of the true side to the front of every column, keeping the order on both sides.
     fn partition(&mut self, node: &Node) {
         for column in self.columns.chunks_exact_mut(self.kept) {
             let rows = &mut column[node.start..node.end];

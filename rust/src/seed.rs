@@ -1,10 +1,10 @@
-//! Draws from a seed: a small generator, and what is drawn with it. Plain Rust, outside the proved core.
+//! Draws from a seed: a small random number generator, and what is drawn with it. This is plain Rust, outside the proved core.
 
-/// SplitMix64, after Sebastiano Vigna's splitmix64.c, which is in the public domain. It is not the generator of smartcore, so one seed
-/// gives other bags and orders there.
+/// SplitMix64, after Sebastiano Vigna's splitmix64.c, which is in the public domain. It is not the generator that smartcore uses, so
+/// the same seed gives other bags and orders there.
 ///
-/// How draws are made of its words is fixed here, so that they can be made elsewhere in the same way, and the same forests come of
-/// the same seeds.
+/// How draws are made from its words is fixed and documented here, so that they can be made in the same way elsewhere, and the same
+/// seed always gives the same forest.
 ///
 /// ```
 /// use tailboardy::SplitMix64;
@@ -20,11 +20,11 @@ pub struct SplitMix64 {
     state: u64,
 }
 
-/// So often a draw is tried that comes out too large.
+/// How many times a draw that is too large is repeated.
 const TRIES: u32 = 64;
 
 impl SplitMix64 {
-    /// A stream of words; each seed has its own.
+    /// Starts the stream of words of this seed.
     #[must_use]
     pub fn new(seed: u64) -> Self {
         SplitMix64 { state: seed }
@@ -39,8 +39,8 @@ impl SplitMix64 {
         z ^ (z >> 31)
     }
 
-    /// From 0 to `most`, all alike: as many low bits of a word as `most` has, and of the next word while that is above it. After 64
-    /// words it is 0.
+    /// A number from 0 to `most`, all equally likely: as many low bits of a word as `most` has, taken from the next word as long as the
+    /// result is above `most`. After 64 words the result is 0.
     pub fn up_to(&mut self, most: u64) -> u64 {
         let bits = u64::MAX
             .checked_shr(most.leading_zeros())
@@ -51,12 +51,12 @@ impl SplitMix64 {
             .unwrap_or(0)
     }
 
-    /// From 0 up to, not at, 1: the top 53 bits of a word.
+    /// A number that is at least 0 and below 1: the top 53 bits of a word.
     pub fn unit(&mut self) -> f64 {
         (self.word() >> 11) as f64 / (1u64 << 53) as f64
     }
 
-    /// From the last place down to the second, swaps a place with one drawn up to it.
+    /// Shuffles: from the last position down to the second, swaps the entry with one drawn from the positions up to and including it.
     pub fn shuffle(&mut self, order: &mut [u32]) {
         for place in (1..order.len()).rev() {
             let with = self.up_to(place as u64);
@@ -64,7 +64,7 @@ impl SplitMix64 {
         }
     }
 
-    /// A threshold from `low` up to, not at, `high`; `low` itself where rounding leaves that range.
+    /// A threshold that is at least `low` and below `high`; `low` itself if rounding leaves that range.
     pub fn within(&mut self, low: f64, high: f64) -> f64 {
         let drawn = low + (high - low) * self.unit();
         if low <= drawn && drawn < high {
@@ -75,7 +75,7 @@ impl SplitMix64 {
     }
 }
 
-/// The draws of one tree: its own stream, and the order of features that the last search left.
+/// The draws of one tree: its own stream, and the order of features of the last search.
 #[derive(Debug, Clone)]
 pub(crate) struct TreeDraws {
     stream: SplitMix64,
@@ -83,7 +83,7 @@ pub(crate) struct TreeDraws {
 }
 
 impl TreeDraws {
-    /// Each tree's seed is the forest's plus its number, so that no tree shifts its neighbour's draws.
+    /// Each tree's seed is the forest's seed plus the tree's number, so that no tree affects the draws of another.
     pub(crate) fn new(seed: u64, tree: usize, features: usize) -> Self {
         TreeDraws {
             stream: SplitMix64::new(seed.wrapping_add(tree as u64)),
@@ -120,7 +120,7 @@ mod tests {
         assert_eq!(words, published);
     }
 
-    /// Worked out apart from this code, so that seeds stay what they are.
+    /// These numbers were computed independently of this code, so that seeds keep their meaning.
     #[test]
     fn draws_are_made_as_they_are_said_to_be() {
         let mut tree = TreeDraws::new(42, 1, 4);

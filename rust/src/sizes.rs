@@ -1,10 +1,11 @@
-//! Sizes that the proved library takes.
+//! Checks of sizes.
 
+use crate::limits::{MAX_FEATURES, MAX_ROWS, MAX_TREES};
 use crate::refusal::{Fault, Refusal};
-use crate::{MAX_FEATURES, MAX_ROWS, MAX_TREES};
 use tailboardy_sys::linked;
 
-/// Asked before anything is made for a call: the library looks at sizes first, so calls with nothing else in them tell.
+/// Asks the library whether it accepts these sizes, before anything is allocated for a call. The library checks sizes first, so calls
+/// with empty lists are enough.
 pub(crate) fn check(rows: usize, features: usize, trees: usize) -> Result<(), Refusal> {
     let of_data = linked::check_listings(rows, features, &[], &[]);
     let of_trees = linked::check_forest(1, trees, &[], &[], &[], &[], &[], &[], &[]);
@@ -14,7 +15,7 @@ pub(crate) fn check(rows: usize, features: usize, trees: usize) -> Result<(), Re
     }
 }
 
-/// A result for each row, once it is sure that the library takes so many: no room is made for more.
+/// Allocates a result for each row, once the sizes are checked.
 pub(crate) fn room(rows: usize, features: usize, trees: usize) -> Result<Vec<f64>, Refusal> {
     check(rows, features, trees)?;
     Ok(vec![0.0; rows])

@@ -1,11 +1,11 @@
 //! Trees fitted alone.
 
+use crate::columns::Nodes;
 use crate::draws::Draws;
 use crate::explain;
-use crate::fitting::Fitting;
 use crate::given::Given;
 use crate::matrix::DenseMatrix;
-use crate::nodes::{Node, Nodes, Tree, check_tree};
+use crate::nodes::{Node, Tree, check_tree};
 use crate::parameters::DecisionTreeRegressorParameters;
 use crate::refusal::Refusal;
 use crate::results::{Importances, Means, Report};
@@ -16,7 +16,7 @@ use crate::{rooms, sizes};
 /// ```
 /// use tailboardy::{DecisionTreeRegressor, DecisionTreeRegressorParameters, DenseMatrix, Kind};
 ///
-/// // the second feature never changes, so that only the first can be split
+/// // the second feature is constant, so only the first can be split
 /// let x = DenseMatrix::from_2d_array(&[[0.0, 7.0], [1.0, 7.0], [2.0, 7.0], [3.0, 7.0]])?;
 /// let y = [1.0, 2.0, 5.0, 6.0];
 /// let parameters = DecisionTreeRegressorParameters::default().with_max_depth(2);
@@ -37,27 +37,8 @@ pub struct DecisionTreeRegressor {
 }
 
 impl DecisionTreeRegressor {
-    /// Fits a tree on all rows: sorts listings and draws from the seed in plain Rust, and grows the tree by the proved library.
-    pub fn fit(
-        x: &DenseMatrix,
-        y: &[f64],
-        parameters: DecisionTreeRegressorParameters,
-    ) -> Result<Self, Refusal> {
-        Fitting::new(x, y).tree(&parameters)
-    }
-
-    /// The same with weights, one a row.
-    pub fn fit_with_weights(
-        x: &DenseMatrix,
-        y: &[f64],
-        weights: &[f64],
-        parameters: DecisionTreeRegressorParameters,
-    ) -> Result<Self, Refusal> {
-        Fitting::new(x, y).with_weights(weights).tree(&parameters)
-    }
-
-    /// The proved call as it is: a tree of lent counts, which are one tree's, listings and draws, of which it takes the whole of both
-    /// tapes. The parameters' seed is not looked at.
+    /// A direct call of the proved library: fits a tree from the given counts, which must be those of one tree, listings and draws. Both
+    /// tapes belong to this tree as a whole. The seed of the parameters is ignored.
     pub fn fit_given(
         given: &Given,
         draws: &Draws,
@@ -74,7 +55,7 @@ impl DecisionTreeRegressor {
         })
     }
 
-    /// A tree from nodes that were kept or sent. The proved library checks them; bad ones are refused (8).
+    /// Makes a tree from stored nodes. The proved library checks them and refuses a damaged table (8).
     pub fn from_table(features: usize, mut nodes: Nodes) -> Result<Self, Refusal> {
         nodes.keep(nodes.len());
         check_tree(features, nodes.columns())?;
@@ -85,7 +66,7 @@ impl DecisionTreeRegressor {
         })
     }
 
-    /// The tree, to be read.
+    /// A view of the tree.
     #[must_use]
     pub fn tree(&self) -> Tree<'_> {
         Tree {
@@ -94,25 +75,25 @@ impl DecisionTreeRegressor {
         }
     }
 
-    /// The value of the leaf that each row comes to.
+    /// The value of the leaf that each row reaches.
     pub fn predict(&self, x: &DenseMatrix) -> Result<Means, Refusal> {
         self.tree().predict(x)
     }
 
-    /// How much each feature tells: the scores of the splits by feature, divided by their sum if they are to be normalised, else by
-    /// the mass of all rows. Of a tree that came as a table that mass is not known, and taken to be 0: nothing is divided.
+    /// How important each feature is: the scores of the splits added up by feature, and divided by their total (`normalize` true) or by
+    /// the mass of all rows. For a tree made from a table that mass is not known, so the scores are not divided.
     pub fn compute_feature_importances(&self, normalize: bool) -> Result<Importances, Refusal> {
         let mass = self.report.map_or(0.0, |report| report.root_mass);
         self.tree().importances(!normalize, mass)
     }
 
-    /// A node, if the tree has one of this number: see [`Tree::node`].
+    /// The node with this number, if there is one; see [`Tree::node`].
     #[must_use]
     pub fn node(&self, number: usize) -> Option<Node> {
         self.tree().node(number)
     }
 
-    /// What the fit told; nothing of a tree that came as a table.
+    /// What the fit reported; `None` for a tree made from a table.
     #[must_use]
     pub fn report(&self) -> Option<&Report> {
         self.report.as_ref()

@@ -1,4 +1,4 @@
-//! Finds the proved library, or has it proved, and says where it stands.
+//! Finds the proved library, or has it proved, and tells cargo where it is.
 
 use std::env;
 use std::fs;
@@ -24,7 +24,7 @@ fn main() {
     }
 }
 
-/// The library is machine code for one processor and one calling convention.
+/// Checks the target: the library is machine code for one processor and one calling convention.
 fn processor() -> Result<(), String> {
     let is = |name: &str, wanted: &str| env::var(name).is_ok_and(|value| value == wanted);
     let fits = is("CARGO_CFG_TARGET_ARCH", "x86_64")
@@ -36,7 +36,7 @@ fn processor() -> Result<(), String> {
     ))
 }
 
-/// The archive that TAILBOARDY_LIB names, or else the one that the kit writes once it has proved the calls.
+/// The archive that TAILBOARDY_LIB names, or else the one that the kit writes after proving the calls.
 fn archive() -> Result<PathBuf, String> {
     if let Some(named) = env::var_os("TAILBOARDY_LIB") {
         println!("cargo::rerun-if-changed={}", Path::new(&named).display());
@@ -61,20 +61,23 @@ fn answered(proved: io::Result<Output>) -> Result<(), String> {
         Ok(output) => {
             let told = [output.stdout, output.stderr].concat();
             let told = String::from_utf8_lossy(&told);
-            let last = told.lines().last().unwrap_or("it told nothing");
+            let last = told.lines().last().unwrap_or("there was no output");
             Err(format!("`rt staticlib exports` failed: {last}"))
         }
         Err(error) => Err(format!(
-            "`rt`, of the Rattle kit, does not start ({error}): put it on the path, or name a libexports.a in TAILBOARDY_LIB"
+            "`rt`, of the Rattle kit, does not start ({error}): put it on the path, or set TAILBOARDY_LIB to the path of a libexports.a"
         )),
     }
 }
 
-/// A copy of the archive goes with the build, so that what is linked stays when the kit clears its folder.
+/// Copies the archive into the build folder, so that what was linked remains when the kit clears its own folder.
 fn take(archive: &Path) -> Result<PathBuf, String> {
     let folder = PathBuf::from(env::var_os("OUT_DIR").unwrap_or_default());
     match fs::copy(archive, folder.join("libexports.a")) {
         Ok(_) => Ok(folder),
-        Err(error) => Err(format!("no library at {}: {error}", archive.display())),
+        Err(error) => Err(format!(
+            "cannot copy the library {}: {error}",
+            archive.display()
+        )),
     }
 }

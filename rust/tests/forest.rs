@@ -1,4 +1,4 @@
-//! Fits and readers: the paper's figures, and what holds of every forest.
+//! Fits and readers: the rehearsal table, and what holds for every forest.
 
 mod common;
 
@@ -8,7 +8,7 @@ use tailboardy::{
     Given, Kind, Listings, RandomForestRegressor, RandomForestRegressorParameters, Splitter,
 };
 
-/// The paper's rehearsal: four rows, one feature.
+/// The input of the rehearsal table: four rows, one feature.
 struct Rehearsal {
     x: DenseMatrix,
     y: Vec<f64>,
@@ -140,7 +140,7 @@ fn a_seeded_forest_is_one_call_with_its_draws_recorded() {
     }
 }
 
-/// Words are never too few; and what was drawn along the growth is all taken.
+/// There are always enough words, and the fit uses everything that was drawn while the tree grew.
 fn held_to_its_draws(
     forest: &RandomForestRegressor,
     draws: &Draws,

@@ -1,4 +1,4 @@
-//! Inputs of any shape and number: every answer is one, or a refusal with a sentence.
+//! Inputs of any shape with any numbers: every call gives a result, or a refusal with a message.
 
 mod common;
 
@@ -25,14 +25,14 @@ fn told<T>(answer: Result<T, Refusal>, tally: &mut [usize; 11]) -> Option<T> {
     }
 }
 
-/// So many answers, and refusals by number, there are to be at least.
+/// The least number of answers, and of refusals by number.
 fn held(tally: [usize; 11], least: [usize; 11]) {
     let enough = tally.iter().zip(least).all(|(is, least)| *is >= least);
     assert!(enough, "{tally:?}");
 }
 
 impl Maker {
-    /// Mostly as asked.
+    /// Mostly of the right length.
     fn about(&mut self, asked: usize) -> usize {
         match self.chance(15) {
             true => self.up_to(asked + 2),

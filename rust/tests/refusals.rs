@@ -1,4 +1,4 @@
-//! Every refusal has its number, finds its place, and leaves a sentence; and nothing panics.
+//! Every refusal has the right number, names the right place and comes with a message; and nothing panics.
 
 mod common;
 
@@ -32,7 +32,7 @@ fn sizes() {
     refused(
         fit(MAX_ROWS + 1, 1, 1),
         1,
-        "65536 rows, where 1 to 65535 are taken",
+        "65536 rows, but 1 to 65535 are required",
     );
     refused(fit(1, 0, 1), 1, "0 features");
     refused(fit(1, MAX_FEATURES + 1, 1), 1, "1025 features");
@@ -60,16 +60,16 @@ fn lengths() {
         let parameters = parameters().with_bootstrap(bootstrap);
         RandomForestRegressor::fit_with_weights(&x, y, weights, parameters)
     };
-    refused(fit(&[1.0], &[], true), 2, "targets: 1, where 2 are asked");
+    refused(fit(&[1.0], &[], true), 2, "targets: 1 given, 2 required");
     refused(
         fit(&[1.0; 2], &[1.0], true),
         2,
-        "weights: 1, where 2 are asked",
+        "weights: 1 given, 2 required",
     );
     refused(
         fit(&[1.0; 2], &[1.0; 3], false),
         2,
-        "weights: 3, where 2 are asked",
+        "weights: 3 given, 2 required",
     );
 
     let forest = fit(&[1.0; 2], &[], true).unwrap();
@@ -77,11 +77,11 @@ fn lengths() {
     refused(
         forest.predict(&narrow),
         2,
-        "values a row: 1, where 2 are asked",
+        "values per row: 1 given, 2 required",
     );
     let kept = RandomForestRegressor::fit(&x, &[1.0; 2], parameters().with_keep_samples(true));
     let means = kept.unwrap().predict_oob(&x).unwrap();
-    refused(means.error(&[1.0]), 2, "targets: 1, where 2 are asked");
+    refused(means.error(&[1.0]), 2, "targets: 1 given, 2 required");
 }
 
 #[test]
@@ -96,22 +96,22 @@ fn shapes() {
     refused(
         Counts::new(2, 2, vec![1; 3]),
         2,
-        "counts: 3, where 4 are asked",
+        "counts: 3 given, 4 required",
     );
     refused(Counts::new(usize::MAX, 2, vec![]), 1, "trees");
     let ragged = Listings::from_columns(&[vec![0, 1], vec![0]]);
-    refused(ragged, 2, "row numbers in a listing: 1, where 2 are asked");
+    refused(ragged, 2, "row numbers in a listing: 1 given, 2 required");
     let one = Listings::from_columns(&[[0, 1]]).unwrap();
-    refused(one.check(&x), 2, "listings: 1, where 2 are asked");
+    refused(one.check(&x), 2, "listings: 1 given, 2 required");
     let short = Listings::from_columns(&[[1], [0]]).unwrap();
     refused(
         short.check(&x),
         2,
-        "feature 0: it ends after 1 rows, and row 0 is missing",
+        "feature 0: it ends at position 1, and row 0 is missing",
     );
 }
 
-/// Counts that no tree takes are refused, and not first added up for a seeded tape.
+/// Counts that are too large are refused before they are added up for a seeded tape.
 #[test]
 fn counts_that_would_not_add_up() {
     let x = DenseMatrix::from_2d_array(&[[1.0], [2.0]]).unwrap();
@@ -127,16 +127,20 @@ fn counts_that_would_not_add_up() {
         let parameters = parameters().with_splitter(splitter);
         let draws = Draws::seeded(&given, &parameters);
         let forest = RandomForestRegressor::fit_given(&given, &draws, &parameters);
-        refused(forest, 4, "row 0 is 4294967295 times in the bag of tree 0");
+        refused(
+            forest,
+            4,
+            "row 0 appears 4294967295 times in the bag of tree 0",
+        );
     }
 }
 
-/// As many numbers as are asked, cut into other columns or trees.
+/// The right number of entries, but divided into other columns or trees.
 #[test]
 fn shapes_that_are_turned() {
     let x = DenseMatrix::new(3, 2, vec![0.0; 6]).unwrap();
     let turned = Listings::from_columns(&[[0, 1], [2, 0], [1, 2]]).unwrap();
-    refused(turned.check(&x), 2, "listings: 3, where 2 are asked");
+    refused(turned.check(&x), 2, "listings: 3 given, 2 required");
     let x = DenseMatrix::new(6, 1, vec![0.0; 6]).unwrap();
     let listings = Listings::sorted(&x);
     let given = |counts: &Counts| {
@@ -153,10 +157,10 @@ fn shapes_that_are_turned() {
         (tree.map(|_| ()), forest.map(|_| ()))
     };
     let (tree, forest) = given(&Counts::ones(2, 3).unwrap());
-    refused(tree, 2, "counts of a tree: 3, where 6 are asked");
-    refused(forest, 2, "counts of a tree: 3, where 6 are asked");
+    refused(tree, 2, "counts per tree: 3 given, 6 required");
+    refused(forest, 2, "counts per tree: 3 given, 6 required");
     let (tree, forest) = given(&Counts::ones(2, 6).unwrap());
-    refused(tree, 2, "trees that are counted: 2, where 1 are asked");
+    refused(tree, 2, "trees with counts: 2 given, 1 required");
     assert!(forest.is_ok());
 }
 
@@ -181,7 +185,7 @@ fn lent_lengths() {
     refused(
         fit(&counts, &draws),
         2,
-        "the word cuts do not part their tape",
+        "the word cuts do not divide their tape into one part per tree",
     );
     draws.push_tree(&[0; 3], &[]);
     draws.push_tree(&[0; 3], &[]);
@@ -191,14 +195,14 @@ fn lent_lengths() {
     refused(
         fit(&Counts::ones(2, 3).unwrap(), &draws),
         2,
-        "counts of a tree: 3, where 2 are asked",
+        "counts per tree: 3 given, 2 required",
     );
     let tree = DecisionTreeRegressor::fit_given(
         &given(&x, &listings, &counts),
         &draws,
         &Default::default(),
     );
-    refused(tree, 2, "trees that are counted: 2, where 1 are asked");
+    refused(tree, 2, "trees with counts: 2 given, 1 required");
 }
 
 #[test]
@@ -252,9 +256,9 @@ fn counts_and_draws() {
         RandomForestRegressor::fit_given(&given, &draws, &parameters())
     };
     let large = fit(&[], vec![1, 1, 1, 65_536], &[0; 3]);
-    refused(large, 4, "row 1 is 65536 times in the bag of tree 1");
+    refused(large, 4, "row 1 appears 65536 times in the bag of tree 1");
     let both = fit(&[1.0; 2], vec![1, 1, 2, 1], &[0; 3]);
-    refused(both, 4, "row 0 is 2 times in the bag of tree 1");
+    refused(both, 4, "row 0 appears 2 times in the bag of tree 1");
     refused(fit(&[], vec![1; 4], &[]), 7, "search 0 of tree 1");
     refused(fit(&[], vec![2; 4], &[0, 1]), 7, "search 1 of tree 1");
     assert!(fit(&[], vec![65_535, 1, 0, 0], &[]).is_ok());
@@ -287,17 +291,17 @@ fn tables() {
     refused(
         table(&[1, 2], forest.nodes()),
         8,
-        "the starts break at place 0",
+        "the table of starts is wrong at position 0",
     );
     refused(
         table(&[0, 0], forest.nodes()),
         8,
-        "the starts break at place 1",
+        "the table of starts is wrong at position 1",
     );
     refused(
         table(&[0, u32::MAX], forest.nodes()),
         8,
-        "the starts break at place 1",
+        "the table of starts is wrong at position 1",
     );
     refused(
         DecisionTreeRegressor::from_table(1, Nodes::default()),
@@ -325,7 +329,7 @@ fn a_table_that_loops() {
     let tree = starts.iter().filter(|start| **start as usize <= at).count() - 1;
     let node = at - starts[tree] as usize;
     loops.true_child[at] = node as u32;
-    let sentence = format!("node {node} of tree {tree} is no good split");
+    let sentence = format!("node {node} of tree {tree} is neither a leaf nor a valid split");
     refused(
         RandomForestRegressor::from_table(1, starts, loops),
         8,
@@ -342,7 +346,7 @@ fn a_listing_with_a_gap() {
     let damaged = Listings::from_columns(&[rows]).unwrap();
     let y = vec![0.0; 40];
     let fitting = Fitting::new(&x, &y).with_listings(&damaged);
-    let sentence = "feature 0: row 13 stands twice, at places 12 and 13, and row 12 is missing";
+    let sentence = "feature 0: row 13 appears twice, at positions 12 and 13, and row 12 is missing";
     refused(damaged.check(&x), 5, sentence);
     refused(fitting.check(), 5, sentence);
     refused(fitting.forest(&parameters()), 5, sentence);

@@ -73,7 +73,8 @@ module _ {W : Type 0} (K : WaitingForm W) where
 
 -- ---- a bad draw, in whatever rooms: both calls leave 0 at every place
 
-zero-left : (C : TreeCall) (R : TreeRooms WaitingRoom) (x : Outcome TreeAnswer (TreeRooms WaitingRoom)) → x ≡ fitTree waitingRoom C R → (d : Place) → x .answer ≡ TreeAnswer.BadDraw d → TreeZero R (x .rooms)
+zero-left : (C : TreeCall) (R : TreeRooms WaitingRoom) (x : Outcome TreeAnswer (TreeRooms WaitingRoom)) → x ≡ fitTree waitingRoom C R → (d : Place) → x .answer
+    ≡ TreeAnswer.BadDraw d → TreeZero R (x .rooms)
 zero-left C R x met d h = subst (λ (o : Outcome TreeAnswer (TreeRooms WaitingRoom)). TreeZero R (o .rooms)) (sym met) (tree-bad C R d ((λ i. sym met i .answer) ∙ h))
 
 pub calls-clear : (C : TreeCall) (E : Data) (R R′ : TreeRooms WaitingRoom) (x y : Outcome TreeAnswer (TreeRooms WaitingRoom)) → x ≡ fitTree waitingRoom C R → y ≡ fitTree waitingRoom (over C E) R′

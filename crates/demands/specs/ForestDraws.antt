@@ -90,7 +90,8 @@ BadAt K R t o =
 
 -- what the report columns c of a fit say of its tapes
 pub record ForestExact {W : Type 0} (K : WaitingForm W) (C : ForestCall) (R : ForestRooms W) (c : Reports) : Type 0 where
-  pub begun : (ws : List ℕ) (ts : List Float) (wordStarts thresholdStarts : List ℕ) → T (tapesGood (retaped C ws ts wordStarts thresholdStarts)) → Begun c C (retaped C ws ts wordStarts thresholdStarts)
+  pub begun : (ws : List ℕ) (ts : List Float) (wordStarts thresholdStarts : List ℕ) → T (tapesGood (retaped C ws ts wordStarts thresholdStarts)) → Begun c C
+      (retaped C ws ts wordStarts thresholdStarts)
       → fitForest K (retaped C ws ts wordStarts thresholdStarts) R ≡ fitForest K C R
   pub cut : (ns ms : List ℕ) → Enough (C .trees) (c .words) ns → Enough (C .trees) (c .thresholds) ms → fitForest K (forestCut ns ms C) R ≡ fitForest K C R
   pub fewerWords : (ns ms : List ℕ) (t : ℕ) → t < C .trees → Enough t (c .words) ns → Enough t (c .thresholds) ms → getD ns t 0 < getD (c .words) t 0
@@ -241,7 +242,8 @@ module _ {W : Type 0} (K : WaitingForm W) (C : ForestCall) (R : ForestRooms W) (
   answered : (t : ℕ) → t < C .trees → TreeAnswered K (treeCallAt C t) (ownRooms R) (reportAt columns t)
   answered t h = tree-answered K (treeCallAt C t) (ownRooms R) _ (tree-alone K C R g t h .answer)
 
-  exact-begun : (ws : List ℕ) (ts : List Float) (wordStarts thresholdStarts : List ℕ) → T (tapesGood (retaped C ws ts wordStarts thresholdStarts)) → Begun columns C (retaped C ws ts wordStarts thresholdStarts)
+  exact-begun : (ws : List ℕ) (ts : List Float) (wordStarts thresholdStarts : List ℕ) → T (tapesGood (retaped C ws ts wordStarts thresholdStarts)) → Begun columns C
+      (retaped C ws ts wordStarts thresholdStarts)
       → fitForest K (retaped C ws ts wordStarts thresholdStarts) R ≡ fitForest K C R
   unfolding fitForest grownForest eachTree oneTreeOf
   exact-begun ws ts wordStarts thresholdStarts good b =

@@ -127,7 +127,11 @@ clean-start = ((tt, tt), (tt, tt))
 
 clean-on : (F : OneTree) (t : Totals) (y : Float) (i : ℕ) → Clean t → Clean (takeIn t y (massIn (F .weights) (F .counts) i))
 unfolding Clean takeIn
-clean-on F t y i c = (plain-add (t .sum) (mul binary64 y (massIn (F .weights) (F .counts) i)) (c .0) (mul-fits binary64 y (massIn (F .weights) (F .counts) i)), plain-add (t .mass) (massIn (F .weights) (F .counts) i) (c .1) (mass-fits F i))
+clean-on F t y i c = (
+  plain-add (t .sum) (mul binary64 y (massIn (F .weights) (F .counts) i)) (c .0) (mul-fits binary64 y (massIn (F .weights) (F .counts) i)),
+  plain-add (t .mass)
+      (massIn (F .weights) (F .counts) i) (c .1) (mass-fits F i),
+)
 
 pub idle : (F : OneTree) (D : Data) → Accepted F D → (t : Totals) (i : ℕ) → i < F .rows → Clean t → kept F i ≡ false → takeIn t (getD (D .targets) i nan) (massIn (F .weights) (F .counts) i) ≡ t
 unfolding Clean Plain takeIn
@@ -135,7 +139,9 @@ idle F D a t i h c k =
     let z : T (isZero (massIn (F .weights) (F .counts) i)) = mass-zero F D a i h k in
     λ r.
     record {
-      sum = add-zero64 binary64 (t .sum) (mul binary64 (getD (D .targets) i nan) (massIn (F .weights) (F .counts) i)) (c .0 .0) (c .0 .1) (mul-zero64 (getD (D .targets) i nan) (massIn (F .weights) (F .counts) i) (a .targets i h) z) r;
+      sum =
+          add-zero64 binary64 (t .sum) (mul binary64 (getD (D .targets) i nan) (massIn (F .weights) (F .counts) i)) (c .0 .0) (c .0 .1)
+          (mul-zero64 (getD (D .targets) i nan) (massIn (F .weights) (F .counts) i) (a .targets i h) z) r;
       mass = add-zero64 binary64 (t .mass) (massIn (F .weights) (F .counts) i) (c .1 .0) (c .1 .1) z r;
     }
 
@@ -158,9 +164,11 @@ module _ (F : OneTree) (D E : Data) (d : Accepted F D) (e : Accepted F E) (like 
   sweep-same t c (i ∷ l) b = go (kept F i) refl (λ u x. sweep-same u x l (b .1))
     where
       go : (k : Bool) → kept F i ≡ k → ((u : Totals) → Clean u → totalsOf u (map (element F D) l) ≡ totalsOf u (map (element F E) l))
-          → totalsOf (takeIn t (getD (D .targets) i nan) (massIn (F .weights) (F .counts) i)) (map (element F D) l) ≡ totalsOf (takeIn t (getD (E .targets) i nan) (massIn (F .weights) (F .counts) i)) (map (element F E) l)
+          → totalsOf (takeIn t (getD (D .targets) i nan) (massIn (F .weights) (F .counts) i)) (map (element F D) l) ≡ totalsOf
+          (takeIn t (getD (E .targets) i nan) (massIn (F .weights) (F .counts) i)) (map (element F E) l)
       go true k h =
-          h (takeIn t (getD (D .targets) i nan) (massIn (F .weights) (F .counts) i)) (clean-on F t (getD (D .targets) i nan) i c) ∙ ap (λ y. totalsOf (takeIn t y (massIn (F .weights) (F .counts) i)) (map (element F E) l)) (like .targets i k)
+          h (takeIn t (getD (D .targets) i nan) (massIn (F .weights) (F .counts) i)) (clean-on F t (getD (D .targets) i nan) i c)
+          ∙ ap (λ y. totalsOf (takeIn t y (massIn (F .weights) (F .counts) i)) (map (element F E) l)) (like .targets i k)
       go false k h =
           ap (λ u. totalsOf u (map (element F D) l)) (idle F D d t i (b .0) c k) ∙ h t c ∙ ap (λ u. totalsOf u (map (element F E) l)) (sym (idle F E e t i (b .0) c k))
 

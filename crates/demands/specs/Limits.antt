@@ -191,7 +191,8 @@ limit-unmet W K C R r d h u u′ =
     let a : TreeAnswered K C R r = tree-answered K C R r h in
     let same : grownTree (treeUnder d C) ≡ ok (a .tree) =
     then-of (λ t. t .report .depth ≤ max 1 (r .depth) → grownTree (treeUnder d C) ≡ ok t) (grownTree C) (a .tree) (a .grew)
-    (fit-unmet (oneTreeOf C) (C .given .inputs) (limitOf d) (max 1 (r .depth)) (omega arith) (below (C .settings .depth) u) (below d u′)) (omega (arith, ap (λ (x : Report). x .depth) (a .reported))) in
+    (fit-unmet (oneTreeOf C) (C .given .inputs) (limitOf d) (max 1 (r .depth)) (omega arith) (below (C .settings .depth) u) (below d u′))
+    (omega (arith, ap (λ (x : Report). x .depth) (a .reported))) in
     λ i. treeEnds K (firstFailed (treeTests K C R)) ((same ∙ sym (a .grew)) i) R
   where
     below : (d : Depth) → max 1 (r .depth) < most d → max 1 (r .depth) < limitOf d

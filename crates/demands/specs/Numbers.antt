@@ -126,7 +126,8 @@ pub tree-numbers : TreeNumbers
 unfolding oneTreeOf paramsOf
 tree-numbers W K C R r h =
     let a : TreeAnswered K C R r = tree-answered K C R r h in
-    subst (Counted (C .shape .features)) (a .reported) (then-of (λ t. Counted (C .shape .features) (t .report)) (fit (oneTreeOf C) (C .given .inputs)) (a .tree) (a .grew) (fit-counted (oneTreeOf C) (C .given .inputs)))
+    subst (Counted (C .shape .features)) (a .reported) (then-of (λ t. Counted (C .shape .features) (t .report)) (fit (oneTreeOf C) (C .given .inputs)) (a .tree) (a .grew)
+    (fit-counted (oneTreeOf C) (C .given .inputs)))
 
 pub tree-room : TreeRoom
 tree-room W K C R r held h =
@@ -164,7 +165,8 @@ pub columns-long : (trees : ℕ) (c : Reports) → T (reportsExact trees c) → 
 unfolding reportsExact
 columns-long trees c e =
     let (n, rest) = and2 (eqb (length (c .nodes)) trees) _ e in
-    let (d, m, s, w, t) = and5 (eqb (length (c .depth)) trees) (eqb (length (c .mass)) trees) (eqb (length (c .searches)) trees) (eqb (length (c .words)) trees) (eqb (length (c .thresholds)) trees) rest in
+    let (d, m, s, w, t) = and5 (eqb (length (c .depth)) trees) (eqb (length (c .mass)) trees) (eqb (length (c .searches)) trees) (eqb (length (c .words)) trees)
+    (eqb (length (c .thresholds)) trees) rest in
     (eqb→eq _ _ n, eqb→eq _ _ w, eqb→eq _ _ t)
 
 lies : (trees room : ℕ) (ts : List Tree) (starts : List ℕ) → length ts ≡ trees → length (forestEntries ts) ≤ room

@@ -113,7 +113,8 @@ module _ (C : ForestCall) (ys : List Float) (i : ℕ) (inside : i < C .shape .ro
   out-same t (suc n) (x ∷ ts) (u ∷ us) g h = go (eqb (count t) 0) (λ c. eqb→eq (count t) 0 c) (out-same (suc t) n ts us (g .1) (h .1))
     where
       go : (b : Bool) → (T b → count t ≡ 0) → outTrees (C .shape .rows) (C .given .counts) i (suc t) (tables ts) ≡ outTrees (C .shape .rows) (C .given .counts) i (suc t) (tables us)
-          → putIf b (entries (x .nodes)) (outTrees (C .shape .rows) (C .given .counts) i (suc t) (tables ts)) ≡ putIf b (entries (u .nodes)) (outTrees (C .shape .rows) (C .given .counts) i (suc t) (tables us))
+          → putIf b (entries (x .nodes)) (outTrees (C .shape .rows) (C .given .counts) i (suc t) (tables ts)) ≡ putIf b (entries (u .nodes))
+          (outTrees (C .shape .rows) (C .given .counts) i (suc t) (tables us))
       go true z e = λ r. entries (ok-same x u (sym (g .0) ∙ tree-same t (z tt) ∙ h .0) r .nodes) ∷ e r
       go false z e = e
 

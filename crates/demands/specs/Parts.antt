@@ -110,7 +110,8 @@ data-parts S trees G g =
 pub tree-parts : TreeParts
 unfolding oneTreeAt tapesGood
 tree-parts C g =
-    let (n, w, t) = and3 (lengths (C .shape) (C .trees) (C .given)) (goodStarts (C .trees) (length (C .words)) (C .wordStarts)) (goodStarts (C .trees) (length (C .thresholds)) (C .thresholdStarts)) g in
+    let (n, w, t) = and3 (lengths (C .shape) (C .trees) (C .given)) (goodStarts (C .trees) (length (C .words)) (C .wordStarts))
+    (goodStarts (C .trees) (length (C .thresholds)) (C .thresholdStarts)) g in
     record {
       counts = even (C .given .counts) (C .trees) (C .shape .rows) (as-asked (C .shape) (C .trees) (C .given) n .1);
       words = tape-parts (C .trees) (C .wordStarts) (C .words) w;

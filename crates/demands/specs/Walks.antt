@@ -104,7 +104,8 @@ starts-rise a (t ∷ ts) e = rises-on a (a + length (t .nodes)) ts (more a (leng
 good-some : (features : ℕ) (t : Tree) → T (goodTree features (entries (t .nodes))) → 0 < length (t .nodes)
 unfolding goodTree
 good-some features t g =
-    subst (λ n. 0 < n) (length-entries (t .nodes)) (ltb→lt 0 (length (entries (t .nodes))) (and-l (ltb 0 (length (entries (t .nodes)))) (goodFrom features (length (entries (t .nodes))) 0 (entries (t .nodes))) g))
+    subst (λ n. 0 < n) (length-entries (t .nodes)) (ltb→lt 0 (length (entries (t .nodes)))
+    (and-l (ltb 0 (length (entries (t .nodes)))) (goodFrom features (length (entries (t .nodes))) 0 (entries (t .nodes))) g))
 
 eq-test : (a b : ℕ) → a ≡ b → T (eqb a b)
 eq-test a b q = subst (λ x. T (eqb a x)) q (eqb-refl a)

@@ -46,7 +46,14 @@ pub data Seen : Type 0 where
   bagged : Outcome ForestAnswer (ForestRooms WaitingRoom) → Outcome Reply (List Float) → Seen
 
 unfoldable pub run : Call → Seen
-unfolding from putIf keep every alongFrom along total member fresh eachOnce takeIn less valueOf massless gap proxy score midpoint thresholdBetween valuesAt cell listingAt unweighted entriesAt firstFailed within lengths goodStarts goodWeight numbersGood countsGood countsOne countIn massIn keptIn kept keptRows roomFor workEnough reportsExact neverFalls goodListing listingsGood bind takeWords takeThreshold nextThreshold tape at totalsOf goesTrue better judge candidateAt step sweep bestIn final drawn drawIn randomIn tryOne tryAll search child leafOf splitting splitOf withChildren searchable joins runs searchIf expand grow growAll fromRoot listing elementIn element column root treeOf growFrom fit entryOf entries limitOf paramsOf oneTreeOf grownTree treeTests treeDone treeEnds fitTree isLeaf goodEntry goodFrom goodTree treeIn startsGood treeAt treesOf goodForest onto walked leafValue reads addTrees meanOf scored addScores sumFrom dividedIf normalised scoresOf scaled treeImportanceTests treeImportances squares triedOf part oneTreeAt eachTree withTree nextTree growTrees grownForest startsFrom forestEntries tapesGood roomsGood forestTests forestDone forestEnds fitForest outTrees outOfBagMean outTests outOfBagMeans add sub mul div lt le eq isNan ofInt ofBits
+unfolding from putIf keep every alongFrom along total member fresh eachOnce takeIn less valueOf massless gap proxy score midpoint thresholdBetween valuesAt cell listingAt
+    unweighted entriesAt firstFailed within lengths goodStarts goodWeight numbersGood countsGood countsOne countIn massIn keptIn kept keptRows roomFor workEnough reportsExact
+    neverFalls goodListing listingsGood bind takeWords takeThreshold nextThreshold tape at totalsOf goesTrue better judge candidateAt step sweep bestIn final drawn drawIn
+    randomIn tryOne tryAll search child leafOf splitting splitOf withChildren searchable joins runs searchIf expand grow growAll fromRoot listing elementIn element column
+    root treeOf growFrom fit entryOf entries limitOf paramsOf oneTreeOf grownTree treeTests treeDone treeEnds fitTree isLeaf goodEntry goodFrom goodTree treeIn startsGood
+    treeAt treesOf goodForest onto walked leafValue reads addTrees meanOf scored addScores sumFrom dividedIf normalised scoresOf scaled treeImportanceTests treeImportances
+    squares triedOf part oneTreeAt eachTree withTree nextTree growTrees grownForest startsFrom forestEntries tapesGood roomsGood forestTests forestDone forestEnds fitForest
+    outTrees outOfBagMean outTests outOfBagMeans add sub mul div lt le eq isNan ofInt ofBits
 run (fits C R) = fitted (fitTree waitingRoom C R)
 run (weighs by C R out) = read (treeImportances (C .shape .features) by (fitTree waitingRoom C R .rooms .nodes) out)
 run (bags C R out) =

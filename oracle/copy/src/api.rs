@@ -1,4 +1,4 @@
-//! tailboardy: the two traits that `decision_tree_regressor.rs` implements; their file is not at hand.
+//! tailboardy: the two traits that `decision_tree_regressor.rs` implements; the file that declares them is not among the copied ones.
 
 use crate::error::Failed;
 

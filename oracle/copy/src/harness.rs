@@ -1,4 +1,4 @@
-//! tailboardy: the harness. It hands the published code its input, lays the tapes, and tells what came out.
+//! tailboardy: the harness. It passes the input to the published code, sets up the tapes, and returns the results.
 
 use crate::ensemble::base_forest::{self, BaseForestParameters, window as forest_window};
 use crate::linalg::basic::lent::Matrix;
@@ -10,7 +10,7 @@ use crate::tree::decision_tree_regressor::{
 pub use rand::tape::Tape;
 use rand::tape::{self, Told};
 
-/// A node as the rules write it: a leaf's feature, threshold and score are 0.
+/// A node as in the rules: the feature, threshold and score of a leaf are 0.
 #[derive(Clone, Copy, Debug, Default)]
 pub struct NodeRecord {
     pub value: f64,
@@ -21,7 +21,7 @@ pub struct NodeRecord {
     pub false_child: u32,
 }
 
-/// What both fits are given but for counts and draws. No weights: an empty slice.
+/// What both fits are given apart from counts and draws. An empty slice means no weights.
 #[derive(Clone, Copy)]
 pub struct Data<'a> {
     pub rows: usize,
@@ -66,7 +66,7 @@ pub struct Grown {
     pub searches: usize,
     pub words_used: usize,
     pub thresholds_used: usize,
-    /// The draws, where they were made and not played.
+    /// The draws, if they were made and not taken from a tape.
     pub made: Tape,
 }
 
@@ -104,7 +104,7 @@ pub(crate) fn wide(numbers: &[u32]) -> Vec<usize> {
     numbers.iter().map(|&number| number as usize).collect()
 }
 
-/// Grow one tree. With no tape the draws are made from `seed`. A bad draw answers with its search.
+/// Grows one tree. Without a tape the draws are made from `seed`. If a draw is bad, its search is returned as the error.
 pub fn grow(
     data: &Data,
     counts: &[u32],
@@ -151,7 +151,7 @@ impl Readable {
         }
     }
 
-    /// A row's value in the first tree: what the regressor's `predict` does a row.
+    /// The value of a row in the first tree: what the regressor's `predict` does for each row.
     pub fn predictions(&self, rows: usize, x: &[f64]) -> Vec<f64> {
         let x = Matrix::new(rows, self.features, x);
         (0..rows)
@@ -189,7 +189,7 @@ impl Readable {
     }
 }
 
-/// The listings that the crate's own sort gives.
+/// The listings that smartcore's own sort gives.
 pub fn argsorted(rows: usize, features: usize, x: &[f64]) -> Vec<u32> {
     let x = Matrix::new(rows, features, x);
     (0..features)
@@ -198,7 +198,7 @@ pub fn argsorted(rows: usize, features: usize, x: &[f64]) -> Vec<u32> {
         .collect()
 }
 
-/// A forest by the crate's own `fit`, bags and draws made from `seed` and kept.
+/// A forest by smartcore's own `fit`, with bags and draws made from `seed` and recorded.
 pub struct OwnFit {
     pub trees: Vec<Grown>,
     pub counts: Vec<u32>,
@@ -207,7 +207,7 @@ pub struct OwnFit {
     pub importances: Vec<f64>,
 }
 
-/// Counts of the rows drawn, as many draws a tree as rows; with weights each row once.
+/// Counts of the rows drawn, with as many draws per tree as there are rows; with weights, each row once.
 fn bag_counts(data: &Data, trees: usize, bag: &[usize]) -> Vec<u32> {
     let mut counts = vec![u32::from(!data.weights.is_empty()); trees * data.rows];
     for (draw, row) in bag.iter().enumerate() {
@@ -216,7 +216,7 @@ fn bag_counts(data: &Data, trees: usize, bag: &[usize]) -> Vec<u32> {
     counts
 }
 
-/// `tried` of none takes the crate's own default; with weights there is no bag, as the trees take them then.
+/// If `tried` is `None`, smartcore's default is used; with weights there is no bag, because the trees use the weights themselves.
 pub fn own_forest(
     data: &Data,
     params: &Params,
@@ -244,7 +244,7 @@ pub fn own_forest(
         Ok(forest) => forest,
         Err(failed) => return Err(failed.to_string()),
     };
-    // the trees' sources are dropped one by one, the forest's own last
+    // the sources of the trees are dropped one by one, and that of the forest last
     let mut told = tape::told();
     let bag = told.pop().expect("the forest's own source").bag;
     let counts = bag_counts(data, trees, &bag);
@@ -261,7 +261,7 @@ pub fn own_forest(
     })
 }
 
-/// What the regressor's own `fit` or `fit_with_weights` gives, and the draws that were made for it.
+/// The result of the regressor's own `fit` or `fit_with_weights`, and the draws that were made for it.
 pub struct OwnTree {
     pub predictions: Vec<f64>,
     pub normalised: Vec<f64>,

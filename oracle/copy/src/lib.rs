@@ -1,6 +1,6 @@
 //! smartcore 0.7.0's trees and forests, as published, with a harness inside.
-//! Every file under this directory that README.md does not list as added is a copy with no byte changed.
-//! tailboardy: this file stands where the crate's own `lib.rs` and `mod.rs` files would.
+//! Every file under this directory that README.md does not list as added is an unchanged copy.
+//! tailboardy: this file takes the place of smartcore's own `lib.rs` and `mod.rs` files.
 
 #[allow(dead_code)]
 mod api;
@@ -33,7 +33,7 @@ mod numbers {
 }
 
 mod tree {
-    /// `include!` instead of `mod`, so that a window can stand inside, beside the private fields.
+    /// `include!` instead of `mod`, so that the module `window` inside has access to the private fields.
     #[allow(dead_code, private_bounds, clippy::all)]
     pub mod base_tree {
         include!("tree/base_tree.rs");

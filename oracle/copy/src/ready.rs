@@ -1,4 +1,4 @@
-//! tailboardy: fits and means with all else made ready before, so that a clock around them sees the published code alone.
+//! tailboardy: fits and means with everything else prepared in advance, so that only the published code is timed.
 
 use crate::ensemble::base_forest::{self, window as forest_window};
 use crate::harness::{self, Data, Grown, Params};
@@ -7,7 +7,7 @@ use crate::tree::base_tree::{BaseTree, window as tree_window};
 use crate::tree::criterion::MSECriterion;
 use rand::tape::{self, Tape, Told};
 
-/// What the loop over trees in `BaseForest::fit` has before it: sorted columns, and here the bags too. Without weights.
+/// What must be ready before the loop over trees in `BaseForest::fit`: sorted columns and, here, the bags too. There are no weights.
 pub struct Ready {
     x: Matrix,
     y: Vec<f64>,
@@ -15,13 +15,13 @@ pub struct Ready {
     bags: Vec<Vec<usize>>,
 }
 
-/// The forest that was grown, and what was drawn for each tree.
+/// The grown forest, and what was drawn for each tree.
 pub struct Forest {
     forest: forest_window::Forest,
     told: Vec<Told>,
 }
 
-/// Rows to be predicted.
+/// Rows for predictions.
 pub struct Rows(Matrix);
 
 impl Ready {
@@ -35,13 +35,13 @@ impl Ready {
         }
     }
 
-    /// Lay a tape for each tree. They are played unchecked, which takes less time than drawing would.
+    /// Sets up a tape for each tree. The tapes are not checked, so using them takes less time than drawing.
     pub fn lay(&self, tapes: &[Tape]) {
         tape::clear();
         tapes.iter().for_each(|made| tape::lay_good(made.clone()));
     }
 
-    /// Every tree, as that loop grows it. With no tapes laid, the draws are made from `seed` on.
+    /// Grows every tree as that loop does. Without tapes the draws are made from `seed`.
     pub fn fit(&self, params: &Params, seed: u64) -> Forest {
         let mut trees = Vec::with_capacity(self.bags.len());
         for (tree, bag) in self.bags.iter().enumerate() {

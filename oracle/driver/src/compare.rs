@@ -1,17 +1,25 @@
-//! Both judges against each other, on made inputs or on the fixed list.
+//! Compares both judges on generated inputs or on the fixed list.
 
-use crate::calls::Call;
-use crate::case::{self, Case};
-use crate::chance::Chance;
-use crate::make_fit::{self, SMALL, Size};
+use crate::call::calls::Call;
+use crate::damage::faults;
+use crate::damage::fit as damage_fit;
+use crate::damage::read as damage_read;
+use crate::differences;
+use crate::judge::case::{self, Case};
+use crate::limits::fit as limits_fit;
+use crate::limits::read as limits_read;
+use crate::make::chance::Chance;
+use crate::make::crafted;
+use crate::make::exhaustive;
+use crate::make::fit as make_fit;
+use crate::make::fit::{SMALL, Size};
+use crate::make::read as make_read;
+use crate::make::rehearsal;
+use crate::own;
 use crate::tally::{Counts, Tally, caught};
-use crate::{
-    crafted, damage_fit, damage_read, differences, exhaustive, faults, limits, limits_read,
-    make_read, own, rehearsal,
-};
 use std::process::ExitCode;
 
-/// For the fixed list: a few numbers a case.
+/// For the fixed list: few numbers per case.
 pub const TINY: Size = Size {
     rows: 6,
     features: 2,
@@ -24,7 +32,7 @@ const MIDDLING: Size = Size {
     trees: 6,
 };
 
-/// One random case: a fit, good, with bad draws or damaged; or a reader, good or damaged.
+/// One random case: a fit that is valid, has bad draws or is damaged; or a reader that is valid or damaged.
 pub fn make(chance: &mut Chance, size: Size) -> Case {
     if chance.one_in(3) {
         let mut read = make_read::read(chance);
@@ -45,7 +53,7 @@ pub fn make(chance: &mut Chance, size: Size) -> Case {
     Case::fit(fit, refusal)
 }
 
-/// A case that is made again, up to three times, while no tree of it goes beyond its root's search.
+/// A case that is made again, up to three times, if none of its trees has more than the search of its root.
 fn make_growing(chance: &mut Chance, size: Size) -> Case {
     let bare = |case: &Case| match &case.call {
         Call::Fit(fit) => case.refusal == 0 && fit.words.len() <= fit.trees * fit.features,
@@ -60,7 +68,7 @@ fn make_growing(chance: &mut Chance, size: Size) -> Case {
     case
 }
 
-/// The cases that are not left to chance.
+/// The cases that are not random.
 pub fn fixed() -> Vec<Case> {
     let mut cases = rehearsal::cases();
     cases.extend(crafted::cases());
@@ -68,7 +76,7 @@ pub fn fixed() -> Vec<Case> {
     cases
 }
 
-/// Random ones.
+/// Random cases.
 fn random(tally: &mut Tally, chance: &mut Chance, count: usize) {
     for i in 0..count {
         let size = if i % 20 == 0 { MIDDLING } else { SMALL };
@@ -76,7 +84,7 @@ fn random(tally: &mut Tally, chance: &mut Chance, count: usize) {
     }
 }
 
-/// Holds made cases, `count` of them random, what docs/DIFFERENCES.md says, and the crate's own `fit`s.
+/// Compares generated cases, `count` of them random, what docs/DIFFERENCES.md says, and smartcore's own `fit`s.
 pub fn compare(mut tally: Tally, count: usize, least: &Counts) -> ExitCode {
     let mut chance = Chance::new(1);
     fixed().iter().for_each(|case| tally.hold(case));
@@ -85,7 +93,7 @@ pub fn compare(mut tally: Tally, count: usize, least: &Counts) -> ExitCode {
     exhaustive::words(|case| tally.hold(&case));
     exhaustive::tables(|case| tally.hold(&case));
     exhaustive::checks(|case| tally.hold(&case));
-    limits::each(&mut chance, |case| tally.hold(&case));
+    limits_fit::each(&mut chance, |case| tally.hold(&case));
     limits_read::each(&mut Chance::new(5), |case| tally.hold(&case));
     random(&mut tally, &mut chance, count);
     differences::hold(&mut tally);
@@ -93,30 +101,30 @@ pub fn compare(mut tally: Tally, count: usize, least: &Counts) -> ExitCode {
     tally.end("compare", least)
 }
 
-/// The cases that are not left to chance, and `count` random ones: for a short run.
+/// The cases that are not random, and `count` random ones, for a short run.
 pub fn sample(mut tally: Tally, count: usize, least: &Counts) -> ExitCode {
     fixed().iter().for_each(|case| tally.hold(case));
     random(&mut tally, &mut Chance::new(4), count);
     tally.end("sample", least)
 }
 
-/// The deepest trees there are: some tens of seconds.
+/// The deepest trees that are possible; takes about a minute.
 pub fn longest(mut tally: Tally) -> ExitCode {
-    limits::longest(&mut Chance::new(3), |case| tally.hold(&case));
+    limits_fit::longest(&mut Chance::new(3), |case| tally.hold(&case));
     tally.end("longest", &Counts::each(0))
 }
 
-/// Who answers a list: a tally's library, or the copy, which has what is marked as the Rust's.
+/// Who answers the list: the library of the tally, or the copy, which answers the cases marked as smartcore's.
 #[derive(Clone, Copy)]
 pub enum By {
     Library,
     Copy,
 }
 
-/// Replays the list. With `each`, tells the place of every case that differs.
+/// Replays the list. With `each`, prints the position of every case that differs.
 pub fn replay(mut tally: Tally, by: &[By], file: &str, each: bool, least: &Counts) -> ExitCode {
     let library = tally.library;
-    // an edited judge may panic on many cases: each is told as one that differs
+    // an edited judge may panic on many cases; each counts as one that differs
     std::panic::set_hook(Box::new(|_| ()));
     for (place, listed) in case::read_list(file).iter().enumerate() {
         for by in by {

@@ -1,13 +1,16 @@
-//! What docs/DIFFERENCES.md says of its smallest inputs, held against the copy and a library.
+//! Checks what docs/DIFFERENCES.md says about its smallest inputs, with the copy and with a library.
 
-use crate::calls::{Call, Fit};
-use crate::library::Library;
-use crate::make_fit::{self, data, params};
+use crate::call::calls::{Call, Fit};
+use crate::judge::copied::{data, params};
+use crate::judge::expect;
+use crate::judge::library::Library;
+use crate::judge::run;
+use crate::make::chance::Chance;
+use crate::make::fit as make_fit;
 use crate::tally::Tally;
-use crate::{chance::Chance, expect, run};
 use copy::harness::{self, Grown, Readable};
 
-/// One feature, rows in the order of the listing, one feature tried, draws that are enough.
+/// One feature, which is tried, rows in the order of the listing, and enough draws.
 fn rows(x: &[f64], y: &[f64]) -> Fit {
     let rows = x.len();
     Fit {
@@ -26,7 +29,7 @@ fn rows(x: &[f64], y: &[f64]) -> Fit {
     }
 }
 
-/// The library's answer: refusal, nodes.
+/// The library's answer: the refusal and the number of nodes.
 fn ours(library: &dyn Library, fit: &Fit) -> (u64, u64) {
     let mut fit = fit.clone();
     make_fit::rooms(&mut Chance::new(0), &mut fit);
@@ -113,11 +116,6 @@ fn numbers(library: &dyn Library) -> Vec<(&'static str, bool)> {
     let nan_nodes = copy(&nan).nodes();
     let mut endless = nan.clone();
     (endless.limit, endless.words) = (None, vec![0; 65_535]);
-    let mut count = rows(&[1.0], &[1.0]);
-    count.counts = vec![65_536];
-    let mut wide = rows(&[-1.7e308, 1.7e308], &[0.0, 1.0]);
-    (wide.random, wide.thresholds) = (true, vec![0.0]);
-    let no_trees = Readable::from_tables(&[], 1, 0.0).means(1, &[0.0]);
     vec![
         (
             "infinite values",
@@ -135,6 +133,17 @@ fn numbers(library: &dyn Library) -> Vec<(&'static str, bool)> {
             "a value of NaN and no limit",
             copy(&endless).depth() == 65_535 && paper(&endless) == (3, 0),
         ),
+    ]
+}
+
+fn sizes(library: &dyn Library) -> Vec<(&'static str, bool)> {
+    let paper = |fit: &Fit| ours(library, fit);
+    let mut count = rows(&[1.0], &[1.0]);
+    count.counts = vec![65_536];
+    let mut wide = rows(&[-1.7e308, 1.7e308], &[0.0, 1.0]);
+    (wide.random, wide.thresholds) = (true, vec![0.0]);
+    let no_trees = Readable::from_tables(&[], 1, 0.0).means(1, &[0.0]);
+    vec![
         (
             "a count of 65,536",
             copy(&count).root_mass() == 65_536.0 && paper(&count) == (4, 0),
@@ -149,7 +158,12 @@ fn numbers(library: &dyn Library) -> Vec<(&'static str, bool)> {
 
 pub fn hold(tally: &mut Tally) {
     let library = tally.library;
-    let all = [listings(library), weights(library), numbers(library)];
+    let all = [
+        listings(library),
+        weights(library),
+        numbers(library),
+        sizes(library),
+    ];
     for (what, as_said) in all.concat() {
         tally.told(as_said, || format!("docs/DIFFERENCES.md: {what}"));
     }

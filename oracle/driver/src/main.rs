@@ -1,8 +1,10 @@
-//! The command: compares both judges, replays the list, and what the list is made with.
+//! The command: compares both judges, replays the list, and makes it.
 
 use driver::compare::{self, By};
+use driver::judge::{case::Case, library::Paper};
+use driver::list::{mutants, pick};
+use driver::make::chance::Chance;
 use driver::tally::{Counts, Tally};
-use driver::{case::Case, chance::Chance, library::Paper, mutants, pick};
 use std::process::ExitCode;
 
 const USE: &str = "compare [COUNT] | longest | replay LIST | each LIST paper|copy | pool COUNT
@@ -19,7 +21,7 @@ fn main() -> ExitCode {
         ["each", list, "paper"] => return replayed(&[By::Library], list, true),
         ["each", list, "copy"] => return replayed(&[By::Copy], list, true),
         ["pool", count] => pool(number(count)),
-        // one line an edit, and whether it shows
+        // one line per edit, with whether it changes a result
         ["mutants", file] => mutants::parse(&read(file)).iter().for_each(|mutant| {
             let shows = if mutant.same { "same" } else { "shows" };
             let edit = format!("{} ==> {}", mutant.old, mutant.new).replace('\n', "\\n");
@@ -45,7 +47,7 @@ fn compared(count: usize) -> ExitCode {
     compare::compare(paper(), count, &Counts::each(1))
 }
 
-/// A list of any cases may be told of one by one.
+/// With `each`, a list of any cases is accepted, and every case that differs is reported.
 fn replayed(by: &[By], list: &str, each: bool) -> ExitCode {
     let least = if each { 0 } else { 1 };
     compare::replay(paper(), by, list, each, &Counts::each(least))
@@ -67,14 +69,14 @@ fn pool(count: usize) {
     print(&[lines, random].concat());
 }
 
-/// The first line says how many cases follow, and how many numbers the longest has.
+/// The first line has the number of cases, and how many numbers the longest line has.
 fn print(lines: &[String]) {
     let longest = lines.iter().map(|line| line.split(' ').count()).max();
     println!("{} {}", lines.len(), longest.unwrap_or(0));
     lines.iter().for_each(|line| println!("{line}"));
 }
 
-/// `found` has a line for each edit: the places of the cases that find it.
+/// `found` has a line for each edit: the positions of the cases that detect it.
 fn picked(pool: &str, found: &str) {
     let lines: Vec<&str> = pool.lines().skip(1).collect();
     let places = |line: &str| line.split_whitespace().map(number).collect();

@@ -1,14 +1,15 @@
-//! The crate's own `fit`, bags, sort and draws and all, against a fit that is handed the same by tapes:
-//! that the harness calls `fit_weak_learner` as the crate itself does.
+//! Compares smartcore's own `fit`, with its bags, sorting and draws, with a fit that gets the same draws from tapes. This checks
+//! that the harness calls `fit_weak_learner` as smartcore itself does.
 
-use crate::calls::{Call, Fit, Read, Reader, Table};
-use crate::chance::Chance;
-use crate::expect;
-use crate::floats;
-use crate::library::Library;
-use crate::make_fit::{self, data, params};
-use crate::outcome::{Outcome, bits};
-use crate::run;
+use crate::call::calls::{Call, Fit, Read, Reader, Table};
+use crate::call::outcome::{Outcome, bits};
+use crate::judge::copied::{data, params};
+use crate::judge::expect;
+use crate::judge::library::Library;
+use crate::judge::run;
+use crate::make::chance::Chance;
+use crate::make::fit as make_fit;
+use crate::make::floats;
 use crate::tally::Tally;
 use copy::harness::{self, NodeRecord, Tape};
 
@@ -21,7 +22,7 @@ pub fn hold(tally: &mut Tally, chance: &mut Chance, count: usize) {
     }
 }
 
-/// A good fit with the crate's own listings, and weights that the crate takes.
+/// A valid fit with smartcore's own listings, and weights that smartcore accepts.
 fn base(chance: &mut Chance, forest: bool) -> Fit {
     let mut fit = make_fit::fit(chance, forest, make_fit::SMALL);
     fit.listings = harness::argsorted(fit.rows, fit.features, &fit.x);
@@ -32,7 +33,7 @@ fn base(chance: &mut Chance, forest: bool) -> Fit {
     fit
 }
 
-/// The library's fit over the draws that the crate made.
+/// The library's fit with the draws that smartcore made.
 fn played(library: &dyn Library, chance: &mut Chance, fit: &mut Fit, tapes: &[Tape]) -> Outcome {
     make_fit::lay(fit, tapes);
     make_fit::rooms(chance, fit);
@@ -92,8 +93,8 @@ fn forest(library: &dyn Library, chance: &mut Chance) -> (Fit, bool) {
     (fit, same)
 }
 
-/// Whether a tree's nodes are read out as the crate has them, and none past the last.
-/// Of the crate's own leaves all but the value are 0.
+/// Whether a tree's nodes are read out as smartcore has them, and none past the last.
+/// In smartcore's own leaves everything except the value is 0.
 fn nodes_told(library: &dyn Library, features: usize, nodes: &[NodeRecord]) -> bool {
     let columns = expect::columns(nodes);
     let mut read = Read {

@@ -1,8 +1,8 @@
-//! What was compared: how much of each kind, and the shortest input that differs.
+//! What was compared: how many inputs of each kind, and the shortest one that differs.
 
-use crate::calls::{Call, Reader};
-use crate::case::Case;
-use crate::library::Library;
+use crate::call::calls::{Call, Reader};
+use crate::judge::case::Case;
+use crate::judge::library::Library;
 use std::fmt;
 use std::process::ExitCode;
 use std::time::Instant;
@@ -22,7 +22,7 @@ pub struct Counts {
 }
 
 impl Counts {
-    /// The same of every kind.
+    /// The same number of every kind.
     pub const fn each(count: usize) -> Self {
         Counts {
             trees: count,
@@ -84,7 +84,7 @@ impl fmt::Display for Counts {
         let (beside, (first, last)) = (self.beside_trees(), refusals.split_at(6));
         write!(
             to,
-            "{trees} trees grown; {beside} beside: {forests} forests grown, "
+            "{trees} trees grown; {beside} others: {forests} forests grown, "
         )?;
         write!(to, "{readers} answers of readers, {nodes} nodes read out, ")?;
         write!(to, "{checks} checks passed, {bad_draws} bad draws, ")?;
@@ -92,11 +92,11 @@ impl fmt::Display for Counts {
     }
 }
 
-/// Holds cases against a library, counts them, and keeps the shortest that differs.
+/// Compares the answers of a library with those expected, counts the cases, and keeps the shortest one that differs.
 pub struct Tally<'a> {
     what: &'static str,
     pub library: &'a dyn Library,
-    /// Asked the same, and held to the same.
+    /// A second library that must give the same answers.
     second: Option<&'a dyn Library>,
     since: Instant,
     inputs: usize,
@@ -132,7 +132,7 @@ impl<'a> Tally<'a> {
         }
     }
 
-    /// Each answer is to be what is expected, which is never nothing.
+    /// Compares each answer with the expected one, which is never empty.
     pub fn answered(&mut self, case: &Case, expected: &[u64], answers: &[Vec<u64>]) {
         if let [refusal, ..] = expected {
             self.counts.add(&case.call, *refusal);
@@ -157,7 +157,7 @@ impl<'a> Tally<'a> {
         }
     }
 
-    /// Fails where an input differs, and where there are fewer than `least` of any kind.
+    /// Fails if an input differs, or if there are fewer than `least` of any kind.
     pub fn end(&self, run: &str, least: &Counts) -> ExitCode {
         let (inputs, differences) = (self.inputs, self.differences);
         let seconds = self.since.elapsed().as_secs_f64();
@@ -174,7 +174,7 @@ impl<'a> Tally<'a> {
     }
 }
 
-/// A judge that panics has answered nothing, which no call should give.
+/// A judge that panics gives an empty answer, which is never expected.
 pub fn caught(judge: impl Fn() -> Vec<u64>) -> Vec<u64> {
     let ended = std::panic::catch_unwind(std::panic::AssertUnwindSafe(judge));
     ended.unwrap_or_default()

@@ -1,6 +1,6 @@
 //! Refusals 1 to 6 of the fits, each as a test that passes or fails, and the listing check alone.
 
-use crate::fits::{Cuts, Given};
+use crate::calls::{Cuts, Given};
 
 pub fn rows_in_range(rows: usize) -> bool {
     (1..=65_535).contains(&rows)
@@ -57,7 +57,7 @@ pub fn counts_one_if_weighted(given: &Given) -> bool {
     given.weights.is_empty() || given.counts.iter().all(|count| *count == 1)
 }
 
-/// Each row once, and no value below the one before it.
+/// Each row exactly once, and no value lower than the one before it.
 fn listing_good(listing: &[u32], value: impl Fn(u32) -> f64) -> bool {
     let mut met = vec![false; listing.len()];
     for row in listing {

@@ -1,95 +1,11 @@
-//! The fit of one tree and the fit of a forest: checks in order, growth, and what is left in each lent room.
+//! The fit of one tree and the fit of a forest: the checks in order, growth, and what is left in each room.
 
+use crate::calls::{Draws, ForestAnswer, ForestCall, Given, TreeAnswer, TreeCall};
 use crate::checks;
 use crate::growth::{Grown, Record, Seed};
 use crate::rooms::{Columns, ForestRooms, TreeRooms};
 
-#[derive(Clone, Copy, Debug, PartialEq)]
-pub enum Splitter {
-    Best,
-    Random,
-}
-
-#[derive(Clone, Copy, Debug)]
-pub struct Settings {
-    /// The greatest depth; none acts as 65,535.
-    pub limit: Option<u16>,
-    pub least_leaf: u32,
-    pub least_split: u32,
-    pub splitter: Splitter,
-}
-
-/// What both fits are given: feature values row by row, counts tree by tree, listings feature by feature.
-#[derive(Clone, Copy)]
-pub struct Given<'a> {
-    pub rows: usize,
-    pub features: usize,
-    pub x: &'a [f64],
-    pub y: &'a [f64],
-    /// One a row, or empty for none.
-    pub weights: &'a [f64],
-    pub counts: &'a [u32],
-    pub listings: &'a [u32],
-}
-
-#[derive(Clone, Copy)]
-pub struct Draws<'a> {
-    pub words: &'a [u32],
-    pub thresholds: &'a [f64],
-}
-
-/// Where each tree's part of the two tapes begins, and where the last ends.
-#[derive(Clone, Copy)]
-pub struct Cuts<'a> {
-    pub words: &'a [u64],
-    pub thresholds: &'a [u64],
-}
-
-pub struct TreeCall<'a> {
-    pub given: Given<'a>,
-    pub settings: Settings,
-    pub tried: u32,
-    pub draws: Draws<'a>,
-}
-
-pub struct ForestCall<'a> {
-    pub given: Given<'a>,
-    pub trees: usize,
-    pub settings: Settings,
-    /// None: the floor of the root of the feature count.
-    pub tried: Option<u32>,
-    pub draws: Draws<'a>,
-    pub cuts: Cuts<'a>,
-}
-
-/// What a fit reports of a tree.
-#[derive(Clone, Copy, Debug, Default)]
-pub struct Numbers {
-    pub nodes: u32,
-    pub depth: u32,
-    pub root_mass: f64,
-    pub searches: u32,
-    pub words_used: u32,
-    pub thresholds_used: u32,
-}
-
-/// Tree and search are told with refusal 7 alone, and are 0 otherwise.
-#[derive(Clone, Copy, Debug, Default)]
-pub struct TreeAnswer {
-    pub refusal: u32,
-    pub tree: u32,
-    pub search: u32,
-    pub numbers: Numbers,
-}
-
-#[derive(Clone, Copy, Debug, Default, PartialEq)]
-pub struct ForestAnswer {
-    pub refusal: u32,
-    pub tree: u32,
-    pub search: u32,
-}
-
-/// Node room that a tree asks: max(1, 2 x kept rows - 1).
+/// The number of nodes that a tree requires room for: max(1, 2 x kept rows - 1).
 fn asked(seed: &Seed) -> usize {
     match seed.kept_rows() {
         0 => 1,
@@ -244,7 +160,7 @@ pub fn fit_forest(call: &ForestCall, rooms: &mut ForestRooms) -> ForestAnswer {
     ForestAnswer::default()
 }
 
-/// Trees one after another, where each starts, and what is reported of each.
+/// Writes the trees one after another, where each starts, and what is reported about each.
 fn lay_out(grown: &[Grown], rooms: &mut ForestRooms) {
     let mut start = 0;
     rooms.starts[0] = 0;

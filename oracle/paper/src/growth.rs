@@ -1,9 +1,9 @@
-//! The growth of one tree. Each node holds its own columns, so nothing is moved about in place.
+//! The growth of one tree. Each node has its own columns, so nothing is moved in place.
 
-use crate::fits::{Draws, Given, Numbers, Settings, Splitter};
+use crate::calls::{Draws, Given, Numbers, Settings, Splitter};
 use crate::totals::{Totals, proxy, score, threshold};
 
-/// A node as it is written; a leaf keeps feature, threshold, score and children at 0.
+/// A node as it is written; in a leaf the feature, threshold, score and children are 0.
 #[derive(Clone, Copy, Debug, Default)]
 pub struct Record {
     pub value: f64,
@@ -19,7 +19,7 @@ pub struct Grown {
     pub numbers: Numbers,
 }
 
-/// The search of a draw that could not be taken.
+/// The search of a draw that is missing or out of range.
 pub struct BadDraw {
     pub search: u32,
 }
@@ -33,7 +33,7 @@ pub struct Seed<'a> {
     pub draws: Draws<'a>,
 }
 
-/// The candidate held by a search.
+/// The best candidate of a search so far.
 #[derive(Clone, Copy)]
 struct Held {
     feature: usize,
@@ -310,7 +310,7 @@ impl<'a> Growth<'a> {
         self.search_if_allowed(false_child)
     }
 
-    /// The next node, with totals added in the split column's order.
+    /// The next node, with totals added up in the order of the split column.
     fn child(&mut self, level: u32, feature: usize, columns: Vec<Vec<u32>>) -> Stand {
         let totals = self.seed.add_all(&columns[feature]);
         self.depth = self.depth.max(level);

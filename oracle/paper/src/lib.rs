@@ -1,9 +1,10 @@
-//! The second judge: every public call as a plain program written from the paper of exact rules.
-//! It shares no code with the copy of the Rust, and does its work in rooms of its own: of the lent work
-//! room it only looks at the lengths, and leaves what the paper says is left.
+//! The second judge: every public call as a plain program that follows the rules (docs/RULES.md).
+//! It shares no code with the copy of smartcore, and works in memory of its own: of the rooms for work it only uses the lengths,
+//! and it leaves in them what the rules say.
 //!
-//! A call answers with a refusal number, 0 for none.
+//! A call returns the number of a refusal, or 0.
 
+mod calls;
 mod checks;
 mod fits;
 mod growth;
@@ -12,11 +13,11 @@ mod rooms;
 mod tables;
 mod totals;
 
-pub use checks::check_listings;
-pub use fits::{
-    Cuts, Draws, ForestAnswer, ForestCall, Given, Numbers, Settings, Splitter, TreeAnswer,
-    TreeCall, fit_forest, fit_tree,
+pub use calls::{
+    Cuts, Draws, ForestAnswer, ForestCall, Given, Numbers, Settings, Splitter, TreeAnswer, TreeCall,
 };
+pub use checks::check_listings;
+pub use fits::{fit_forest, fit_tree};
 pub use readers::{
     Divisor, forest_importances, forest_means, out_of_bag_error, out_of_bag_means, predictions,
     tree_importances,

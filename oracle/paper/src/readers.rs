@@ -1,4 +1,4 @@
-//! Readers: they look at tables and write their results alone.
+//! Readers: they read tables and write only their results.
 
 use crate::checks::{features_in_range, first_failed, rows_in_range, trees_in_range};
 use crate::rooms::Table;
@@ -11,8 +11,8 @@ pub enum Divisor {
     RootMass(f64),
 }
 
-/// The value of the leaf that a row's values lead to. Children come after their parent, so a good tree's nodes
-/// are as many steps as a walk can take.
+/// The value of the leaf that a row reaches. Children come after their parent, so a path in a valid tree has no more steps
+/// than there are nodes.
 fn leaf_value(table: &Table, values: &[f64]) -> f64 {
     let mut number = 0;
     for _ in 0..table.room() {
@@ -49,7 +49,7 @@ pub fn predictions(rows: usize, features: usize, x: &[f64], table: &Table, out: 
     refusal
 }
 
-/// Values from +0 in tree order, divided by how many there are.
+/// The values added up from +0 in the order of the trees, divided by their number.
 fn mean(values: impl Iterator<Item = f64>) -> f64 {
     let (mut sum, mut trees) = (0.0, 0.0);
     for value in values {
@@ -189,7 +189,7 @@ pub fn forest_importances(
     refusal
 }
 
-/// The out-of-bag error, and 0 beside a refusal: refusals 1, 2. A NaN mean adds nothing.
+/// The out-of-bag error, or 0 with a refusal: refusals 1, 2. A NaN mean adds nothing.
 pub fn out_of_bag_error(rows: usize, targets: &[f64], means: &[f64]) -> (u32, f64) {
     let refusal = first_failed(&[
         (1, &|| rows_in_range(rows)),

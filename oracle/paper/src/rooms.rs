@@ -1,6 +1,6 @@
-//! What is lent to be written, and node columns lent to be read.
+//! The rooms that a call writes to, and the node columns that it reads.
 
-/// Node room: six columns, of which the shortest counts.
+/// Room for nodes: six columns, of which the shortest decides how many nodes there is room for.
 pub struct Columns<'a> {
     pub value: &'a mut [f64],
     pub feature: &'a mut [u32],
@@ -10,7 +10,7 @@ pub struct Columns<'a> {
     pub false_child: &'a mut [u32],
 }
 
-/// A forest's report columns, one entry a tree.
+/// The report columns of a forest, one entry per tree.
 pub struct Reports<'a> {
     pub nodes: &'a mut [u32],
     pub depth: &'a mut [u32],
@@ -20,7 +20,7 @@ pub struct Reports<'a> {
     pub thresholds_used: &'a mut [u32],
 }
 
-/// An entry of the waiting list. Which fields it has shows nowhere but in how long the list is.
+/// An entry of the waiting list. Its fields cannot be seen from outside; only the length of the list matters.
 #[derive(Clone, Copy, Debug, Default, PartialEq)]
 #[repr(C)]
 pub struct Waiting {
@@ -51,7 +51,7 @@ pub struct ForestRooms<'a> {
     pub work: Work<'a>,
 }
 
-/// Node columns as a reader is lent them.
+/// Node columns as a reader is given them.
 #[derive(Clone, Copy)]
 pub struct Table<'a> {
     pub value: &'a [f64],
@@ -140,7 +140,7 @@ impl<'a> Table<'a> {
         )
     }
 
-    /// The entries from one place to another, in every column.
+    /// The entries from one position to another, in every column.
     pub(crate) fn part(&self, from: usize, to: usize) -> Table<'a> {
         Table {
             value: &self.value[from..to],

@@ -1,4 +1,4 @@
-//! Lent tree tables: which are good, and a node read out.
+//! Tables of trees: which are valid, and reading out a node.
 
 use crate::checks::{features_in_range, first_failed, trees_in_range};
 use crate::rooms::Table;
@@ -25,7 +25,7 @@ pub struct Cut {
     pub false_child: u32,
 }
 
-/// What comes of asking for a node. A good tree may not have it, which is no refusal.
+/// The result of reading a node. A valid tree may not have it, which is not a refusal.
 #[derive(Clone, Copy, Debug)]
 pub enum NodeRead {
     Refused(u32),
@@ -33,7 +33,7 @@ pub enum NodeRead {
     Read(Node),
 }
 
-/// A node out of its six entries: both children 0 is a leaf, whose other entries are not looked at.
+/// A node from its six entries: if both children are 0 it is a leaf, whose other entries are ignored.
 pub fn node_at(table: &Table, number: usize) -> Node {
     let cut = Cut {
         feature: table.feature[number],
@@ -56,7 +56,7 @@ fn node_good(table: &Table, number: usize, nodes: usize, features: usize) -> boo
     let Kind::Split(cut) = node_at(table, number).kind else {
         return true;
     };
-    // u64, so that the number after the largest u32 is no 0
+    // u64, so that the number after the largest u32 is not 0
     let (on_true, on_false) = (u64::from(cut.true_child), u64::from(cut.false_child));
     on_true > number as u64
         && on_false == on_true + 1
@@ -64,13 +64,13 @@ fn node_good(table: &Table, number: usize, nodes: usize, features: usize) -> boo
         && (cut.feature as usize) < features
 }
 
-/// All entries of the columns are the tree.
+/// The tree is made of all entries of the columns.
 pub fn tree_good(table: &Table, features: usize) -> bool {
     let nodes = table.room();
     nodes > 0 && (0..nodes).all(|number| node_good(table, number, nodes, features))
 }
 
-/// Where a tree lies in a forest's columns.
+/// The part of a forest's columns that is one tree.
 pub fn tree_part<'a>(table: &Table<'a>, starts: &[u32], tree: usize) -> Table<'a> {
     table.part(starts[tree] as usize, starts[tree + 1] as usize)
 }
@@ -100,7 +100,7 @@ pub fn check_forest(features: usize, trees: usize, table: &Table, starts: &[u32]
     ])
 }
 
-/// A node of one tree by its number: refused as the tree's table check is, refusals 1, 8.
+/// The node of a tree with this number; refused as in the check of the table: refusals 1, 8.
 pub fn read_node(features: usize, table: &Table, number: usize) -> NodeRead {
     match check_tree(features, table) {
         0 if number < table.room() => NodeRead::Read(node_at(table, number)),

@@ -1,4 +1,4 @@
-//! Totals of rows, and what is reckoned from them.
+//! Totals of rows, and what is computed from them.
 
 #[derive(Clone, Copy, Debug)]
 pub struct Totals {

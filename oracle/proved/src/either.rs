@@ -1,4 +1,4 @@
-//! The calls, by whichever way the library is reached: linked, or served where `SERVED` names a program.
+//! The calls, whichever way the library is used: linked, or through the program that `SERVED` names.
 
 use crate::served;
 #[cfg(target_arch = "x86_64")]

@@ -1,5 +1,5 @@
-//! The proved library behind its exported calls, for the driver to hold against both judges. It is compiled for x86-64: there it is
-//! linked, and elsewhere a program that runs on an emulator answers for it.
+//! The proved library, used through its exported calls, for the driver to compare with both judges. It is x86-64 code: on x86-64 it is
+//! linked, and elsewhere a program that runs in an emulator answers the calls.
 
 #![allow(clippy::too_many_arguments)]
 
@@ -7,8 +7,8 @@ mod either;
 mod served;
 mod waiting;
 
-use driver::library::Library;
-use driver::outcome::bits;
+use driver::call::outcome::bits;
+use driver::judge::library::Library;
 use paper::{
     Divisor, ForestAnswer, ForestCall, ForestRooms, Given, Numbers, Splitter, Table, TreeAnswer,
     TreeCall, TreeRooms,
@@ -19,7 +19,7 @@ use waiting::Stack;
 
 pub struct Proved;
 
-/// A call over a table, whose six columns stand between what comes before and after them.
+/// A call whose arguments include the six columns of a table, in the middle.
 macro_rules! over {
     ($call:ident($($before:expr),*; $table:ident; $($after:expr),*)) => {
         either::$call(
@@ -208,7 +208,7 @@ impl Library for Proved {
     }
 }
 
-/// A number by the input, for what is to differ between inputs and to be the same when one is tried again.
+/// A number that depends on the input: it differs between inputs, and is the same if an input is tried again.
 fn lot(given: &Given, words: &[u32]) -> u32 {
     let numbers = given.counts.iter().chain(words);
     numbers.fold(given.features as u32, |sum, number| {

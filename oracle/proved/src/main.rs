@@ -1,12 +1,12 @@
-//! The command: holds the proved library against both judges, and replays the list through it.
+//! The command: compares the proved library with both judges, and replays the list with it.
 
 use driver::compare::{self, By};
-use driver::library::Paper;
+use driver::judge::library::Paper;
 use driver::tally::{Counts, Tally};
 use proved::Proved;
 use std::process::ExitCode;
 
-/// So many of each kind must be compared in a full run,
+/// The least number of each kind that must be compared in a full run,
 const FULL: Counts = Counts {
     trees: 400_000,
     forests: 40_000,
@@ -27,8 +27,8 @@ fn main() -> ExitCode {
     let args: Vec<String> = std::env::args().skip(1).collect();
     let args: Vec<&str> = args.iter().map(String::as_str).collect();
     let what = match proved::served() {
-        true => "the library served",
-        false => "the library linked",
+        true => "the served library",
+        false => "the linked library",
     };
     let tally = Tally::new(what, &Proved, Some(&Paper));
     let number = |word: &str| word.parse().expect("a number");

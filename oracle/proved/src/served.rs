@@ -1,5 +1,5 @@
-//! The library in another program: `served.c` has it linked, and answers through pipes. A processor that is not the library's has
-//! it run by an emulator.
+//! The library in another program: `served.c` links it and answers through pipes. On another processor than the library's, an emulator
+//! runs that program.
 
 use std::io::{self, BufReader, Read, Write};
 use std::process::{Child, ChildStdout, Command, Stdio, exit};
@@ -12,7 +12,7 @@ struct Pipe {
 }
 
 impl Pipe {
-    /// The program that a line names, with the words before it.
+    /// Starts the program of a command line.
     fn start(line: &str) -> Self {
         let mut words = line.split(' ');
         let mut command = Command::new(words.next().unwrap_or_default());
@@ -38,7 +38,7 @@ impl Pipe {
         bytes
     }
 
-    /// Without the program no further call has an answer.
+    /// Without the program no further call can be answered.
     fn ended(&mut self, error: io::Error) -> ! {
         let status = self.program.wait();
         eprintln!("the program that SERVED names: {error}, {status:?}");
@@ -46,7 +46,7 @@ impl Pipe {
     }
 }
 
-/// What `SERVED` names, started once.
+/// The program that `SERVED` names, started once.
 fn pipe() -> Option<&'static Mutex<Pipe>> {
     static PIPE: OnceLock<Option<Mutex<Pipe>>> = OnceLock::new();
     let start = |line: String| Mutex::new(Pipe::start(&line));
@@ -54,12 +54,12 @@ fn pipe() -> Option<&'static Mutex<Pipe>> {
         .as_ref()
 }
 
-/// Whether a program is to answer.
+/// Whether a program answers the calls.
 pub fn named() -> bool {
     pipe().is_some()
 }
 
-/// What is passed by value or told: each number in 64 bits, a struct by its fields.
+/// What is passed by value or returned: each number in 64 bits, a struct by its fields.
 trait Plain {
     fn put(self, sent: &mut Vec<u8>);
     fn take(from: &mut Pipe) -> Self;
@@ -130,7 +130,7 @@ fields! {
     NodeTold: number there value feature threshold score yes no;
 }
 
-/// An entry of a slice in as many bytes as it has there.
+/// An entry of a slice, in as many bytes as it has in memory.
 trait Entry: Sized {
     fn put(&self, sent: &mut Vec<u8>);
     fn take(from: &mut Pipe) -> Self;
@@ -179,7 +179,7 @@ fn take_back<T: Entry>(slice: &mut [T], from: &mut Pipe) {
     slice.iter_mut().for_each(|entry| *entry = T::take(from));
 }
 
-/// Sends the kind, then everything in order; what is told comes back, and the entries of the lent slices.
+/// Sends the kind and then everything in order; receives the result and the entries of the slices that were written.
 macro_rules! serve {
     ($($kind:literal $name:ident = $symbol:ident($($given:ident: $number:ty),*)
         reads($($shared:ident: $read:ty),*) writes($($lent:ident: $written:ty),*)

@@ -1,6 +1,6 @@
-//! The waiting list as the proved library is lent it: whole numbers and floats in two slices, of which the shorter counts.
+//! The waiting list as it is passed to the proved library: integers and floats in two slices, of which the shorter decides the length.
 
-use driver::outcome::{FILL, FILL_FLOAT};
+use driver::call::outcome::{FILL, FILL_FLOAT};
 use paper::Waiting;
 
 const WHOLES: [u32; 6] = [FILL as u32; 6];
@@ -12,8 +12,8 @@ pub struct Stack {
 }
 
 impl Stack {
-    /// All nines and `length` long; by lot one slice or the other has an entry more, a third each.
-    /// A list of no entries has none to tell of a longer slice.
+    /// Filled with nines and `length` long; in a third of the cases the first slice has one entry more, in another third the second.
+    /// An empty list has no entry that could report on a longer slice.
     pub fn new(length: usize, lot: u32) -> Self {
         let more = |third: u32| length + usize::from(length > 0 && lot % 3 == third);
         Stack {
@@ -22,7 +22,7 @@ impl Stack {
         }
     }
 
-    /// Tells in one list what became of both; what is past its end counts with the last entry.
+    /// Reports in one list what was done to both; what is past its end counts with the last entry.
     pub fn told(&self, list: &mut [Waiting]) {
         let last = list.len().saturating_sub(1);
         for (place, entry) in list.iter_mut().enumerate() {

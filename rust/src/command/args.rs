@@ -1,133 +1,33 @@
-//! The words of the command line, and the help that is made of the same list.
+//! The command line, and the help text that is made from the same list of options.
 
-use crate::{Output, Stop, csv, record};
+use crate::output::Output;
+use crate::stop::Stop;
+use crate::{csv, record};
 use std::fmt::Write;
 use tailboardy::{MAX_TREES, RandomForestRegressorParameters, Splitter};
 
-/// An option: what it is called, what follows it (nothing: a flag), and what it does.
-struct Choice {
+/// An option: its name, the name of its value (empty for a flag), and what it does.
+pub struct Choice {
     name: &'static str,
     value: &'static str,
     help: &'static str,
 }
 
-const fn choice(name: &'static str, value: &'static str, help: &'static str) -> Choice {
+pub const fn choice(name: &'static str, value: &'static str, help: &'static str) -> Choice {
     Choice { name, value, help }
 }
 
-/// A command: its files, what it does, its options by groups, and what runs it.
+/// A command: its files, what it does, its groups of options, and the function that runs it.
 pub struct Command {
     pub name: &'static str,
-    files: &'static [&'static str],
+    pub files: &'static [&'static str],
     pub about: &'static str,
-    more: &'static str,
-    groups: &'static [&'static [Choice]],
+    pub more: &'static str,
+    pub groups: &'static [&'static [Choice]],
     pub run: fn(&Args) -> Result<Output, Stop>,
 }
 
-const COLUMNS: &[Choice] = &[
-    choice("--target", "NAME", "the column that is predicted"),
-    choice(
-        "--weight",
-        "NAME",
-        "a column of weights: how much each fixture counts",
-    ),
-    choice(
-        "--features",
-        "A,B,..",
-        "the columns to go by; else every other column of numbers",
-    ),
-    choice(
-        "--id",
-        "A,B,..",
-        "columns that are no features, even if they hold numbers",
-    ),
-    choice(
-        "--listing",
-        "FILE",
-        "listings of one's own, in place of sorted ones: a column of row numbers for each feature",
-    ),
-];
-
-const GROWTH: &[Choice] = &[
-    choice("--n-trees", "N", "how many trees, up to 1024; else 100"),
-    choice(
-        "--m",
-        "N",
-        "how many features a search tries; else the root of their number",
-    ),
-    choice("--max-depth", "N", "the greatest depth; else none"),
-    choice(
-        "--min-samples-leaf",
-        "N",
-        "how many fixtures a leaf has at least; else 1",
-    ),
-    choice(
-        "--min-samples-split",
-        "N",
-        "how many fixtures a node must have to be split; else 2",
-    ),
-    choice(
-        "--splitter",
-        "best|random",
-        "how cuts are chosen; else best",
-    ),
-    choice(
-        "--no-bootstrap",
-        "",
-        "every tree has all fixtures once, and takes the weights itself; no out-of-bag error then",
-    ),
-    choice(
-        "--seed",
-        "N",
-        "what bags, orders and thresholds are drawn from; else 0",
-    ),
-    choice(
-        "--n-threads",
-        "N",
-        "how many threads; else as many as the machine runs. It changes nothing but the time",
-    ),
-];
-
-const OUT: &[Choice] = &[choice(
-    "--out",
-    "FILE",
-    "where the corrections go; else to standard output",
-)];
-
-pub const COMMANDS: [Command; 3] = [
-    Command {
-        name: "check",
-        files: &["SHOW.csv"],
-        about: "says whether a show, and its listing, is fit to use, and what is wrong where it is not",
-        more: "A listing is a table with a column for each feature, named as in the show. Its cells are row numbers, counted\n\
-               from 0, in the order in which the feature's values never fall. Without --target and --features its columns are\n\
-               the features.",
-        groups: &[COLUMNS],
-        run: crate::check::run,
-    },
-    Command {
-        name: "fit",
-        files: &["SHOW.csv"],
-        about: "fits a forest on a show and tells its out-of-bag error and importances",
-        more: "Nothing is kept: a file for models is still to come. `correct` fits and predicts in one run.",
-        groups: &[COLUMNS, GROWTH],
-        run: crate::fit::fit,
-    },
-    Command {
-        name: "correct",
-        files: &["OLD.csv", "NEW.csv"],
-        about: "fits a forest on the old show and writes a correction for each fixture of the new one",
-        more: "Written are the new show's columns, or with --id those alone, and a column NAME_correction, NAME being the target.\n\
-               Without --features both shows' common columns of numbers are the features; columns of numbers that only the old\n\
-               show has are passed over, unless the new one has others in their place. What the forest is like goes to standard\n\
-               error.",
-        groups: &[COLUMNS, GROWTH, OUT],
-        run: crate::fit::correct,
-    },
-];
-
-/// What was said.
+/// The files and options that were given.
 #[derive(Debug)]
 pub struct Args {
     pub files: Vec<String>,
@@ -149,10 +49,10 @@ impl Command {
             let said = format!("{} {}", choice.name, choice.value);
             let _ = writeln!(text, "  {said:<24}{}", choice.help);
         }
-        text + "\nExit status: 0 done, 1 refused, with the reason on standard error, 2 bad usage.\n"
+        text + "\nExit status: 0 if done, 1 if the input is refused, with the reason on standard error, 2 if the command line is wrong.\n"
     }
 
-    /// Sorts out the words that follow the command's name. None where help is asked.
+    /// Parses the words after the command's name. `None` if help is requested.
     pub fn parse(&self, words: &[String]) -> Result<Option<Args>, Stop> {
         let (mut files, mut said) = (Vec::new(), Vec::new());
         let mut words = words.iter();
@@ -165,7 +65,7 @@ impl Command {
                     if said.iter().any(|(it, _)| *it == name)
                         && !["--features", "--id"].contains(&name)
                     {
-                        return Err(self.bad(&format!("{name} is said twice")));
+                        return Err(self.bad(&format!("{name} is given twice")));
                     }
                     said.push((name, value));
                 }
@@ -176,12 +76,12 @@ impl Command {
             }
         }
         if files.len() != self.files.len() {
-            return Err(self.bad(&format!("the files asked are {}", self.files.join(" "))));
+            return Err(self.bad(&format!("the files required are {}", self.files.join(" "))));
         }
         Ok(Some(Args { files, said }))
     }
 
-    /// An option and its value, which follows it, or stands behind a sign of equality.
+    /// An option and its value, which is the next word or follows an equals sign.
     fn option<'a>(
         &self,
         word: &str,
@@ -196,18 +96,18 @@ impl Command {
         let choice = choice.ok_or_else(|| self.bad(&format!("there is no option {name}")))?;
         match (choice.value, behind) {
             ("", None) => Ok((choice.name, String::new())),
-            ("", Some(_)) => Err(self.bad(&format!("{name} takes nothing"))),
+            ("", Some(_)) => Err(self.bad(&format!("{name} takes no value"))),
             (_, Some(value)) => Ok((choice.name, value)),
             (value, None) => match words.next() {
                 Some(word) => Ok((choice.name, word.clone())),
-                None => Err(self.bad(&format!("{name} takes {value}"))),
+                None => Err(self.bad(&format!("{name} requires a value: {value}"))),
             },
         }
     }
 
     fn bad(&self, why: &str) -> Stop {
         Stop::Usage(format!(
-            "{why}\nusage: {}\n`tailboardy {} --help` tells more",
+            "{why}\nusage: {}\nsee `tailboardy {} --help`",
             self.usage(),
             self.name
         ))
@@ -215,13 +115,13 @@ impl Command {
 }
 
 impl Args {
-    /// What an option was given.
+    /// The value of an option, if it was given.
     pub fn get(&self, name: &str) -> Option<&str> {
         let said = self.said.iter().find(|(it, _)| *it == name);
         said.map(|(_, value)| value.as_str())
     }
 
-    /// The names that an option was given, parted like the cells of a table; none where it was not.
+    /// The list of names that an option was given, separated like the cells of a table; `None` if it was not given.
     pub fn names(&self, name: &str) -> Result<Option<Vec<String>>, Stop> {
         let mut names = None;
         for (_, value) in self.said.iter().filter(|(it, _)| *it == name) {
@@ -237,7 +137,7 @@ impl Args {
         let read = |text: &str| {
             let number = text.parse::<u64>().ok().filter(|it| *it <= most);
             let number = number.and_then(|it| N::try_from(it).ok());
-            let why = || format!("{name} {text}: a whole number up to {most} is asked");
+            let why = || format!("{name} {text}: a whole number up to {most} is required");
             number.ok_or_else(|| Stop::Usage(why()))
         };
         self.get(name).map(read).transpose()
@@ -245,12 +145,14 @@ impl Args {
 
     fn trees(&self) -> Result<Option<usize>, Stop> {
         match self.number("--n-trees", MAX_TREES as u64)? {
-            Some(0) => Err(Stop::Usage("--n-trees 0: a forest has a tree".into())),
+            Some(0) => Err(Stop::Usage(
+                "--n-trees 0: a forest needs at least one tree".into(),
+            )),
             trees => Ok(trees),
         }
     }
 
-    /// How the forest is to be grown.
+    /// The parameters of the forest.
     pub fn parameters(&self) -> Result<RandomForestRegressorParameters, Stop> {
         let plain = RandomForestRegressorParameters::default();
         let splitter = match self.get("--splitter") {
@@ -258,7 +160,7 @@ impl Args {
             Some("random") => Splitter::Random,
             Some(other) => {
                 return Err(Stop::Usage(format!(
-                    "--splitter {other}: best or random is asked"
+                    "--splitter {other}: the splitter is best or random"
                 )));
             }
         };

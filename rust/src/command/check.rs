@@ -4,11 +4,13 @@ use crate::args::Args;
 use crate::csv::Csv;
 use crate::fit::refused;
 use crate::listing::Listing;
+use crate::output::Output;
+use crate::report;
 use crate::show::{Roles, Show};
-use crate::{Output, Stop, report};
+use crate::stop::Stop;
 use tailboardy::Fitting;
 
-/// Makes the proved checks of a fit on what the files hold.
+/// Makes the proved checks of a fit on the data in the files.
 pub fn run(args: &Args) -> Result<Output, Stop> {
     let roles = Roles::said(args)?;
     let csv = Csv::read(&args.files[0])?;
@@ -27,13 +29,13 @@ pub fn run(args: &Args) -> Result<Output, Stop> {
     let checked = fitting.check();
     checked.map_err(|refusal| refused(&refusal, &show, listing.as_ref()))?;
     let mut text = format!(
-        "{} is fit to use\n{}",
+        "{} can be used\n{}",
         show.csv.file(),
         report::columns(&show)
     );
     if let Some(listing) = &listing {
         text += &format!(
-            "{} is fit to use: every column has each row once, and no value falls along it\n",
+            "{} can be used: every column has each row exactly once, in ascending order of value\n",
             listing.file()
         );
     }

@@ -1,24 +1,24 @@
-//! Tables of named columns in comma-separated text.
+//! Tables with named columns, in comma-separated text.
 
-use crate::Stop;
 use crate::number::quoted;
 use crate::record::{Cells, Reader};
+use crate::stop::Stop;
 use std::collections::HashSet;
 use std::fs::File;
 use std::io::{BufRead, BufReader};
 
-/// A table, read whole and found to be even: a name for every column, and a cell of every column in every row.
+/// A table that was read completely. Every column has a name, and every row has a cell in every column.
 #[derive(Debug)]
 pub struct Csv {
     file: String,
     names: Vec<String>,
     cells: Cells,
-    /// Where each row begins.
+    /// The line on which each row begins.
     lines: Vec<usize>,
 }
 
 impl Csv {
-    /// Reads a file. What is wrong with it is told in one line, by file and line.
+    /// Reads a file. If something is wrong with it, the message names the file and the line.
     pub fn read(file: &str) -> Result<Self, Stop> {
         let opened = File::open(file).map_err(|error| Stop::refused(file, &error.to_string()))?;
         Csv::read_from(file, BufReader::new(opened))
@@ -30,12 +30,12 @@ impl Csv {
             |(line, why): (usize, String)| Stop::refused(&format!("{file}, line {line}"), &why);
         let mut head = Cells::default();
         if reader.record(&mut head).map_err(wrong)?.is_none() {
-            return Err(Stop::refused(file, "it is empty"));
+            return Err(Stop::refused(file, "the file is empty"));
         }
         let names = names(&head).map_err(|why| wrong((1, why)))?;
         let (cells, lines) = reader.rows(names.len()).map_err(wrong)?;
         if lines.is_empty() {
-            return Err(Stop::refused(file, "it has names of columns and no rows"));
+            return Err(Stop::refused(file, "there are column names but no rows"));
         }
         let file = file.to_owned();
         Ok(Csv {
@@ -46,7 +46,7 @@ impl Csv {
         })
     }
 
-    /// The name it was read by.
+    /// The name under which it was opened.
     pub fn file(&self) -> &str {
         &self.file
     }
@@ -56,17 +56,17 @@ impl Csv {
         &self.names
     }
 
-    /// How many rows there are.
+    /// The number of rows.
     pub fn rows(&self) -> usize {
         self.lines.len()
     }
 
-    /// The line in which a row begins.
+    /// The line on which a row begins.
     pub fn line(&self, row: usize) -> usize {
         self.lines[row]
     }
 
-    /// A cell as it was read.
+    /// The text of a cell.
     pub fn cell(&self, row: usize, column: usize) -> &str {
         self.cells.get(row * self.names.len() + column)
     }
@@ -76,12 +76,12 @@ impl Csv {
         (0..self.rows()).map(move |row| self.cell(row, column))
     }
 
-    /// The column of a name.
+    /// The column with this name, if there is one.
     pub fn find(&self, name: &str) -> Option<usize> {
         self.names.iter().position(|it| it == name)
     }
 
-    /// The same, or the reason that it cannot be used.
+    /// The column with this name, or a message that there is none.
     pub fn column(&self, name: &str) -> Result<usize, Stop> {
         self.find(name).ok_or_else(|| {
             let there: Vec<String> = self.names.iter().take(20).map(|it| quoted(it)).collect();
@@ -97,7 +97,7 @@ impl Csv {
         })
     }
 
-    /// Where a cell stands, in words.
+    /// Where a cell is, in words.
     pub fn place(&self, row: usize, column: usize) -> String {
         format!(
             "{}, line {}, column {}",
@@ -108,8 +108,8 @@ impl Csv {
     }
 }
 
-/// A column's name as it is written in one line: without the spaces around it, and with one where lines or words are parted. A byte
-/// order mark parts them too, since it cannot be seen.
+/// A column's name on a single line: without the spaces around it, and with one space between words or lines. A byte order mark counts
+/// as a space, since it is invisible.
 pub fn name(text: &str) -> String {
     let parts =
         |letter: char| letter.is_whitespace() || letter.is_control() || letter == '\u{feff}';
@@ -118,7 +118,7 @@ pub fn name(text: &str) -> String {
     words.join(" ")
 }
 
-/// All names, each once.
+/// The names of all columns, which must be different.
 fn names(head: &Cells) -> Result<Vec<String>, String> {
     let mut names: Vec<String> = Vec::new();
     let mut met = HashSet::new();
@@ -184,7 +184,7 @@ mod tests {
         assert_eq!(read("\" a\r\n  b\t\"\n1\n"), table(&[&["a b"], &["1"]]));
     }
 
-    /// Any text is a table or told to be none; and a table that is written again is the same.
+    /// Any text is either read or refused, and a table that is read and written again stays the same.
     #[test]
     fn any_text_is_read_or_told() {
         let mut draws = SplitMix64::new(17);
@@ -222,39 +222,39 @@ mod tests {
     #[test]
     fn uneven_tables_are_not() {
         for (text, why) in [
-            ("", "t: it is empty"),
-            ("a,b\n", "t: it has names of columns and no rows"),
+            ("", "t: the file is empty"),
+            ("a,b\n", "t: there are column names but no rows"),
             ("a,,c\n1,2,3\n", "t, line 1: column 2 has no name"),
             ("a, a\n1,2\n", "t, line 1: two columns have the name \"a\""),
             (
                 "a,b\n1,2\n3\n",
-                "t, line 3: its cells are 1, and the columns 2",
+                "t, line 3: the number of cells is 1, but the number of columns is 2",
             ),
             (
                 "a,b\n1,2,3\n",
-                "t, line 2: its cells are 3, and the columns 2",
+                "t, line 2: the number of cells is 3, but the number of columns is 2",
             ),
             (
                 "a,b\n1,2\n\n3,4\n",
-                "t, line 3: it is an empty line, and rows follow",
+                "t, line 3: an empty line before further rows",
             ),
             (
                 "a,b\n1,\"2\n3,4\n",
-                "t, line 2: a quote is opened and never closed",
+                "t, line 2: a quote is opened but never closed",
             ),
             (
                 "a,b\n1,\"2\"x\n",
-                "t, line 2: \"x\" stands behind a closing quote",
+                "t, line 2: \"x\" follows a closing quote",
             ),
         ] {
             assert_eq!(read(text), Err(why.to_owned()));
         }
         let bytes: &[u8] = b"a\n1\n\xff\n";
         let stop = Csv::read_from("t", bytes).unwrap_err();
-        assert_eq!(stop.to_string(), "t, line 3: it is not text in UTF-8");
+        assert_eq!(stop.to_string(), "t, line 3: the text is not valid UTF-8");
         let rows = "1\n".repeat(MAX_ROWS);
         assert_eq!(read(&format!("a\n{rows}")).unwrap().len(), MAX_ROWS + 1);
-        let many = "t, line 65537: there are too many rows: 65535 are the most";
+        let many = "t, line 65537: there are too many rows: the maximum is 65535";
         assert_eq!(read(&format!("a\n{rows}1\n")), Err(many.to_owned()));
     }
 }

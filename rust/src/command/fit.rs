@@ -6,10 +6,11 @@ use crate::listing::Listing;
 use crate::output::{Output, place_for, same_file};
 use crate::progress::Progress;
 use crate::show::{Roles, Show, matrix};
-use crate::{Stop, number, record, report};
+use crate::stop::Stop;
+use crate::{number, record, report};
 use tailboardy::{Fault, Fitting, RandomForestRegressor, RandomForestRegressorParameters, Refusal};
 
-/// What was said, found to make sense before any file is read.
+/// The command line, checked before any file is read.
 struct Task<'a> {
     args: &'a Args,
     roles: Roles,
@@ -20,7 +21,7 @@ impl<'a> Task<'a> {
     fn new(args: &'a Args) -> Result<Self, Stop> {
         let roles = Roles::said(args)?;
         if roles.target.is_none() {
-            let why = "--target NAME is asked: the column that is predicted";
+            let why = "--target NAME is required: the column to predict";
             return Err(Stop::Usage(why.into()));
         }
         Ok(Task {
@@ -31,7 +32,7 @@ impl<'a> Task<'a> {
     }
 }
 
-/// Fits, and tells what the forest is like.
+/// Fits a forest and reports on it.
 pub fn fit(args: &Args) -> Result<Output, Stop> {
     let task = Task::new(args)?;
     let csv = Csv::read(&args.files[0])?;
@@ -41,14 +42,14 @@ pub fn fit(args: &Args) -> Result<Output, Stop> {
     Ok(Output::told(told))
 }
 
-/// Fits on the old show and predicts the new one.
+/// Fits a forest on the old show and predicts the corrections of the new one.
 pub fn correct(args: &Args) -> Result<Output, Stop> {
     let task = Task::new(args)?;
     let out = args.get("--out");
     let listing = args.get("--listing");
     let mut read = args.files.iter().map(String::as_str).chain(listing);
     if out.is_some_and(|out| read.any(|file| same_file(file, out))) {
-        return Err(Stop::Usage("--out names a file that is read".into()));
+        return Err(Stop::Usage("--out names a file that is also read".into()));
     }
     out.map_or(Ok(()), place_for)?;
     let (old, new) = (Csv::read(&args.files[0])?, Csv::read(&args.files[1])?);
@@ -58,13 +59,16 @@ pub fn correct(args: &Args) -> Result<Output, Stop> {
     let (columns, name) = written(&task.roles, &new)?;
     let (show, forest, mut beside) = task.fitted(old, features)?;
     if !lacking.is_empty() {
-        beside += &format!("not gone by, since {} lacks them: {lacking}\n", new.file());
+        beside += &format!(
+            "not used, because {} does not have them: {lacking}\n",
+            new.file()
+        );
     }
     let means = forest.predict(&x);
     let means = means.map_err(|refusal| Stop::refused(new.file(), &refusal.to_string()))?;
     if let Some(row) = means.iter().position(|mean| !mean.is_finite()) {
         let place = format!("{}, line {}", new.file(), new.line(row));
-        let why = "its correction is no number: there are targets or weights so large that their sums overflow, in";
+        let why = "its correction is not a number: sums overflow because of very large targets or weights in";
         return Err(Stop::refused(&place, &format!("{why} {}", show.csv.file())));
     }
     let mut text = String::new();
@@ -81,7 +85,7 @@ pub fn correct(args: &Args) -> Result<Output, Stop> {
     })
 }
 
-/// Which of the new show's columns are written, and how the corrections' column is called.
+/// Which of the new show's columns are written, and the name of the column of corrections.
 fn written(roles: &Roles, new: &Csv) -> Result<(Vec<usize>, String), Stop> {
     let columns: Result<Vec<usize>, Stop> = match &roles.ids {
         Some(ids) => ids.iter().map(|id| new.column(id)).collect(),
@@ -92,14 +96,14 @@ fn written(roles: &Roles, new: &Csv) -> Result<(Vec<usize>, String), Stop> {
     if columns.iter().any(|column| new.names()[*column] == name) {
         return Err(Stop::refused(
             &format!("{}, line 1", new.file()),
-            &format!("there is a column {name} already; name the columns to write with --id"),
+            &format!("there is already a column {name}; name the columns to write with --id"),
         ));
     }
     Ok((columns, name))
 }
 
 impl Task<'_> {
-    /// The show, its forest, and what is told of both.
+    /// The show, its forest, and the report on both.
     fn fitted(
         &self,
         csv: Csv,
@@ -124,7 +128,7 @@ impl Task<'_> {
     }
 }
 
-/// A refusal, told by the names that the files have.
+/// A refusal, with the names of the files and columns instead of numbers.
 pub fn refused(refusal: &Refusal, show: &Show, listing: Option<&Listing>) -> Stop {
     let (number, name) = (refusal.number(), refusal.cause().name());
     let named = |row: usize, column: Option<&String>, what: String| {

@@ -1,15 +1,15 @@
-//! A listing in a file: for each feature a column of row numbers, counted from 0, in the order of its values.
+//! A listing in a file: for each feature a column of row numbers, counted from 0, in ascending order of its values.
 
-use crate::Stop;
 use crate::csv::Csv;
 use crate::number::quoted;
 use crate::show::Show;
+use crate::stop::Stop;
 use tailboardy::{Breach, ListingFault, Listings, Refusal};
 
 #[derive(Debug)]
 pub struct Listing {
     csv: Csv,
-    /// Where the features' columns stand.
+    /// The columns of the features.
     columns: Vec<usize>,
     pub listings: Listings,
 }
@@ -27,7 +27,7 @@ impl Listing {
         })
     }
 
-    /// For the features of a show, if a table was given.
+    /// The listing for the features of a show, if a table was given.
     pub fn of(csv: Option<Csv>, show: &Show) -> Result<Option<Self>, Stop> {
         csv.map(|csv| Listing::new(csv, &show.features)).transpose()
     }
@@ -36,7 +36,7 @@ impl Listing {
         self.csv.file()
     }
 
-    /// What is wrong with every column that is.
+    /// What is wrong, for every column that is wrong.
     pub fn refused(&self, refusal: &Refusal, show: &Show) -> Stop {
         let faults = (0..self.columns.len()).filter_map(|it| self.listings.fault(&show.x, it));
         let (number, name) = (refusal.number(), refusal.cause().name());
@@ -52,18 +52,19 @@ impl Listing {
         };
         let what = match fault.breach {
             Breach::NoSuchRow(row) => {
-                format!("there is no row {row}; the last is {}", show.csv.rows() - 1)
+                format!(
+                    "there is no row {row}; the last row is {}",
+                    show.csv.rows() - 1
+                )
             }
             Breach::Twice { row, before } => {
                 format!(
-                    "row {row} stands twice, first in line {}",
+                    "row {row} appears twice, first in line {}",
                     self.csv.line(before)
                 )
             }
             Breach::Falls { row, after } => {
-                format!(
-                    "the value of row {row} is below that of row {after}, which stands before it"
-                )
+                format!("the value of row {row} is lower than that of row {after} before it")
             }
             _ => format!("it ends after {} of {} rows", fault.place, show.csv.rows()),
         };
@@ -82,7 +83,7 @@ fn rows(csv: &Csv, column: usize) -> Result<Vec<u32>, Stop> {
         let number = text.parse().ok().filter(|_| digits);
         number.ok_or_else(|| {
             let why = match text {
-                "" => "the cell is empty; a row number is asked".to_owned(),
+                "" => "the cell is empty; a row number is required".to_owned(),
                 text => format!("{} is not a row number", quoted(text)),
             };
             Stop::refused(&csv.place(row, column), &why)

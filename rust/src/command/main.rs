@@ -4,6 +4,7 @@
 
 mod args;
 mod check;
+mod commands;
 mod csv;
 mod fit;
 mod listing;
@@ -13,36 +14,12 @@ mod progress;
 mod record;
 mod report;
 mod show;
+mod stop;
 
-use args::COMMANDS;
+use commands::COMMANDS;
 use output::Output;
-use std::fmt;
 use std::process::ExitCode;
-
-/// Why nothing was done.
-#[derive(Debug)]
-pub enum Stop {
-    /// The words make no sense: status 2.
-    Usage(String),
-    /// What they name cannot be used: status 1. One line for each thing that is wrong.
-    Refused(Vec<String>),
-}
-
-impl Stop {
-    /// In one line: where, and what is wrong there.
-    fn refused(place: &str, why: &str) -> Self {
-        Stop::Refused(vec![format!("{place}: {why}")])
-    }
-}
-
-impl fmt::Display for Stop {
-    fn fmt(&self, f: &mut fmt::Formatter<'_>) -> fmt::Result {
-        match self {
-            Stop::Usage(why) => f.write_str(why),
-            Stop::Refused(lines) => f.write_str(&lines.join("\n")),
-        }
-    }
-}
+use stop::Stop;
 
 fn main() -> ExitCode {
     match run().and_then(Output::write) {
@@ -64,9 +41,12 @@ fn run() -> Result<Output, Stop> {
     let words = std::env::args_os().skip(1).map(|word| word.into_string());
     let words: Result<Vec<String>, _> = words.collect();
     let words = words
-        .map_err(|word| Stop::Usage(format!("{} is not text in UTF-8", word.to_string_lossy())))?;
+        .map_err(|word| Stop::Usage(format!("{} is not valid UTF-8", word.to_string_lossy())))?;
     let Some((first, rest)) = words.split_first() else {
-        return Err(Stop::Usage(format!("a command is asked\n{}", overview())));
+        return Err(Stop::Usage(format!(
+            "a command is required\n{}",
+            overview()
+        )));
     };
     match first.as_str() {
         "--help" | "-h" | "help" => return Ok(Output::told(overview())),
@@ -87,9 +67,10 @@ fn run() -> Result<Output, Stop> {
 }
 
 fn overview() -> String {
-    let mut text = String::from("a regression forest that can be trusted with a show:\n");
+    let mut text =
+        String::from("a regression forest that can be trusted with a show\n\ncommands:\n");
     for command in &COMMANDS {
         text += &format!("  tailboardy {:<9}{}\n", command.name, command.about);
     }
-    text + "`tailboardy COMMAND --help` tells the rest\n"
+    text + "\n`tailboardy COMMAND --help` explains a command and its options\n"
 }

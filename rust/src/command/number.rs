@@ -1,10 +1,10 @@
-//! Decimal numbers, read and written so that they read back to the same bits.
+//! Decimal numbers, written so that they read back to the same bits.
 
-/// A finite decimal number. Rust would also read `inf` and `nan`, which no cell should hold.
+/// Reads a finite decimal number. Rust itself would also accept `inf` and `nan`, which a cell should not contain.
 pub fn read(cell: &str) -> Result<f64, String> {
     let text = cell.trim();
     if text.is_empty() {
-        return Err("the cell is empty; a number is asked".into());
+        return Err("the cell is empty; a number is required".into());
     }
     let number = match decimal(text) {
         true => text.parse().unwrap_or(f64::NAN),
@@ -13,13 +13,13 @@ pub fn read(cell: &str) -> Result<f64, String> {
     if number.is_nan() {
         Err(format!("{} is not a number", quoted(text)))
     } else if number.is_infinite() {
-        Err(format!("{} is too large a number", quoted(text)))
+        Err(format!("{} is too large", quoted(text)))
     } else {
         Ok(number)
     }
 }
 
-/// A sign, digits with or without a point, an exponent; all but some digits may be missing.
+/// Whether the text is a decimal number: an optional sign, digits with an optional point, and an optional exponent.
 fn decimal(text: &str) -> bool {
     let digits = |text: &str| text.bytes().all(|byte| byte.is_ascii_digit());
     let unsigned = |text: &str| match text.as_bytes() {
@@ -37,7 +37,7 @@ fn decimal(text: &str) -> bool {
     some && digits(whole) && digits(part) && power
 }
 
-/// The shortest decimal that reads back to the same bits, with an exponent where there would be many zeros.
+/// The shortest decimal number that reads back to the same bits, with an exponent if there would be many zeros.
 pub fn write(number: f64) -> String {
     let size = number.abs();
     if size == 0.0 || (1e-5..1e16).contains(&size) {
@@ -47,7 +47,7 @@ pub fn write(number: f64) -> String {
     }
 }
 
-/// A cell or a name as it can stand in one line of a message.
+/// A cell or name in quotes, shortened to fit on one line of a message.
 pub fn quoted(text: &str) -> String {
     let short: String = text.chars().take(40).collect();
     let more = if short.len() < text.len() { ".." } else { "" };
@@ -101,7 +101,7 @@ mod tests {
         ] {
             assert!(read(text).is_err(), "{text}");
         }
-        assert_eq!(read("1e999"), Err("\"1e999\" is too large a number".into()));
+        assert_eq!(read("1e999"), Err("\"1e999\" is too large".into()));
         assert_eq!(read("a\nb"), Err("\"a\\nb\" is not a number".into()));
     }
 

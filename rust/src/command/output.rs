@@ -1,12 +1,12 @@
-//! What a run writes, once all of it is known.
+//! What a run writes, once it is complete.
 
-use crate::Stop;
 use crate::number::quoted;
+use crate::stop::Stop;
 use std::fs::{self, File};
 use std::io::{self, Write};
 use std::path::{Path, PathBuf};
 
-/// What goes to standard error, and what to a file or to standard output.
+/// What goes to standard error, and what goes to a file or to standard output.
 #[derive(Debug, Default)]
 pub struct Output {
     pub beside: String,
@@ -15,7 +15,7 @@ pub struct Output {
 }
 
 impl Output {
-    /// For standard output alone.
+    /// Text for standard output only.
     pub fn told(text: String) -> Self {
         Output {
             text,
@@ -23,7 +23,7 @@ impl Output {
         }
     }
 
-    /// What goes beside the text is told once that stands. Who reads standard output may leave before the end.
+    /// Writes the text first and then the report. It is not an error if the reader of standard output stops reading early.
     pub fn write(self) -> Result<(), Stop> {
         let written = match &self.file {
             Some(file) => write_file(Path::new(file), self.text.as_bytes()),
@@ -46,24 +46,24 @@ impl Output {
     }
 }
 
-/// Whether a file could stand there: known before anything is done for it.
+/// Checks, before any work is done, that a file can be written there.
 pub fn place_for(file: &str) -> Result<(), Stop> {
     let path = Path::new(file);
     let folder = path.parent().filter(|_| !path.is_dir());
     match folder {
-        None => Err(Stop::refused(&quoted(file), "it is no name of a file")),
+        None => Err(Stop::refused(&quoted(file), "it is not the name of a file")),
         Some(folder) if folder.as_os_str().is_empty() || folder.is_dir() => Ok(()),
         Some(_) => Err(Stop::refused(file, "there is no such folder")),
     }
 }
 
-/// Writes to standard error; nobody is left to be told if that fails.
+/// Writes to standard error. If that fails, there is nowhere left to report it.
 pub fn say(text: &str) {
     let _ = io::stderr().lock().write_all(text.as_bytes());
 }
 
-/// Writes a file beside its place and then puts it there, so that what stood there is whole until the new one is. What is no plain
-/// file, as a pipe or a device, is written as it stands.
+/// Writes a temporary file in the same folder and then renames it, so that an existing file stays complete until the new one is. A
+/// pipe or a device is written directly.
 fn write_file(file: &Path, bytes: &[u8]) -> io::Result<()> {
     let file = fs::canonicalize(file).unwrap_or_else(|_| file.to_owned());
     if fs::metadata(&file).is_ok_and(|it| !it.is_file()) {
@@ -82,7 +82,7 @@ fn beside(file: &Path) -> PathBuf {
     file.with_file_name(format!(".{name}.{}.part", std::process::id()))
 }
 
-/// Whether two names are one file.
+/// Whether two names refer to the same file.
 pub fn same_file(one: &str, other: &str) -> bool {
     match (fs::canonicalize(one), fs::canonicalize(other)) {
         (Ok(one), Ok(other)) => one == other,

@@ -1,10 +1,10 @@
-//! Records of comma-separated text, as RFC 4180 has them: cells in quotes, either line end, a byte order mark.
+//! Records of comma-separated text, as in RFC 4180: cells may be quoted, lines may end either way, and a byte order mark is accepted.
 
 use crate::number::quoted;
 use std::io::BufRead;
 use tailboardy::MAX_ROWS;
 
-/// Cells one after another in one string.
+/// Cells, stored one after another in one string.
 #[derive(Debug, Default)]
 pub struct Cells {
     text: String,
@@ -33,20 +33,20 @@ pub struct Reader<R> {
     bytes: Vec<u8>,
 }
 
-/// Where in a record the reading stands.
+/// The state of reading a record.
 #[derive(Clone, Copy)]
 enum At {
-    /// At a cell's first character.
+    /// At the first character of a cell.
     Start,
     /// In a cell without quotes.
     Bare,
     /// Between quotes.
     Quoted,
-    /// Behind a quote that ends a cell, or is the first of two.
+    /// After a quote that ends a cell or is the first of two.
     Behind,
 }
 
-/// What is wrong, and in which line.
+/// The line on which something is wrong, and what.
 pub type Wrong = (usize, String);
 
 impl<R: BufRead> Reader<R> {
@@ -58,7 +58,7 @@ impl<R: BufRead> Reader<R> {
         }
     }
 
-    /// The next line with its end.
+    /// The next line, including its line end.
     fn text(&mut self) -> Result<Option<&str>, Wrong> {
         self.bytes.clear();
         let read = self.from.read_until(b'\n', &mut self.bytes);
@@ -69,7 +69,7 @@ impl<R: BufRead> Reader<R> {
             Err(error) => return Err((self.line, error.to_string())),
         }
         let text = std::str::from_utf8(&self.bytes);
-        let text = text.map_err(|_| (self.line, "it is not text in UTF-8".to_owned()))?;
+        let text = text.map_err(|_| (self.line, "the text is not valid UTF-8".to_owned()))?;
         let first = self.line == 1;
         Ok(Some(if first {
             text.strip_prefix('\u{feff}').unwrap_or(text)
@@ -78,8 +78,8 @@ impl<R: BufRead> Reader<R> {
         }))
     }
 
-    /// Adds the cells of the next record, which may go over several lines. Tells the line in which it begins, or none at the end;
-    /// an empty line is a record of one empty cell, as one of two quotes is.
+    /// Adds the cells of the next record, which may span several lines. Returns the line on which it begins, or `None` at the end.
+    /// An empty line is a record with one empty cell, and so is a line with just two quotes.
     pub fn record(&mut self, cells: &mut Cells) -> Result<Option<usize>, Wrong> {
         let begin = self.line + 1;
         let mut at = At::Start;
@@ -87,7 +87,7 @@ impl<R: BufRead> Reader<R> {
             let Some(text) = self.text()? else {
                 return match at {
                     At::Start => Ok(None),
-                    _ => Err((begin, "a quote is opened and never closed".into())),
+                    _ => Err((begin, "a quote is opened but never closed".into())),
                 };
             };
             let line = text.trim_end_matches('\n');
@@ -104,7 +104,7 @@ impl<R: BufRead> Reader<R> {
         }
     }
 
-    /// All further records, which have as many cells as there are names. Empty lines may stand at the end.
+    /// All remaining records, which must have as many cells as there are names. There may be empty lines at the end.
     pub fn rows(&mut self, names: usize) -> Result<(Cells, Vec<usize>), Wrong> {
         let (mut cells, mut lines) = (Cells::default(), Vec::new());
         let mut gap = None;
@@ -119,12 +119,13 @@ impl<R: BufRead> Reader<R> {
                 cells.ends.truncate(ends);
                 gap = gap.or(Some(line));
             } else if let Some(line) = gap {
-                return Err((line, "it is an empty line, and rows follow".into()));
+                return Err((line, "an empty line before further rows".into()));
             } else if is != names {
-                let why = format!("its cells are {is}, and the columns {names}");
+                let why =
+                    format!("the number of cells is {is}, but the number of columns is {names}");
                 return Err((line, why));
             } else if lines.len() == MAX_ROWS {
-                let why = format!("there are too many rows: {MAX_ROWS} are the most");
+                let why = format!("there are too many rows: the maximum is {MAX_ROWS}");
                 return Err((line, why));
             } else {
                 lines.push(line);
@@ -153,13 +154,13 @@ impl At {
             (At::Behind, ' ' | '\t') => Ok(At::Behind),
             (At::Behind, _) => {
                 let letter = quoted(&letter.to_string());
-                Err(format!("{letter} stands behind a closing quote"))
+                Err(format!("{letter} follows a closing quote"))
             }
         }
     }
 }
 
-/// The cells of one record that stands alone.
+/// The cells of a single record.
 pub fn record(text: &str) -> Result<Vec<String>, String> {
     let mut reader = Reader::new(text.as_bytes());
     let mut cells = Cells::default();
@@ -168,11 +169,11 @@ pub fn record(text: &str) -> Result<Vec<String>, String> {
     let record = (0..cells.len()).map(cell).collect();
     match reader.record(&mut cells) {
         Ok(None) => Ok(record),
-        _ => Err("it goes on in another line".into()),
+        _ => Err("it continues on another line".into()),
     }
 }
 
-/// Writes a record, with quotes where they are needed.
+/// Writes a record, with quotes where necessary.
 pub fn write<'a>(cells: impl Iterator<Item = &'a str>, to: &mut String) {
     for (at, cell) in cells.enumerate() {
         if at > 0 {

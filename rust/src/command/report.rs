@@ -1,11 +1,11 @@
-//! What is told of a show and of a forest.
+//! The report on a show and its forest.
 
-use crate::Stop;
 use crate::number::write;
 use crate::show::Show;
+use crate::stop::Stop;
 use tailboardy::{RandomForestRegressor, RandomForestRegressorParameters, Refusal};
 
-/// How many fixtures there are, and which column is what.
+/// The number of fixtures, and the role of each column.
 pub fn columns(show: &Show) -> String {
     let mut text = format!(
         "fixtures: {}\nfeatures: {}\n",
@@ -16,7 +16,7 @@ pub fn columns(show: &Show) -> String {
     let others = [
         ("target", show.target.as_deref().unwrap_or_default()),
         ("weight", show.weight.as_deref().unwrap_or_default()),
-        ("passed over", &passed),
+        ("not used", &passed),
     ];
     for (what, name) in others.iter().filter(|(_, name)| !name.is_empty()) {
         text += &format!("{what}: {name}\n");
@@ -24,7 +24,7 @@ pub fn columns(show: &Show) -> String {
     text
 }
 
-/// What the forest is like, and how good.
+/// A description of the forest, and how good it is.
 pub fn forest(
     show: &Show,
     forest: &RandomForestRegressor,
@@ -42,9 +42,9 @@ pub fn forest(
     let means = forest.predict_oob(&show.x).map_err(failed)?;
     let error = means.error(&show.y).map_err(failed)?;
     text += &match means.told() {
-        0 => "out-of-bag error: none, since every tree has every fixture\n".to_owned(),
+        0 => "out-of-bag error: none, because every tree uses every fixture\n".to_owned(),
         told => format!(
-            "out-of-bag error: {}, whose root is {}; {told} of {} fixtures are left out by some tree\n",
+            "out-of-bag error: {} (square root {}); {told} of {} fixtures are left out by at least one tree\n",
             write(error),
             write(error.sqrt()),
             show.csv.rows(),

@@ -1,12 +1,12 @@
-//! A show: which columns of a table are what, and their numbers.
+//! A show: the roles of the columns of a table, and their numbers.
 
-use crate::Stop;
 use crate::args::Args;
 use crate::csv::{self, Csv};
 use crate::number::{self, quoted};
+use crate::stop::Stop;
 use tailboardy::DenseMatrix;
 
-/// Which columns are what, as far as was said.
+/// The roles of columns, as far as they were given.
 #[derive(Debug)]
 pub struct Roles {
     pub target: Option<String>,
@@ -15,7 +15,7 @@ pub struct Roles {
     pub ids: Option<Vec<String>>,
 }
 
-/// A show with its numbers read. Targets are 0 where no target was said, weights none where no weight was.
+/// A show with its numbers. The targets are 0 if no target was given, and there are no weights if none were given.
 #[derive(Debug)]
 pub struct Show {
     pub csv: Csv,
@@ -43,7 +43,7 @@ impl Roles {
         for name in lists.chain(&roles.target).chain(&roles.weight) {
             if taken.contains(&name) {
                 return Err(Stop::Usage(format!(
-                    "the column {} is said twice",
+                    "the column {} is named twice",
                     quoted(name)
                 )));
             }
@@ -52,7 +52,7 @@ impl Roles {
         Ok(roles)
     }
 
-    /// Whether a show has the columns that were said to be no features.
+    /// Checks that a show has the columns that were given as not being features.
     pub fn ids_in(&self, show: &Csv) -> Result<(), Stop> {
         let mut ids = self.ids.iter().flatten();
         ids.try_for_each(|id| show.column(id).map(|_| ()))
@@ -63,14 +63,14 @@ impl Roles {
         id || self.target.as_ref() == Some(name) || self.weight.as_ref() == Some(name)
     }
 
-    /// The features: those that were said; else all columns of numbers that are nothing else, and that the next show has too.
+    /// The features: those that were given, or else all columns of numbers that have no other role and that the next show has too.
     pub fn features(&self, show: &Csv, next: Option<&Csv>) -> Result<Vec<String>, Stop> {
         if let Some(said) = &self.features {
             return Ok(said.clone());
         }
         let measured: Vec<String> = self.measured(show).cloned().collect();
         if measured.is_empty() {
-            let why = "there is no column of numbers to go by, beside target and weight";
+            let why = "there is no column of numbers besides target and weight";
             return Err(Stop::refused(show.file(), why));
         }
         match next {
@@ -79,8 +79,8 @@ impl Roles {
         }
     }
 
-    /// Those of a show's measurements that the next one has too. A measurement that only one of them has under its name, or has as
-    /// numbers, may be the other's by another name or in another form: nothing is left out then.
+    /// The measurements that both shows have. If each show has a measurement that the other lacks, or one has it as text, they may be
+    /// the same measurement with another name or in another form; that is an error, so that no measurement is lost silently.
     fn common(&self, show: &Csv, next: &Csv, measured: Vec<String>) -> Result<Vec<String>, Stop> {
         let (both, lacking): (Vec<String>, Vec<String>) =
             measured.into_iter().partition(|it| next.find(it).is_some());
@@ -89,7 +89,7 @@ impl Roles {
             let Some(column) = show.find(name) else {
                 if let Some(lacks) = lacking.first() {
                     let why = format!(
-                        "there is no column {}, which {} has, and no {} there; name the columns to go by with --features",
+                        "there is no column {}, which {} has, while that file has no column {}; name the features with --features",
                         quoted(lacks),
                         show.file(),
                         quoted(name)
@@ -101,24 +101,30 @@ impl Roles {
             read(show, 0, column)?;
         }
         if both.is_empty() {
-            let why = format!("it has no column of numbers that {} has", show.file());
+            let why = format!(
+                "there is no column of numbers in common with {}",
+                show.file()
+            );
             return Err(Stop::refused(&format!("{}, line 1", next.file()), &why));
         }
         Ok(both)
     }
 
-    /// The columns of a listing, where no target tells which columns of the show are features.
+    /// The columns of a listing, which are the features if no target is given.
     pub fn listed(&self, listing: &Csv) -> Result<Vec<String>, Stop> {
         match listing.names().iter().find(|name| self.is_other(name)) {
             Some(name) => Err(Stop::refused(
                 &format!("{}, line 1", listing.file()),
-                &format!("the column {} is said to be no feature", quoted(name)),
+                &format!(
+                    "the column {} is given as not being a feature",
+                    quoted(name)
+                ),
             )),
             None => Ok(listing.names().to_vec()),
         }
     }
 
-    /// What could have been a feature, had the next show measured it.
+    /// The columns that would be features if the next show had them.
     pub fn lacking(&self, show: &Csv, next: &Csv) -> Vec<String> {
         let lacks = |name: &&String| self.features.is_none() && next.find(name).is_none();
         self.measured(show).filter(lacks).cloned().collect()
@@ -143,7 +149,7 @@ impl Show {
         let weights = list(&roles.weight)?.unwrap_or_default();
         if let (Some(weight), true) = (&roles.weight, weights.iter().all(|it| *it == 0.0)) {
             let place = format!("{}, column {weight}", csv.file());
-            let why = "all weights are 0, so that nothing is left to fit on";
+            let why = "all weights are 0, so there is nothing to fit on";
             return Err(Stop::refused(&place, why));
         }
         let x = matrix(&csv, &features)?;
@@ -158,7 +164,7 @@ impl Show {
         })
     }
 
-    /// Columns that are nothing here.
+    /// Columns that have no role.
     pub fn passed(&self) -> Vec<&str> {
         let names = self.csv.names().iter();
         let taken = |name: &&String| {
@@ -183,7 +189,7 @@ fn numbers(csv: &Csv, name: &str) -> Result<Vec<f64>, Stop> {
     (0..csv.rows()).map(|row| read(csv, row, column)).collect()
 }
 
-/// The features' numbers, row after row.
+/// The numbers of the features, row after row.
 pub fn matrix(csv: &Csv, features: &[String]) -> Result<DenseMatrix, Stop> {
     let columns: Result<Vec<usize>, Stop> = features.iter().map(|it| csv.column(it)).collect();
     let columns = columns?;

@@ -1,13 +1,13 @@
-//! What crosses the boundary to the proved library, as `include/tailboardy.h` has it for C: the structs, all calls in one list
-//! ([`calls!`]), and, where the library is linked, each call over slices ([`linked`]).
+//! The boundary to the proved library, which `include/tailboardy.h` declares for C: the structs, a list of all calls ([`calls!`]) and,
+//! if the library is linked, each call as a function of slices ([`linked`]).
 //!
-//! This is the one place of the crate `tailboardy` with `unsafe` in it. The calls themselves are safe on every input: they ask
-//! nothing of the numbers that they are handed, and what they ask of the memory (docs/BOUNDARY.md) Rust's slices carry.
+//! This is the only part of the crate `tailboardy` with `unsafe` code. The calls are safe on every input: they accept any numbers, and
+//! Rust's slices guarantee what they require of the memory (docs/BOUNDARY.md).
 
 #[cfg(feature = "linked")]
 pub mod linked;
 
-/// How one tree is grown. The limit is heeded where the depth is limited; the splitter is random, or else best.
+/// The parameters of one tree. `limit` applies only if `limited` is true; the splitter is the best unless `random` is true.
 #[repr(C)]
 #[derive(Debug, Clone, Copy)]
 #[allow(missing_docs)]
@@ -20,7 +20,8 @@ pub struct TreeSettings {
     pub random: bool,
 }
 
-/// The same of a forest's trees. The number tried is heeded where it is said; else it is the floor of the root of the features.
+/// The same for the trees of a forest. `tried` applies only if `said` is true; otherwise it is the square root of the number of
+/// features, rounded down.
 #[repr(C)]
 #[derive(Debug, Clone, Copy)]
 #[allow(missing_docs)]
@@ -34,7 +35,7 @@ pub struct ForestSettings {
     pub random: bool,
 }
 
-/// 0 or a refusal's number, the place of a bad draw, the report of a grown tree.
+/// 0 or the number of a refusal, the place of a bad draw, and the report on a grown tree.
 #[repr(C)]
 #[derive(Debug, Clone, Copy)]
 #[allow(missing_docs)]
@@ -50,7 +51,7 @@ pub struct TreeTold {
     pub thresholds: u32,
 }
 
-/// 0 or a refusal's number, and the place of a bad draw.
+/// 0 or the number of a refusal, and the place of a bad draw.
 #[repr(C)]
 #[derive(Debug, Clone, Copy)]
 #[allow(missing_docs)]
@@ -60,7 +61,7 @@ pub struct ForestTold {
     pub search: u32,
 }
 
-/// 0 or a refusal's number, and the error.
+/// 0 or the number of a refusal, and the error.
 #[repr(C)]
 #[derive(Debug, Clone, Copy)]
 #[allow(missing_docs)]
@@ -69,7 +70,7 @@ pub struct ErrorTold {
     pub error: f64,
 }
 
-/// 0 or a refusal's number, whether the node is there, and its entries: of a leaf the value alone.
+/// 0 or the number of a refusal, whether the node exists, and its entries; a leaf has only the value.
 #[repr(C)]
 #[derive(Debug, Clone, Copy)]
 #[allow(missing_docs)]
@@ -84,9 +85,9 @@ pub struct NodeTold {
     pub no: u32,
 }
 
-/// Hands the list of calls to a macro. Of each call: its kind in the list of answers (oracle/README.md), its name and its symbol;
-/// what is passed by value; the slices that are lent to be read, and those to be written, by their entries; what is passed after
-/// them; what it tells. The structs above are to be in scope where it is used.
+/// Passes the list of calls to a macro. For each call it has the kind in the list of answers (oracle/README.md), the name and the symbol;
+/// the parameters passed by value; the slices that are read and those that are written, with the types of their entries; the
+/// parameters that follow them; and the result. The structs above must be in scope where it is used.
 #[macro_export]
 macro_rules! calls {
     ($to:ident) => {

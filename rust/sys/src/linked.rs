@@ -1,24 +1,24 @@
-//! The library linked: each call over slices. C sees a slice as a pointer and a length.
+//! The linked library: each call as a function of slices, which C sees as a pointer and a length.
 //!
-//! Every function here is safe. The pointer of a slice is aligned and not null, of an empty one too; its entries are written, and
-//! flags are 0 or 1; a lent slice overlaps no other, and nobody else looks at it meanwhile; Rust's rule for the floating-point
-//! environment is the library's, and is seen to; and where the stack ends the library meets the guard page, since it touches its
-//! stack page by page.
+//! Every function here is safe. The pointer of a slice is aligned and not null, even if the slice is empty; its entries are
+//! initialised, and flags are 0 or 1; a mutable slice overlaps no other slice, and nothing else accesses it during the call; the
+//! library requires the same floating-point environment as Rust, and each call makes sure of it; and if the stack overflows, the
+//! library hits the guard page, because it touches its stack page by page.
 
 #![allow(clippy::too_many_arguments)]
 
 use crate::*;
 use std::arch::asm;
 
-/// MXCSR as Rust asks for it, but for the flags of what has happened: nearest, nothing traps, subnormals are numbers.
+/// MXCSR as Rust requires it, apart from the status flags: round to nearest, no traps, subnormals not flushed to zero.
 const PLAIN: u32 = 0x1f80;
 const HAPPENED: u32 = 0x3f;
 
-/// Puts the thread's float mode back to what Rust asks for, if something has changed it. With subnormals taken for zeros a fit could
-/// write outside its rooms: the proofs go by IEEE 754's numbers.
+/// Resets the thread's floating-point mode to what Rust requires, if something has changed it. If subnormals counted as zeros, a fit
+/// could write outside its slices, because the proofs assume the arithmetic of IEEE 754.
 fn plain_floats() {
     let mut mode = 0_u32;
-    // both instructions touch these four bytes and the register alone, and what they leave there is Rust's own rule
+    // both instructions access only these four bytes and the register, and leave the mode that Rust requires
     unsafe {
         asm!("stmxcsr [{}]", in(reg) &mut mode, options(nostack, preserves_flags));
         if mode & !HAPPENED != PLAIN {
@@ -49,7 +49,7 @@ macro_rules! link {
                 $($last: $after,)*
             ) -> $told {
                 plain_floats();
-                // each pointer goes with the length of its own slice, and by their types no lent slice overlaps another
+                // each pointer comes with the length of its own slice, and mutable slices do not overlap
                 unsafe {
                     $symbol(
                         $($given,)*
@@ -75,7 +75,7 @@ mod tests {
         mode
     }
 
-    /// Subnormals taken for zeros, rounding toward zero, or a trap: none outlasts the next call.
+    /// Subnormals flushed to zero, rounding toward zero, or a trap: the next call resets them all.
     #[test]
     fn a_float_mode_that_is_not_rusts_is_put_back() {
         for other in [0x9f80_u32, 0x1fc0, 0x9fc0, 0x7f80, 0x1d80] {

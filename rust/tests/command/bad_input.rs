@@ -1,11 +1,11 @@
-//! Files that cannot be used: one line that names file, line and column, status 1, and nothing written.
-//! In what is to be told OLD, NEW and LIST stand for the names of the files.
+//! Files that cannot be used: a message of one line with file, line and column, status 1, and nothing written.
+//! In the expected messages OLD, NEW and LIST stand for the names of the files.
 
 use crate::{Folder, run};
 
 const GOOD: &str = "fixture,x,z,pan\na,1,5,0\nb,2,6,1\nc,3,7,4\n";
 
-/// Corrects by files of these texts and looks at what is told.
+/// Runs `correct` on files with these texts and checks the message.
 fn corrected(old: impl AsRef<[u8]>, new: impl AsRef<[u8]>, more: &[&str], why: &str) {
     let folder = Folder::new("corrected");
     let (old, new) = (folder.write("old.csv", old), folder.write("new.csv", new));
@@ -19,11 +19,8 @@ fn corrected(old: impl AsRef<[u8]>, new: impl AsRef<[u8]>, more: &[&str], why: &
 }
 
 const OLD_SHOWS: &[[&str; 2]] = &[
-    ["", "OLD: it is empty"],
-    [
-        "fixture,x,pan\n",
-        "OLD: it has names of columns and no rows",
-    ],
+    ["", "OLD: the file is empty"],
+    ["fixture,x,pan\n", "OLD: there are column names but no rows"],
     [
         "f,x\na,1\n",
         "OLD, line 1: there is no column \"pan\"; there are \"f\", \"x\"",
@@ -35,19 +32,19 @@ const OLD_SHOWS: &[[&str; 2]] = &[
     ["x,,pan\n1,1,1\n", "OLD, line 1: column 2 has no name"],
     [
         "x,pan\n1,2\n3\n",
-        "OLD, line 3: its cells are 1, and the columns 2",
+        "OLD, line 3: the number of cells is 1, but the number of columns is 2",
     ],
     [
         "x,pan\n1,2\n3,4,5\n",
-        "OLD, line 3: its cells are 3, and the columns 2",
+        "OLD, line 3: the number of cells is 3, but the number of columns is 2",
     ],
     [
         "x,pan\n1,2\n\n3,4\n",
-        "OLD, line 3: it is an empty line, and rows follow",
+        "OLD, line 3: an empty line before further rows",
     ],
     [
         "x,pan\n1,\"2\n",
-        "OLD, line 2: a quote is opened and never closed",
+        "OLD, line 2: a quote is opened but never closed",
     ],
     [
         "x,pan\n1,abc\n",
@@ -63,11 +60,11 @@ const OLD_SHOWS: &[[&str; 2]] = &[
     ],
     [
         "x,pan\n1,1e400\n",
-        "OLD, line 2, column pan: \"1e400\" is too large a number",
+        "OLD, line 2, column pan: \"1e400\" is too large",
     ],
     [
         "x,pan\n1,\n",
-        "OLD, line 2, column pan: the cell is empty; a number is asked",
+        "OLD, line 2, column pan: the cell is empty; a number is required",
     ],
     [
         "x,pan\n1,1\n\"a\nb\",2\n",
@@ -79,7 +76,7 @@ const OLD_SHOWS: &[[&str; 2]] = &[
     ],
     [
         "x,pan\nup,1\n",
-        "OLD: there is no column of numbers to go by, beside target and weight",
+        "OLD: there is no column of numbers besides target and weight",
     ],
 ];
 
@@ -89,9 +86,14 @@ fn old_shows() {
         corrected(old, "x\n1\n", &[], why);
     }
     let bytes = b"x,pan\n\xe9,1\n";
-    corrected(bytes, "x\n1\n", &[], "OLD, line 2: it is not text in UTF-8");
+    corrected(
+        bytes,
+        "x\n1\n",
+        &[],
+        "OLD, line 2: the text is not valid UTF-8",
+    );
     let huge = "x,pan\n1,1e308\n2,1e308\n3,1e308\n";
-    let why = "NEW, line 2: its correction is no number: there are targets or weights so large that their sums overflow, in OLD";
+    let why = "NEW, line 2: its correction is not a number: sums overflow because of very large targets or weights in OLD";
     corrected(huge, "x\n1\n", &[], why);
 }
 
@@ -99,29 +101,29 @@ fn old_shows() {
 fn shows_that_are_too_large() {
     let long = "1,2\n".repeat(65_536);
     let why =
-        |which: &str| format!("{which}, line 65537: there are too many rows: 65535 are the most");
+        |which: &str| format!("{which}, line 65537: there are too many rows: the maximum is 65535");
     corrected(format!("x,pan\n{long}"), "x\n1\n", &[], &why("OLD"));
     corrected(GOOD, format!("x,z\n{long}"), &[], &why("NEW"));
     let names: Vec<String> = (0..1025).map(|it| format!("f{it}")).collect();
     let (names, cells) = (names.join(","), vec!["1"; 1025].join(","));
     let new = format!("{names}\n{cells}\n");
-    let why = "OLD: refusal 1 (sizes): 1025 features, where 1 to 1024 are taken; \
-               rows go from 1 to 65,535, features and trees from 1 to 1,024";
+    let why = "OLD: refusal 1 (sizes): 1025 features, but 1 to 1024 are required; \
+               use 1 to 65,535 rows, 1 to 1,024 features and 1 to 1,024 trees";
     corrected(format!("{names},pan\n{cells},1\n"), new, &[], why);
 }
 
-/// A measurement that one show has by another name, or in another form, is not passed over.
+/// A measurement that one show has under another name or in another form is not ignored.
 #[test]
 fn shows_that_measure_otherwise() {
     let old = "trim,x,pan\n7,1,1\n8,2,2\n";
-    let why = "NEW, line 1: there is no column \"trim\", which OLD has, and no \"Trim\" there; name the columns to go by with --features";
+    let why = "NEW, line 1: there is no column \"trim\", which OLD has, while that file has no column \"Trim\"; name the features with --features";
     corrected(old, "Trim,x\n7,1\n", &[], why);
     let feet = "trim,x,pan\n7m,1,1\n8m,2,2\n";
     let why = "OLD, line 2, column trim: \"7m\" is not a number";
     corrected(feet, "trim,x\n7,1\n", &[], why);
 }
 
-/// A listing that a fit would refuse is not fit to use; without a target its own columns are the features.
+/// A listing that a fit would refuse cannot be used; without a target the columns of the listing are the features.
 #[test]
 fn listings_of_other_columns() {
     let folder = Folder::new("listed");
@@ -143,40 +145,40 @@ fn listings_of_other_columns() {
         (told.status, told.err),
         (
             Some(1),
-            format!("{line} the column \"x\" is said to be no feature\n")
+            format!("{line} the column \"x\" is given as not being a feature\n")
         )
     );
 }
 
 const NEW_SHOWS: &[[&str; 2]] = &[
-    ["", "NEW: it is empty"],
+    ["", "NEW: the file is empty"],
     [
         "x,z\n1,2\nlow,3\n",
         "NEW, line 3, column x: \"low\" is not a number",
     ],
     [
         "x,z\n1,2\n,3\n",
-        "NEW, line 3, column x: the cell is empty; a number is asked",
+        "NEW, line 3, column x: the cell is empty; a number is required",
     ],
     [
         "x,z\n1\n",
-        "NEW, line 2: its cells are 1, and the columns 2",
+        "NEW, line 2: the number of cells is 1, but the number of columns is 2",
     ],
     [
         "q\nlow\n",
-        "NEW, line 1: it has no column of numbers that OLD has",
+        "NEW, line 1: there is no column of numbers in common with OLD",
     ],
     [
         "x\n1\n\"\"\n",
-        "NEW, line 3, column x: the cell is empty; a number is asked",
+        "NEW, line 3, column x: the cell is empty; a number is required",
     ],
     [
         "x,z\n1,2\n\"\"\n",
-        "NEW, line 3: its cells are 1, and the columns 2",
+        "NEW, line 3: the number of cells is 1, but the number of columns is 2",
     ],
     [
         "x,z,pan_correction\n1,5,2\n",
-        "NEW, line 1: there is a column pan_correction already; name the columns to write with --id",
+        "NEW, line 1: there is already a column pan_correction; name the columns to write with --id",
     ],
 ];
 
@@ -236,7 +238,7 @@ fn weights() {
         ],
         [
             "x,w,pan\n1,0,1\n2,-0,2\n",
-            "column w: all weights are 0, so that nothing is left to fit on",
+            "column w: all weights are 0, so there is nothing to fit on",
         ],
         [
             "x,w,pan\n1,much,1\n",
@@ -258,19 +260,19 @@ const LISTINGS: &[[&str; 2]] = &[
     ],
     [
         "x,z\n0,0\n2,1\n2,2\n",
-        "LIST, line 4, column x: row 2 stands twice, first in line 3, and row 1 is missing, which is line 3 of OLD (refusal 5, listing)",
+        "LIST, line 4, column x: row 2 appears twice, first in line 3, and row 1 is missing, which is line 3 of OLD (refusal 5, listing)",
     ],
     [
         "x,z\n0,0\n1,1\n2,3\n",
-        "LIST, line 4, column z: there is no row 3; the last is 2, and row 2 is missing, which is line 4 of OLD (refusal 5, listing)",
+        "LIST, line 4, column z: there is no row 3; the last row is 2, and row 2 is missing, which is line 4 of OLD (refusal 5, listing)",
     ],
     [
         "x,z\n1,0\n0,1\n2,2\n",
-        "LIST, line 3, column x: the value of row 0 is below that of row 1, which stands before it (refusal 5, listing)",
+        "LIST, line 3, column x: the value of row 0 is lower than that of row 1 before it (refusal 5, listing)",
     ],
     [
         "x\n0\n1\n2\n0\n",
-        "LIST, line 5, column x: row 0 stands twice, first in line 2 (refusal 2, lengths)",
+        "LIST, line 5, column x: row 0 appears twice, first in line 2 (refusal 2, lengths)",
     ],
     [
         "x,z\n0,0\n1,one\n2,2\n",
@@ -282,7 +284,7 @@ const LISTINGS: &[[&str; 2]] = &[
     ],
     [
         "x,z\n0,0\n1,\n2,2\n",
-        "LIST, line 3, column z: the cell is empty; a row number is asked",
+        "LIST, line 3, column z: the cell is empty; a row number is required",
     ],
     [
         "x,q\n0,0\n1,1\n2,2\n",

@@ -1,4 +1,4 @@
-//! The command, run as a person runs it: on shows/, and on files that are wrong.
+//! The command, run as a user runs it: on shows/, and on files that are wrong.
 
 mod bad_input;
 mod shows;
@@ -9,7 +9,7 @@ use std::path::PathBuf;
 use std::process::{Command, Output};
 use std::sync::atomic::{AtomicUsize, Ordering};
 
-/// What a run told.
+/// The result of a run.
 #[derive(Debug, PartialEq)]
 pub(crate) struct Run {
     pub(crate) status: Option<i32>,
@@ -17,7 +17,7 @@ pub(crate) struct Run {
     pub(crate) err: String,
 }
 
-/// The command with these words. Where it is for another processor TAILBOARDY_RUNNER names what runs it.
+/// The command with these arguments. If it is built for another processor, TAILBOARDY_RUNNER names the program that runs it.
 pub(crate) fn command(words: &[&str]) -> Command {
     let program = env!("CARGO_BIN_EXE_tailboardy");
     let runner = std::env::var("TAILBOARDY_RUNNER").unwrap_or_default();
@@ -45,7 +45,7 @@ pub(crate) fn show(name: &str) -> String {
     format!("{}/../shows/{name}", env!("CARGO_MANIFEST_DIR"))
 }
 
-/// A folder that goes with the test.
+/// A folder that is removed after the test.
 pub(crate) struct Folder(PathBuf);
 
 impl Folder {

@@ -1,4 +1,4 @@
-//! The shows of shows/, and what comes of them.
+//! The shows of shows/, and what the command makes of them.
 
 use crate::{Folder, Run, run, show};
 use std::fs;
@@ -10,7 +10,7 @@ fn correct(more: &[&str]) -> Run {
     run(&[&words, more].concat())
 }
 
-/// The numbers of some columns, by their place.
+/// The numbers in a range of columns.
 fn numbers(name: &str, columns: std::ops::Range<usize>) -> Vec<Vec<f64>> {
     let text = fs::read_to_string(show(name)).unwrap();
     let row = |line: &str| {
@@ -57,7 +57,7 @@ fn the_forest_is_told_of_beside() {
         "fixtures: 120",
         "features: trim_height, truss_offset, mounting_angle",
         "target: pan",
-        "passed over: fixture, house, truss",
+        "not used: fixture, house, truss",
         "trees: 100, with ",
         "out-of-bag error: 0.9",
         "importances: truss_offset 0.4",
@@ -120,7 +120,7 @@ fn seeds_decide_and_threads_do_not() {
     assert!(
         whole
             .err
-            .contains("out-of-bag error: none, since every tree has every fixture")
+            .contains("out-of-bag error: none, because every tree uses every fixture")
     );
 }
 
@@ -132,13 +132,13 @@ fn a_good_listing_is_taken() {
     let old = show("old-house.csv");
     let told = run(&["check", &old, "--listing", &listing, "--target", "pan"]);
     let lines = [
-        format!("{old} is fit to use"),
+        format!("{old} can be used"),
         "fixtures: 120".into(),
         "features: trim_height, truss_offset, mounting_angle".into(),
         "target: pan".into(),
-        "passed over: fixture, house, truss".into(),
+        "not used: fixture, house, truss".into(),
         format!(
-            "{listing} is fit to use: every column has each row once, and no value falls along it\n"
+            "{listing} can be used: every column has each row exactly once, in ascending order of value\n"
         ),
     ];
     assert_eq!((told.status, told.out), (Some(0), lines.join("\n")));
@@ -151,7 +151,7 @@ fn the_damaged_listing_is_refused() {
     let (old, new) = (show("old-house.csv"), show("new-house.csv"));
     let listing = show("old-house-listing-damaged.csv");
     let line = format!(
-        "tailboardy: {listing}, line 46, column trim_height: row 13 stands twice, first in line 45, \
+        "tailboardy: {listing}, line 46, column trim_height: row 13 appears twice, first in line 45, \
          and row 12 is missing, which is line 14 of {old} (refusal 5, listing)\n"
     );
     let out = folder.path("out.csv");
@@ -217,9 +217,8 @@ fn a_measurement_that_the_new_house_lacks_is_told() {
     let new = folder.write("new.csv", "x\n5\n");
     let told = run(&["correct", &old, &new, "--target", "pan"]);
     assert_eq!(told.status, Some(0));
-    assert!(
-        told.err
-            .contains(&format!("not gone by, since {new} lacks them: pitch\n"))
-    );
+    assert!(told.err.contains(&format!(
+        "not used, because {new} does not have them: pitch\n"
+    )));
     assert!(told.err.contains("features: x\n"));
 }

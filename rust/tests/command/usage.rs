@@ -1,4 +1,4 @@
-//! Help, and words that make no sense.
+//! Help, and command lines that are wrong.
 
 use crate::{command, run, show};
 use std::fs::File;
@@ -33,7 +33,10 @@ fn help_is_given_for_each() {
         assert!(told.out.starts_with(&head));
         let mut options = options.split(' ').map(|it| format!("  {it} "));
         assert!(options.all(|it| told.out.contains(&it)), "{}", told.out);
-        assert!(told.out.contains("Exit status: 0 done, 1 refused"));
+        assert!(
+            told.out
+                .contains("Exit status: 0 if done, 1 if the input is refused")
+        );
     }
     let version = run(&["--version"]).out;
     assert_eq!(
@@ -42,61 +45,58 @@ fn help_is_given_for_each() {
     );
 }
 
-/// Words, parted by spaces, and what is told of them.
+/// Command lines and the messages that they give.
 const SENSELESS: &[[&str; 2]] = &[
-    ["", "a command is asked"],
+    ["", "a command is required"],
     ["frobnicate", "there is no command frobnicate"],
-    ["check", "the files asked are SHOW.csv"],
-    ["check a b", "the files asked are SHOW.csv"],
+    ["check", "the files required are SHOW.csv"],
+    ["check a b", "the files required are SHOW.csv"],
     [
         "correct a --target pan",
-        "the files asked are OLD.csv NEW.csv",
+        "the files required are OLD.csv NEW.csv",
     ],
     ["check a --frobnicate", "there is no option --frobnicate"],
     ["check a --n-trees 3", "there is no option --n-trees"],
-    ["fit a --target", "--target takes NAME"],
-    ["fit a --no-bootstrap=1", "--no-bootstrap takes nothing"],
-    ["fit a --seed 1 --seed 2", "--seed is said twice"],
-    [
-        "fit a",
-        "--target NAME is asked: the column that is predicted",
-    ],
+    ["fit a --target", "--target requires a value: NAME"],
+    ["fit a --no-bootstrap=1", "--no-bootstrap takes no value"],
+    ["fit a --seed 1 --seed 2", "--seed is given twice"],
+    ["fit a", "--target NAME is required: the column to predict"],
     [
         "fit a --target p --n-trees many",
-        "--n-trees many: a whole number up to 1024 is asked",
+        "--n-trees many: a whole number up to 1024 is required",
     ],
     [
         "fit a --target p --n-trees -1",
-        "--n-trees -1: a whole number up to 1024 is asked",
+        "--n-trees -1: a whole number up to 1024 is required",
     ],
     [
         "fit a --target p --n-trees 0",
-        "--n-trees 0: a forest has a tree",
+        "--n-trees 0: a forest needs at least one tree",
     ],
     [
         "fit a --target p --n-trees 1025",
-        "--n-trees 1025: a whole number up to 1024 is asked",
+        "--n-trees 1025: a whole number up to 1024 is required",
     ],
     ["fit a --target p -o x", "there is no option -o"],
     [
         "fit a --target p --max-depth 65536",
-        "--max-depth 65536: a whole number up to 65535 is asked",
+        "--max-depth 65536: a whole number up to 65535 is required",
     ],
     [
         "fit a --target p --splitter worst",
-        "--splitter worst: best or random is asked",
+        "--splitter worst: the splitter is best or random",
     ],
     [
         "fit a --target p --weight p",
-        "the column \"p\" is said twice",
+        "the column \"p\" is named twice",
     ],
     [
         "fit a --target p --features x,p",
-        "the column \"p\" is said twice",
+        "the column \"p\" is named twice",
     ],
     [
         "fit a --target p --features \"x",
-        "--features: a quote is opened and never closed",
+        "--features: a quote is opened but never closed",
     ],
 ];
 
@@ -119,7 +119,10 @@ fn a_show_is_not_written_over() {
         let words = ["correct", &old, &new, "--target", "pan"];
         let told = run(&[&words[..], &["--listing", &listing, "--out", read]].concat());
         assert_eq!(told.status, Some(2));
-        assert_eq!(told.err, "tailboardy: --out names a file that is read\n");
+        assert_eq!(
+            told.err,
+            "tailboardy: --out names a file that is also read\n"
+        );
     }
 }
 
@@ -131,8 +134,8 @@ fn no_place_for_a_file_is_told_before_a_fit() {
             "no-folder/x.csv",
             "no-folder/x.csv: there is no such folder",
         ),
-        (".", "\".\": it is no name of a file"),
-        ("", "\"\": it is no name of a file"),
+        (".", "\".\": it is not the name of a file"),
+        ("", "\"\": it is not the name of a file"),
     ] {
         let told = run(&["correct", &old, &new, "--target", "pan", "--out", out]);
         assert_eq!(

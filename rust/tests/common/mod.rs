@@ -1,4 +1,4 @@
-//! Made inputs for the tests, from a seed.
+//! Inputs for the tests, made from a seed.
 
 #![allow(dead_code)]
 
@@ -80,7 +80,7 @@ impl Maker {
         Counts::new(trees, rows, numbers).expect("as many counts")
     }
 
-    /// Parameters of a forest with every number at its ends now and then.
+    /// Parameters of a forest, with every number at its limits now and then.
     pub fn parameters(&mut self) -> RandomForestRegressorParameters {
         let depths = [
             None,
@@ -107,7 +107,7 @@ impl Maker {
     }
 }
 
-/// Nodes by bits, all NaNs as one.
+/// The bits of nodes, with all NaNs the same.
 pub fn bits(nodes: &Nodes) -> Vec<[u64; 6]> {
     let real = |number: f64| {
         if number.is_nan() {

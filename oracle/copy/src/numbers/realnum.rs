@@ -1,4 +1,4 @@
-//! tailboardy: `arrays.rs` names this trait in methods that growth never calls.
+//! tailboardy: `arrays.rs` uses this trait in methods that growth never calls.
 
 use crate::numbers::basenum::Number;
 use num_traits::Float;

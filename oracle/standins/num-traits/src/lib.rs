@@ -1,4 +1,4 @@
-//! tailboardy: the traits of `num-traits` that the copied files name, with the methods they call.
+//! tailboardy: the traits of `num-traits` that the copied files use, with the methods that they call.
 
 use std::ops::{Add, Div, Mul, Neg, Rem, Sub};
 

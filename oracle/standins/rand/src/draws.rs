@@ -36,7 +36,7 @@ impl Sampled for f32 {
     }
 }
 
-/// Rows by weight; like `rand`'s, it takes no weights that are all 0.
+/// Rows by weight; like that of `rand`, it does not accept weights that are all 0.
 pub struct WeightedIndex<W> {
     weights: Vec<W>,
     total: W,

@@ -1,20 +1,20 @@
-//! tailboardy: a stand-in for `rand`. Where the crate would draw, this plays the next draw of a tape
-//! or, with no tape laid ready, makes a draw and keeps it, so that it can be played again.
+//! tailboardy: a stand-in for `rand`. Where smartcore would draw, this takes the next draw from a tape
+//! or, if there is no tape, makes a draw and records it, so that it can be used again.
 
 mod draws;
 pub mod tape;
 
 pub use draws::{Drawn, Sampled};
 
-/// A source of draws, by what the copied files ask of one.
+/// A source of draws, with the methods that the copied files need.
 pub trait Rng {
-    /// Put the next order into `places`.
+    /// Puts the next order into `places`.
     fn order(&mut self, places: &mut [usize]);
-    /// The next threshold of a range.
+    /// The next threshold in a range.
     fn threshold(&mut self, low: f64, high: f64) -> f64;
-    /// A number below `n`: only the crate's own bagging asks this.
+    /// A number below `n`; only smartcore's own bagging calls this.
     fn below(&mut self, n: usize) -> usize;
-    /// A number of [0, 1): only the crate's own bagging asks this.
+    /// A number in [0, 1); only smartcore's own bagging calls this.
     fn unit(&mut self) -> f64;
 }
 
@@ -22,7 +22,7 @@ pub trait SeedableRng: Sized {
     fn seed_from_u64(seed: u64) -> Self;
 }
 
-/// The calls that `rand` adds to every source.
+/// The methods that `rand` adds to every source.
 pub trait RngExt: Rng {
     fn random_range<T: Drawn>(&mut self, range: std::ops::Range<T>) -> T {
         T::between(self, range)

@@ -1,5 +1,5 @@
-//! Tapes: the next source made plays the tape that was laid ready first; with none, it makes its draws.
-//! What a source did is told when it is dropped, in the order of the drops.
+//! Tapes: each new source uses the first tape that is waiting; if there is none, it makes its own draws.
+//! What a source did is recorded when it is dropped, in the order in which sources are dropped.
 
 use crate::{Rng, SeedableRng};
 use std::cell::RefCell;
@@ -15,18 +15,18 @@ pub struct Tape {
 /// What a source did.
 #[derive(Clone, Debug, Default)]
 pub struct Told {
-    /// The draws it gave; for a played tape they are not copied out.
+    /// The draws that it made; empty if they came from a tape.
     pub made: Tape,
-    /// Numbers below a bound, and rows by weight: the crate's own bagging.
+    /// Numbers below a bound, and rows by weight, which only smartcore's own bagging draws.
     pub bag: Vec<usize>,
     pub searches: usize,
     pub words_used: usize,
     pub thresholds_used: usize,
-    /// The search of the first draw that could not be taken.
+    /// The search of the first draw that is missing or out of range.
     pub bad_draw: Option<usize>,
 }
 
-/// A tape laid ready, and whether its orders are known to be good.
+/// A waiting tape, and whether its orders are known to be valid.
 struct Laid {
     tape: Tape,
     good: bool,
@@ -37,18 +37,18 @@ thread_local! {
     static TOLD: RefCell<Vec<Told>> = const { RefCell::new(Vec::new()) };
 }
 
-/// Forget tapes laid ready and what was told: a judge that panicked may have left some.
+/// Forgets waiting tapes and records, which a judge that panicked may have left.
 pub fn clear() {
     READY.with(|ready| ready.borrow_mut().clear());
     TOLD.with(|told| told.borrow_mut().clear());
 }
 
-/// Lay a tape ready for the next source.
+/// Adds a tape for the next source.
 pub fn lay(tape: Tape) {
     put(Laid { tape, good: false });
 }
 
-/// The same for a tape that was made here: its orders are not looked at again, so that playing one costs no more than drawing it.
+/// The same for a tape that was made here: its orders are not checked again, so that using it takes no longer than drawing it.
 pub fn lay_good(tape: Tape) {
     put(Laid { tape, good: true });
 }
@@ -62,7 +62,7 @@ pub fn told() -> Vec<Told> {
     TOLD.with(|told| std::mem::take(&mut *told.borrow_mut()))
 }
 
-/// The source that the copied files make by its name.
+/// The source that the copied files create by its name.
 pub struct SmallRng {
     laid: Option<Laid>,
     state: u64,
@@ -87,7 +87,7 @@ impl Drop for SmallRng {
 }
 
 impl SmallRng {
-    // SplitMix64: any generator would do here, as every draw is kept
+    // SplitMix64; any generator would do here, because every draw is recorded
     fn next(&mut self) -> u64 {
         self.state = self.state.wrapping_add(0x9E37_79B9_7F4A_7C15);
         let mut z = self.state;
@@ -96,7 +96,7 @@ impl SmallRng {
         z ^ (z >> 31)
     }
 
-    // growth goes on with a harmless draw; the harness answers with the first bad one
+    // growth continues with a harmless draw; the harness reports the first bad one
     fn bad(&mut self) {
         let search = self.told.searches - 1;
         self.told.bad_draw.get_or_insert(search);
@@ -113,7 +113,7 @@ impl SmallRng {
             .extend(places.iter().map(|&p| p as u32));
     }
 
-    // both ends of the range, and the other zero, as often as a place between
+    // both ends of the range, and the other zero, as often as a point between them
     fn make_threshold(&mut self, low: f64, high: f64) -> f64 {
         let drawn = match self.next() % 8 {
             0 => low,

@@ -1,4 +1,4 @@
-//! tailboardy: a window onto what `base_forest.rs` keeps private. It reads and builds, and decides nothing.
+//! tailboardy: access to what `base_forest.rs` keeps private. It reads and builds, but makes no decisions.
 
 use super::BaseForest;
 use crate::linalg::basic::lent::Matrix;
@@ -6,7 +6,7 @@ use crate::tree::base_tree::window::Tree;
 
 pub type Forest = BaseForest<f64, f64, Matrix, Vec<f64>, f64>;
 
-/// A forest of trees that stand already; `in_bag` holds a list of rows for each tree.
+/// A forest of existing trees; `in_bag` has a list of rows for each tree.
 pub fn from_trees(trees: Vec<Tree>, features: usize, in_bag: Option<Vec<Vec<bool>>>) -> Forest {
     BaseForest {
         trees: Some(trees),

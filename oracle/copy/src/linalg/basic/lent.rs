@@ -22,7 +22,7 @@ impl Matrix {
         }
     }
 
-    /// The order that the crate's own sort gives a column.
+    /// The order in which smartcore's own sort puts a column.
     pub fn argsort_column(&self, feature: usize) -> Vec<usize> {
         let mut column: Vec<f64> = self.get_col(feature).iterator(0).copied().collect();
         column.argsort_mut()

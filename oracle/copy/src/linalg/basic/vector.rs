@@ -1,4 +1,4 @@
-//! tailboardy: a vector and its views as the crate's one-dimensional arrays, as plain as can be.
+//! tailboardy: a vector and its views as smartcore's one-dimensional arrays, in the simplest form.
 
 use super::arrays::{Array, Array1, ArrayView1, MutArray, MutArrayView1};
 use std::fmt::{Debug, Display};

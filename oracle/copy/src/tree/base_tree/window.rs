@@ -1,4 +1,4 @@
-//! tailboardy: a window onto what `base_tree.rs` keeps private. It reads and builds, and decides nothing.
+//! tailboardy: access to what `base_tree.rs` keeps private. It reads and builds, but makes no decisions.
 
 use super::{BaseTree, Node};
 use crate::harness::NodeRecord;
@@ -21,7 +21,7 @@ pub fn nodes(tree: &Tree) -> Vec<NodeRecord> {
         .collect()
 }
 
-/// Whether a node without children still holds a feature, a threshold or a score.
+/// Whether a node without children still has a feature, a threshold or a score.
 pub fn leaves_bare(tree: &Tree) -> bool {
     let bare = |n: &Node<f64>| {
         n.split_feature == 0
@@ -40,7 +40,7 @@ pub fn root_mass(tree: &Tree) -> f64 {
     tree.root_mass
 }
 
-/// A tree from its table, for the readers: a node with both children 0 is a leaf.
+/// A tree made from its table, for the readers: a node whose children are both 0 is a leaf.
 pub fn from_table(table: &[NodeRecord], root_mass: f64) -> Tree {
     let node = |n: &NodeRecord| {
         let leaf = n.true_child == 0 && n.false_child == 0;

@@ -1,0 +1,5 @@
+//! The public calls with everything that they are given, their form as numbers, and what a call leaves.
+
+pub mod calls;
+pub mod outcome;
+pub mod wire;

@@ -1,0 +1,5 @@
+//! Inputs with faults, each with the refusal that it should give.
+
+pub mod faults;
+pub mod fit;
+pub mod read;

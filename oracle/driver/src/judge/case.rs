@@ -1,0 +1,99 @@
+//! A case: a call, the refusal that is expected because of a fault, and the expected answer.
+
+use crate::call::calls::{Call, Fit, Read};
+use crate::call::wire;
+use crate::judge::expect;
+use crate::judge::library::Library;
+use crate::judge::run;
+
+pub struct Case {
+    pub call: Call,
+    /// 0 if there is no fault, although a draw may be bad.
+    pub refusal: u32,
+}
+
+impl Case {
+    pub fn fit(fit: Fit, refusal: u32) -> Self {
+        Case {
+            call: Call::Fit(fit),
+            refusal,
+        }
+    }
+
+    pub fn read(read: Read, refusal: u32) -> Self {
+        Case {
+            call: Call::Read(read),
+            refusal,
+        }
+    }
+
+    /// The first judge's answer, or the expected refusal. The first number is the refusal.
+    pub fn expected(&self) -> Vec<u64> {
+        expect::expect(&self.call, self.refusal).encode()
+    }
+
+    pub fn answer(&self, library: &dyn Library) -> Vec<u64> {
+        run::run(library, &self.call).encode()
+    }
+
+    /// The call as numbers, starting with its kind.
+    pub fn call_line(&self) -> String {
+        format!("{} {:?}", wire::kind(&self.call), wire::down(&self.call))
+    }
+
+    /// A line of the list: kind, judge, how many numbers the call has, these, how many the answer has, these.
+    pub fn line(&self) -> String {
+        let (call, answer) = (wire::down(&self.call), self.expected());
+        let head = [
+            wire::kind(&self.call),
+            expect::judge(&self.call, self.refusal),
+            call.len() as u64,
+        ];
+        let length = [answer.len() as u64];
+        let numbers = head.iter().chain(&call).chain(&length).chain(&answer);
+        numbers.map(u64::to_string).collect::<Vec<_>>().join(" ")
+    }
+}
+
+/// A case read from the list.
+pub struct Listed {
+    pub case: Case,
+    /// 1 for smartcore, 2 for the rules.
+    pub judge: u64,
+    pub answer: Vec<u64>,
+}
+
+pub fn parse(line: &str) -> Listed {
+    let numbers: Vec<u64> = line
+        .split_whitespace()
+        .map(|word| word.parse().expect("a number"))
+        .collect();
+    let call = 3 + numbers[2] as usize;
+    let answer = numbers[call + 1..].to_vec();
+    assert_eq!(numbers[call] as usize, answer.len(), "an answer cut short");
+    let judge = numbers[1];
+    // for a refusal, the first judge can only be compared with the answer in the list
+    let refusal = if judge == 1 { 0 } else { answer[0] as u32 };
+    Listed {
+        case: Case {
+            call: wire::up(numbers[0], &numbers[3..call]),
+            refusal,
+        },
+        judge,
+        answer,
+    }
+}
+
+/// All cases of a list; their number must be the one in its first line.
+pub fn read_list(file: &str) -> Vec<Listed> {
+    let text = std::fs::read_to_string(file).expect("a list to read");
+    let mut lines = text.lines();
+    let head = lines.next().and_then(|line| line.split_once(' '));
+    let (count, longest) = head.expect("how many cases, and how long the longest is");
+    let lines: Vec<&str> = lines.collect();
+    let numbers = |line: &&str| line.split(' ').count();
+    let measured = lines.iter().map(numbers).max().unwrap_or(0);
+    assert_eq!(count.parse(), Ok(lines.len()), "cases");
+    assert_eq!(longest.parse(), Ok(measured), "numbers in the longest line");
+    lines.into_iter().map(parse).collect()
+}

@@ -1,0 +1,254 @@
+//! The expected answer: that of the copy if smartcore has one; otherwise the refusal for the fault in the input, with every room
+//! unchanged.
+
+use crate::call::calls::{Call, Fit, Read, Reader};
+use crate::call::outcome::{FILL, FILL_FLOAT, Outcome, Room, bits};
+use crate::judge::copied::{data, params, tree_counts};
+use copy::harness::{self, Grown, NodeRecord, Readable, Tape};
+
+/// `refusal` is the one for the fault in the input: 0 for none, although a draw of a fit may be bad.
+pub fn expect(call: &Call, refusal: u32) -> Outcome {
+    match call {
+        Call::Fit(fit) => expect_fit(fit, refusal),
+        Call::Read(read) => expect_read(read, refusal),
+    }
+}
+
+/// Which judge an answer comes from: 1 for smartcore, 2 for the rules.
+pub fn judge(call: &Call, refusal: u32) -> u64 {
+    let has = |read: &Read| {
+        !matches!(
+            read.reader,
+            Reader::OutOfBagError
+                | Reader::CheckListings
+                | Reader::CheckTree
+                | Reader::CheckForest
+                | Reader::Node
+        )
+    };
+    match call {
+        Call::Fit(_) if refusal == 0 => 1,
+        Call::Read(read) if refusal == 0 && has(read) => 1,
+        _ => 2,
+    }
+}
+
+fn part<T: Clone>(tape: &[T], cuts: &[u64], tree: usize) -> Vec<T> {
+    match cuts {
+        [] => tape.to_vec(),
+        cuts => tape[cuts[tree] as usize..cuts[tree + 1] as usize].to_vec(),
+    }
+}
+
+/// One tree of an accepted fit, grown by the copy from its part of the tapes.
+pub fn grow(fit: &Fit, tree: usize) -> Result<Grown, usize> {
+    let tape = Tape {
+        words: part(&fit.words, &fit.word_cuts, tree),
+        thresholds: part(&fit.thresholds, &fit.threshold_cuts, tree),
+    };
+    harness::grow(
+        &data(fit),
+        tree_counts(fit, tree),
+        &params(fit),
+        Some(tape),
+        0,
+    )
+}
+
+/// The six columns of nodes.
+pub fn columns(nodes: &[NodeRecord]) -> [Vec<u64>; 6] {
+    let of = |field: fn(&NodeRecord) -> u64| nodes.iter().map(field).collect();
+    [
+        of(|n| bits(n.value)),
+        of(|n| u64::from(n.feature)),
+        of(|n| bits(n.threshold)),
+        of(|n| bits(n.score)),
+        of(|n| u64::from(n.true_child)),
+        of(|n| u64::from(n.false_child)),
+    ]
+}
+
+/// What is reported about a tree.
+fn numbers(grown: &Grown, nodes: &[NodeRecord]) -> [u64; 6] {
+    [
+        nodes.len() as u64,
+        u64::from(grown.depth()),
+        bits(grown.root_mass()),
+        grown.searches as u64,
+        grown.words_used as u64,
+        grown.thresholds_used as u64,
+    ]
+}
+
+const NODE_FLOATS: [bool; 6] = [true, false, true, true, false, false];
+const REPORT_FLOATS: [bool; 6] = [false, false, true, false, false, false];
+
+/// The entries of a room before the call.
+fn untouched(length: usize, float: bool) -> Room {
+    let fill = if float { FILL_FLOAT.to_bits() } else { FILL };
+    Room {
+        fill,
+        entries: vec![fill; length],
+    }
+}
+
+/// All rooms of a fit as they are before the call: nodes, starts and reports, work.
+fn rooms_before(fit: &Fit) -> Vec<Room> {
+    let mut rooms: Vec<Room> = (0..6)
+        .map(|i| untouched(fit.rooms.nodes[i], NODE_FLOATS[i]))
+        .collect();
+    if fit.forest {
+        rooms.push(untouched(fit.rooms.starts, false));
+        rooms.extend((0..6).map(|i| untouched(fit.rooms.reports[i], REPORT_FLOATS[i])));
+    }
+    let [columns, scratch, flags, waiting] = fit.rooms.work;
+    rooms.extend([untouched(columns, false), untouched(scratch, false)]);
+    rooms.push(Room {
+        fill: 1,
+        entries: vec![1; flags],
+    });
+    rooms.push(untouched(waiting, false));
+    rooms
+}
+
+fn put(room: &mut Room, entries: &[u64]) {
+    room.entries[..entries.len()].copy_from_slice(entries);
+}
+
+fn expect_fit(fit: &Fit, refusal: u32) -> Outcome {
+    let mut rooms = rooms_before(fit);
+    let mut told = vec![0; if fit.forest { 3 } else { 9 }];
+    if refusal != 0 {
+        told[0] = u64::from(refusal);
+        return Outcome { told, rooms };
+    }
+    let mut trees = Vec::new();
+    for tree in 0..fit.trees {
+        match grow(fit, tree) {
+            Ok(grown) => trees.push(grown),
+            Err(search) => {
+                told[..3].copy_from_slice(&[7, tree as u64, search as u64]);
+                rooms.iter_mut().for_each(|room| room.entries.fill(0));
+                return Outcome { told, rooms };
+            }
+        }
+    }
+    answered(fit, &trees, &mut told, &mut rooms);
+    Outcome { told, rooms }
+}
+
+fn answered(fit: &Fit, trees: &[Grown], told: &mut [u64], rooms: &mut [Room]) {
+    let tables: Vec<Vec<NodeRecord>> = trees.iter().map(Grown::nodes).collect();
+    for (room, column) in rooms.iter_mut().zip(columns(&tables.concat())) {
+        put(room, &column);
+    }
+    let reports: Vec<[u64; 6]> = trees
+        .iter()
+        .zip(&tables)
+        .map(|(grown, nodes)| numbers(grown, nodes))
+        .collect();
+    if fit.forest {
+        let mut starts = vec![0];
+        for nodes in &tables {
+            starts.push(starts[starts.len() - 1] + nodes.len() as u64);
+        }
+        put(&mut rooms[6], &starts);
+        for column in 0..6 {
+            let entries: Vec<u64> = reports.iter().map(|report| report[column]).collect();
+            put(&mut rooms[7 + column], &entries);
+        }
+    } else {
+        told[3..].copy_from_slice(&reports[0]);
+    }
+    let work = rooms.len() - 4;
+    for room in &mut rooms[work..] {
+        room.entries.fill(0);
+    }
+}
+
+fn records(read: &Read, from: usize, to: usize) -> Vec<NodeRecord> {
+    let t = &read.table;
+    (from..to)
+        .map(|i| NodeRecord {
+            value: t.value[i],
+            feature: t.feature[i],
+            threshold: t.threshold[i],
+            score: t.score[i],
+            true_child: t.true_child[i],
+            false_child: t.false_child[i],
+        })
+        .collect()
+}
+
+/// The trees of a valid table for the copy's readers.
+fn readable(read: &Read, forest: bool) -> Readable {
+    let bounds: Vec<(usize, usize)> = match forest {
+        true => (0..read.trees)
+            .map(|t| (read.starts[t] as usize, read.starts[t + 1] as usize))
+            .collect(),
+        false => vec![(0, read.table.room())],
+    };
+    let tables: Vec<Vec<NodeRecord>> = bounds
+        .iter()
+        .map(|(from, to)| records(read, *from, *to))
+        .collect();
+    let tables: Vec<&[NodeRecord]> = tables.iter().map(Vec::as_slice).collect();
+    Readable::from_tables(&tables, read.features, read.root_mass)
+}
+
+fn expect_read(read: &Read, refusal: u32) -> Outcome {
+    let mut told = vec![u64::from(refusal)];
+    let mut rooms = Vec::new();
+    match read.reader {
+        Reader::OutOfBagError => told.push(expect_error(read, refusal)),
+        Reader::Node => told.extend(expect_node(read, refusal)),
+        Reader::CheckListings | Reader::CheckTree | Reader::CheckForest => (),
+        _ => {
+            let mut room = untouched(read.out, true);
+            if refusal == 0 {
+                put(&mut room, &Room::floats(&results(read)).entries);
+            }
+            rooms.push(room);
+        }
+    }
+    Outcome { told, rooms }
+}
+
+/// The copy's results for a valid table.
+fn results(read: &Read) -> Vec<f64> {
+    let (rows, x) = (read.rows, &read.x);
+    match read.reader {
+        Reader::Predictions => readable(read, false).predictions(rows, x),
+        Reader::ForestMeans => readable(read, true).means(rows, x),
+        Reader::OutOfBagMeans => readable(read, true).means_oob(rows, x, &read.counts),
+        Reader::NormalisedImportances => readable(read, false).tree_importances(true),
+        Reader::ImportancesByMass => readable(read, false).tree_importances(false),
+        Reader::ForestImportances => readable(read, true).forest_importances(),
+        other => unreachable!("the Rust has no {other:?}"),
+    }
+}
+
+/// smartcore does not compute this error, so the driver does.
+fn expect_error(read: &Read, refusal: u32) -> u64 {
+    if refusal != 0 {
+        return 0;
+    }
+    let mut sum = 0.0f64;
+    for row in (0..read.rows).filter(|row| !read.means[*row].is_nan()) {
+        sum += (read.targets[row] - read.means[row]).powi(2);
+    }
+    bits(sum / read.rows as f64)
+}
+
+/// What follows the refusal: whether the node exists, and its entries; for a leaf only the value.
+fn expect_node(read: &Read, refusal: u32) -> [u64; 7] {
+    if refusal != 0 || read.node >= read.table.room() {
+        return [0; 7];
+    }
+    let column = columns(&records(read, read.node, read.node + 1));
+    let [value, feature, threshold, score, on_true, on_false] = column.map(|c| c[0]);
+    match on_true | on_false {
+        0 => [1, value, 0, 0, 0, 0, 0],
+        _ => [1, value, feature, threshold, score, on_true, on_false],
+    }
+}

@@ -1,0 +1,4 @@
+//! Inputs at the limits of rows, features, trees, counts and nodes.
+
+pub mod fit;
+pub mod read;

@@ -1,0 +1,9 @@
+//! Inputs that the rules accept, and inputs made by hand.
+
+pub mod chance;
+pub mod crafted;
+pub mod exhaustive;
+pub mod fit;
+pub mod floats;
+pub mod read;
+pub mod rehearsal;

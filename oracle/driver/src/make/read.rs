@@ -1,0 +1,176 @@
+//! Calls of the readers and checks, on valid tables of any kind.
+
+use crate::call::calls::{READERS, Read, Reader, Table};
+use crate::make::chance::Chance;
+use crate::make::fit as make_fit;
+use crate::make::floats;
+
+pub fn read(chance: &mut Chance) -> Read {
+    let reader = chance.pick(&READERS);
+    let mut read = Read {
+        reader,
+        ..Read::default()
+    };
+    let rows = chance.within(1, 6);
+    match reader {
+        Reader::OutOfBagError => error(chance, &mut read, rows),
+        Reader::CheckListings => {
+            (read.rows, read.features) = (rows, chance.within(1, 3));
+            read.x = floats::finite(chance, rows * read.features);
+            read.listings = make_fit::listings(chance, rows, read.features, &read.x);
+            nan_somewhere(chance, &mut read);
+        }
+        Reader::Node => {
+            over_table(chance, &mut read, rows);
+            read.node = node(chance, read.table.room());
+        }
+        _ => over_table(chance, &mut read, rows),
+    }
+    read
+}
+
+/// The number of a node in the tree, or of one that it does not have: just past its end, or far beyond it.
+fn node(chance: &mut Chance, nodes: usize) -> usize {
+    match chance.below(6) {
+        0 => nodes + chance.below(2),
+        // the low 32 bits of 1 << 32 are the number of a node
+        1 => chance.pick(&[usize::MAX, 1 << 32, u32::MAX as usize]),
+        2 => nodes - 1,
+        _ => chance.below(nodes),
+    }
+}
+
+/// Only the listing check accepts NaN values, and nothing is lower than a NaN.
+fn nan_somewhere(chance: &mut Chance, read: &mut Read) {
+    if chance.one_in(4) {
+        let at = chance.below(read.x.len());
+        read.x[at] = f64::NAN;
+    }
+}
+
+fn error(chance: &mut Chance, read: &mut Read, rows: usize) {
+    read.rows = rows;
+    read.targets = floats::finite(chance, rows);
+    read.means = floats::finite(chance, rows);
+    for mean in read.means.iter_mut() {
+        if chance.one_in(4) {
+            *mean = chance.pick(&[f64::NAN, f64::NAN, f64::INFINITY, f64::NEG_INFINITY]);
+        }
+    }
+    if chance.one_in(10) {
+        read.means.fill(f64::NAN);
+    }
+}
+
+fn over_table(chance: &mut Chance, read: &mut Read, rows: usize) {
+    let features = match read.reader {
+        Reader::CheckTree | Reader::CheckForest | Reader::Node => chance.pick(&[1, 2, 3, 1_024]),
+        _ => chance.within(1, 3),
+    };
+    let takes_x = matches!(
+        read.reader,
+        Reader::Predictions | Reader::ForestMeans | Reader::OutOfBagMeans
+    );
+    read.features = features;
+    if takes_x {
+        read.rows = rows;
+        read.x = floats::anything(chance, rows * features);
+        read.out = rows;
+    }
+    if is_forest(read.reader) {
+        forest(chance, read);
+    } else {
+        let (nodes, longer) = (chance.within(1, 9), chance.pick(&[0, 0, 2]));
+        read.table = tree(chance, nodes, features, longer);
+    }
+    if read.reader == Reader::OutOfBagMeans {
+        let count = |chance: &mut Chance| chance.pick(&[0, 0, 1, 2, 65_536, u32::MAX]);
+        read.counts = (0..read.trees * rows).map(|_| count(chance)).collect();
+    }
+    if matches!(
+        read.reader,
+        Reader::NormalisedImportances | Reader::ImportancesByMass | Reader::ForestImportances
+    ) {
+        read.out = features;
+    }
+    if read.reader == Reader::ImportancesByMass {
+        read.root_mass = floats::anything(chance, 1)[0];
+    }
+}
+
+/// Trees one after another; there may be further entries and starts after the last.
+fn forest(chance: &mut Chance, read: &mut Read) {
+    read.trees = chance.within(1, 4);
+    read.starts.push(0);
+    for _ in 0..read.trees {
+        let nodes = chance.within(1, 7);
+        let tree = tree(chance, nodes, read.features, 0);
+        join(&mut read.table, tree);
+        read.starts.push(read.table.value.len() as u32);
+    }
+    let more = chance.pick(&[0, 0, 2]);
+    let beyond = tree(chance, more, read.features, 2);
+    join(&mut read.table, beyond);
+    read.starts.extend(chance.pick(&[&[][..], &[0], &[9, 9]]));
+}
+
+pub fn is_forest(reader: Reader) -> bool {
+    matches!(
+        reader,
+        Reader::ForestMeans
+            | Reader::OutOfBagMeans
+            | Reader::ForestImportances
+            | Reader::CheckForest
+    )
+}
+
+pub fn join(table: &mut Table, next: Table) {
+    table.value.extend(next.value);
+    table.feature.extend(next.feature);
+    table.threshold.extend(next.threshold);
+    table.score.extend(next.score);
+    table.true_child.extend(next.true_child);
+    table.false_child.extend(next.false_child);
+}
+
+/// A valid tree: the true child of a split is any later node except the last, so children may be shared and nodes
+/// unreachable; the other entries of a leaf are arbitrary. Columns may have up to `longer` further entries.
+pub fn tree(chance: &mut Chance, nodes: usize, features: usize, longer: usize) -> Table {
+    let mut table = Table {
+        value: floats::anything(chance, nodes),
+        threshold: floats::anything(chance, nodes),
+        score: floats::anything(chance, nodes),
+        ..Table::default()
+    };
+    // half of the time scores as a fit gives them, not below 0
+    if chance.one_in(2) {
+        table.score = floats::finite(chance, nodes)
+            .iter()
+            .map(|s| s.abs())
+            .collect();
+    }
+    for number in 0..nodes {
+        let splits = number + 2 < nodes && !chance.one_in(4);
+        let on_true = match splits {
+            true => chance.within(number + 1, nodes - 2) as u32,
+            false => 0,
+        };
+        let feature = match splits {
+            true => chance.below(features).max(chance.below(features)) as u32,
+            false => chance.pick(&[0, 1, u32::MAX]),
+        };
+        table.feature.push(feature);
+        table.true_child.push(on_true);
+        table.false_child.push(if splits { on_true + 1 } else { 0 });
+    }
+    // two columns are not extended, so that the shortest one is the tree
+    if longer > 0 && chance.one_in(2) {
+        table
+            .value
+            .resize(nodes + chance.below(longer + 1), f64::NAN);
+        table.feature.resize(nodes + chance.below(longer + 1), 7);
+        table.score.resize(nodes + longer, -1.0);
+        table.false_child.resize(nodes + longer, 3);
+    }
+    table
+}

@@ -1,0 +1,86 @@
+//! What the fits are given, and what they return.
+
+#[derive(Clone, Copy, Debug, PartialEq)]
+pub enum Splitter {
+    Best,
+    Random,
+}
+
+#[derive(Clone, Copy, Debug)]
+pub struct Settings {
+    /// The maximum depth; `None` counts as 65,535.
+    pub limit: Option<u16>,
+    pub least_leaf: u32,
+    pub least_split: u32,
+    pub splitter: Splitter,
+}
+
+/// What both fits are given: feature values row by row, counts tree by tree, listings feature by feature.
+#[derive(Clone, Copy)]
+pub struct Given<'a> {
+    pub rows: usize,
+    pub features: usize,
+    pub x: &'a [f64],
+    pub y: &'a [f64],
+    /// One per row, or empty for none.
+    pub weights: &'a [f64],
+    pub counts: &'a [u32],
+    pub listings: &'a [u32],
+}
+
+#[derive(Clone, Copy)]
+pub struct Draws<'a> {
+    pub words: &'a [u32],
+    pub thresholds: &'a [f64],
+}
+
+/// Where each tree's part of the two tapes begins, and where the last one ends.
+#[derive(Clone, Copy)]
+pub struct Cuts<'a> {
+    pub words: &'a [u64],
+    pub thresholds: &'a [u64],
+}
+
+pub struct TreeCall<'a> {
+    pub given: Given<'a>,
+    pub settings: Settings,
+    pub tried: u32,
+    pub draws: Draws<'a>,
+}
+
+pub struct ForestCall<'a> {
+    pub given: Given<'a>,
+    pub trees: usize,
+    pub settings: Settings,
+    /// `None` for the square root of the number of features, rounded down.
+    pub tried: Option<u32>,
+    pub draws: Draws<'a>,
+    pub cuts: Cuts<'a>,
+}
+
+/// What a fit reports about a tree.
+#[derive(Clone, Copy, Debug, Default)]
+pub struct Numbers {
+    pub nodes: u32,
+    pub depth: u32,
+    pub root_mass: f64,
+    pub searches: u32,
+    pub words_used: u32,
+    pub thresholds_used: u32,
+}
+
+/// Tree and search are given only with refusal 7, and are 0 otherwise.
+#[derive(Clone, Copy, Debug, Default)]
+pub struct TreeAnswer {
+    pub refusal: u32,
+    pub tree: u32,
+    pub search: u32,
+    pub numbers: Numbers,
+}
+
+#[derive(Clone, Copy, Debug, Default, PartialEq)]
+pub struct ForestAnswer {
+    pub refusal: u32,
+    pub tree: u32,
+    pub search: u32,
+}

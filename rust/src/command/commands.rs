@@ -1,0 +1,110 @@
+//! The commands, their options, and the functions that run them.
+
+use crate::args::{Choice, Command, choice};
+use crate::{check, fit};
+
+const COLUMNS: &[Choice] = &[
+    choice("--target", "NAME", "the column to predict"),
+    choice(
+        "--weight",
+        "NAME",
+        "a column of weights, which say how much each fixture counts",
+    ),
+    choice(
+        "--features",
+        "A,B,..",
+        "the columns to use as features; default: all other columns of numbers",
+    ),
+    choice(
+        "--id",
+        "A,B,..",
+        "columns that are not features, even if they hold numbers",
+    ),
+    choice(
+        "--listing",
+        "FILE",
+        "your own listings, instead of sorted ones: a column of row numbers for each feature",
+    ),
+];
+
+const GROWTH: &[Choice] = &[
+    choice(
+        "--n-trees",
+        "N",
+        "the number of trees, up to 1024; default: 100",
+    ),
+    choice(
+        "--m",
+        "N",
+        "how many features each search tries; default: the square root of their number, rounded down",
+    ),
+    choice("--max-depth", "N", "the maximum depth; default: no limit"),
+    choice(
+        "--min-samples-leaf",
+        "N",
+        "the minimum number of fixtures in a leaf; default: 1",
+    ),
+    choice(
+        "--min-samples-split",
+        "N",
+        "the minimum number of fixtures in a node to be split; default: 2",
+    ),
+    choice(
+        "--splitter",
+        "best|random",
+        "how cuts are chosen; default: best",
+    ),
+    choice(
+        "--no-bootstrap",
+        "",
+        "grow every tree on all fixtures, with their weights; there is no out-of-bag error then",
+    ),
+    choice(
+        "--seed",
+        "N",
+        "the seed for bags, orders and thresholds; default: 0",
+    ),
+    choice(
+        "--n-threads",
+        "N",
+        "the number of threads, which affects only the time; default: as many as the machine can run",
+    ),
+];
+
+const OUT: &[Choice] = &[choice(
+    "--out",
+    "FILE",
+    "where to write the corrections; default: standard output",
+)];
+
+pub const COMMANDS: [Command; 3] = [
+    Command {
+        name: "check",
+        files: &["SHOW.csv"],
+        about: "Checks whether a show and its listing can be used, and reports what is wrong if not",
+        more: "A listing is a table with a column for each feature, named as in the show. Its cells are row numbers, counted\n\
+               from 0, in ascending order of the feature's values. Without --target and --features, the columns of the listing\n\
+               are the features.",
+        groups: &[COLUMNS],
+        run: check::run,
+    },
+    Command {
+        name: "fit",
+        files: &["SHOW.csv"],
+        about: "Fits a forest on a show and reports its out-of-bag error and importances",
+        more: "The forest is not saved, since there is no file format for it yet. `correct` fits and predicts in one run.",
+        groups: &[COLUMNS, GROWTH],
+        run: fit::fit,
+    },
+    Command {
+        name: "correct",
+        files: &["OLD.csv", "NEW.csv"],
+        about: "Fits a forest on the old show and writes a correction for each fixture of the new one",
+        more: "The output has the columns of the new show, or only those named by --id, and a column NAME_correction, where NAME is\n\
+               the target. Without --features, the features are the columns of numbers that both shows have. Columns of numbers\n\
+               that only the old show has are ignored, unless the new one has others that may be meant instead. A report on the\n\
+               forest goes to standard error.",
+        groups: &[COLUMNS, GROWTH, OUT],
+        run: fit::correct,
+    },
+];
