@@ -1,7 +1,7 @@
 // The fits.
 ghost use mathlib.Core.Path.{_≡_};
-ghost use Rattle.rules.specs.Lent.{TreeRooms, ForestRooms, Outcome, WaitingRoom, waitingRoom, givenOf};
-ghost use Rattle.rules.specs.Answers.{Told, treeTold, forestTold, told};
+ghost use Rattle.rules.specs.Lent.{waitingRoom, givenOf, columnsOf, reportsOf, workOf, treeRoomsOf, forestRoomsOf, outcomeOf};
+ghost use Rattle.rules.specs.Answers.{treeTold, forestTold, told};
 ghost use Rattle.rules.specs.Fit.{fitTree, treeCall};
 ghost use Rattle.rules.specs.Forest.{fitForest, forestCall};
 ghost use Rattle.rules.specs.Plain.{treeSettingsOf, forestSettingsOf, triedFrom, treeNumbers, forestNumbers};
@@ -13,16 +13,6 @@ use rules::TreeTold;
 
 #[no_mangle]
 pub extern "C" fn tailboardy_fit_tree(
-    rows: usize,
-    features: usize,
-    plain: TreeSettings,
-    values: &[f64],
-    targets: &[f64],
-    weights: &[f64],
-    counts: &[u32],
-    listings: &[u32],
-    words: &[u32],
-    thresholds: &[f64],
     value: &mut [f64],
     feature: &mut [u32],
     threshold: &mut [f64],
@@ -34,25 +24,29 @@ pub extern "C" fn tailboardy_fit_tree(
     flags: &mut [bool],
     wholes: &mut [[u32; 6]],
     reals: &mut [[f64; 3]],
+    values: &[f64],
+    targets: &[f64],
+    weights: &[f64],
+    counts: &[u32],
+    listings: &[u32],
+    words: &[u32],
+    thresholds: &[f64],
+    rows: usize,
+    features: usize,
+    plain: TreeSettings,
 ) -> TreeTold
-    ensures { λ r. ⌜ _≡_ {A = Outcome Told (TreeRooms WaitingRoom)}
-        (record { answer = treeNumbers r; rooms = record { nodes = record { value = now (value .exit); feature = now (feature .exit); threshold = now (threshold .exit); score = now (score .exit); trueChild = now (truechild .exit); falseChild = now (falsechild .exit) }; work = record { order = now (order .exit); scratch = now (scratch .exit); flags = now (flags .exit); waiting = record { wholes = now (wholes .exit); reals = now (reals .exit) } } } })
-        (told treeTold (fitTree waitingRoom
-        (treeCall (record { rows = rows; features = features }) (treeSettingsOf plain) (plain .tried) (givenOf (now (values .entry)) (now (targets .entry)) (now (weights .entry)) (now (counts .entry)) (now (listings .entry))) (now (words .entry)) (now (thresholds .entry)))
-        (record { nodes = record { value = now (value .entry); feature = now (feature .entry); threshold = now (threshold .entry); score = now (score .entry); trueChild = now (truechild .entry); falseChild = now (falsechild .entry) }; work = record { order = now (order .entry); scratch = now (scratch .entry); flags = now (flags .entry); waiting = record { wholes = now (wholes .entry); reals = now (reals .entry) } } }))) ⌝ }
+    ensures { λ r. ⌜ outcomeOf (treeNumbers r) (treeRoomsOf
+        (columnsOf (now (value .exit)) (now (feature .exit)) (now (threshold .exit)) (now (score .exit)) (now (truechild .exit)) (now (falsechild .exit)))
+        (workOf (now (order .exit)) (now (scratch .exit)) (now (flags .exit)) (now (wholes .exit)) (now (reals .exit))))
+        ≡ told treeTold (fitTree waitingRoom
+        (treeCall (record { rows = rows; features = features }) (treeSettingsOf plain) (plain .tried)
+        (givenOf (now (values .entry)) (now (targets .entry)) (now (weights .entry)) (now (counts .entry)) (now (listings .entry))) (now (words .entry)) (now (thresholds .entry)))
+        (treeRoomsOf
+        (columnsOf (now (value .entry)) (now (feature .entry)) (now (threshold .entry)) (now (score .entry)) (now (truechild .entry)) (now (falsechild .entry)))
+        (workOf (now (order .entry)) (now (scratch .entry)) (now (flags .entry)) (now (wholes .entry)) (now (reals .entry))))) ⌝ }
 {
     let settings = c_types::tree_settings_of(plain);
     let answer = tree_fit::fit_tree(
-        Shape { rows, features },
-        settings,
-        plain.tried,
-        values,
-        targets,
-        weights,
-        counts,
-        listings,
-        words,
-        thresholds,
         value,
         feature,
         threshold,
@@ -64,25 +58,22 @@ pub extern "C" fn tailboardy_fit_tree(
         flags,
         wholes,
         reals,
+        values,
+        targets,
+        weights,
+        counts,
+        listings,
+        words,
+        thresholds,
+        Shape { rows, features },
+        settings,
+        plain.tried,
     );
     c_types::tree_told_of(answer)
 }
 
 #[no_mangle]
 pub extern "C" fn tailboardy_fit_forest(
-    rows: usize,
-    features: usize,
-    trees: usize,
-    plain: ForestSettings,
-    values: &[f64],
-    targets: &[f64],
-    weights: &[f64],
-    counts: &[u32],
-    listings: &[u32],
-    words: &[u32],
-    thresholds: &[f64],
-    wordstarts: &[usize],
-    thresholdstarts: &[usize],
     value: &mut [f64],
     feature: &mut [u32],
     threshold: &mut [f64],
@@ -101,29 +92,38 @@ pub extern "C" fn tailboardy_fit_forest(
     flags: &mut [bool],
     wholes: &mut [[u32; 6]],
     reals: &mut [[f64; 3]],
+    values: &[f64],
+    targets: &[f64],
+    weights: &[f64],
+    counts: &[u32],
+    listings: &[u32],
+    words: &[u32],
+    thresholds: &[f64],
+    wordstarts: &[usize],
+    thresholdstarts: &[usize],
+    rows: usize,
+    features: usize,
+    trees: usize,
+    plain: ForestSettings,
 ) -> ForestTold
-    ensures { λ r. ⌜ _≡_ {A = Outcome Told (ForestRooms WaitingRoom)}
-        (record { answer = forestNumbers r; rooms = record { nodes = record { value = now (value .exit); feature = now (feature .exit); threshold = now (threshold .exit); score = now (score .exit); trueChild = now (truechild .exit); falseChild = now (falsechild .exit) }; starts = now (starts .exit); reports = record { nodes = now (nodes .exit); depth = now (depth .exit); mass = now (mass .exit); searches = now (searches .exit); words = now (wordsused .exit); thresholds = now (thresholdsused .exit) }; work = record { order = now (order .exit); scratch = now (scratch .exit); flags = now (flags .exit); waiting = record { wholes = now (wholes .exit); reals = now (reals .exit) } } } })
-        (told forestTold (fitForest waitingRoom
-        (forestCall (record { rows = rows; features = features }) trees (forestSettingsOf plain) (triedFrom (plain .said) (plain .tried)) (givenOf (now (values .entry)) (now (targets .entry)) (now (weights .entry)) (now (counts .entry)) (now (listings .entry))) (now (words .entry)) (now (thresholds .entry)) (now (wordstarts .entry)) (now (thresholdstarts .entry)))
-        (record { nodes = record { value = now (value .entry); feature = now (feature .entry); threshold = now (threshold .entry); score = now (score .entry); trueChild = now (truechild .entry); falseChild = now (falsechild .entry) }; starts = now (starts .entry); reports = record { nodes = now (nodes .entry); depth = now (depth .entry); mass = now (mass .entry); searches = now (searches .entry); words = now (wordsused .entry); thresholds = now (thresholdsused .entry) }; work = record { order = now (order .entry); scratch = now (scratch .entry); flags = now (flags .entry); waiting = record { wholes = now (wholes .entry); reals = now (reals .entry) } } }))) ⌝ }
+    ensures { λ r. ⌜ outcomeOf (forestNumbers r) (forestRoomsOf
+        (columnsOf (now (value .exit)) (now (feature .exit)) (now (threshold .exit)) (now (score .exit)) (now (truechild .exit)) (now (falsechild .exit)))
+        (now (starts .exit))
+        (reportsOf (now (nodes .exit)) (now (depth .exit)) (now (mass .exit)) (now (searches .exit)) (now (wordsused .exit)) (now (thresholdsused .exit)))
+        (workOf (now (order .exit)) (now (scratch .exit)) (now (flags .exit)) (now (wholes .exit)) (now (reals .exit))))
+        ≡ told forestTold (fitForest waitingRoom
+        (forestCall (record { rows = rows; features = features }) trees (forestSettingsOf plain) (triedFrom (plain .said) (plain .tried))
+        (givenOf (now (values .entry)) (now (targets .entry)) (now (weights .entry)) (now (counts .entry)) (now (listings .entry)))
+        (now (words .entry)) (now (thresholds .entry)) (now (wordstarts .entry)) (now (thresholdstarts .entry)))
+        (forestRoomsOf
+        (columnsOf (now (value .entry)) (now (feature .entry)) (now (threshold .entry)) (now (score .entry)) (now (truechild .entry)) (now (falsechild .entry)))
+        (now (starts .entry))
+        (reportsOf (now (nodes .entry)) (now (depth .entry)) (now (mass .entry)) (now (searches .entry)) (now (wordsused .entry)) (now (thresholdsused .entry)))
+        (workOf (now (order .entry)) (now (scratch .entry)) (now (flags .entry)) (now (wholes .entry)) (now (reals .entry))))) ⌝ }
 {
     let settings = c_types::forest_settings_of(plain);
     let tried = c_types::tried_from(plain.said, plain.tried);
     let answer = forest_fit::fit_forest(
-        Shape { rows, features },
-        trees,
-        settings,
-        tried,
-        values,
-        targets,
-        weights,
-        counts,
-        listings,
-        words,
-        thresholds,
-        wordstarts,
-        thresholdstarts,
         value,
         feature,
         threshold,
@@ -142,6 +142,19 @@ pub extern "C" fn tailboardy_fit_forest(
         flags,
         wholes,
         reals,
+        values,
+        targets,
+        weights,
+        counts,
+        listings,
+        words,
+        thresholds,
+        wordstarts,
+        thresholdstarts,
+        Shape { rows, features },
+        trees,
+        settings,
+        tried,
     );
     c_types::forest_told_of(answer)
 }

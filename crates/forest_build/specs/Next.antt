@@ -1,5 +1,5 @@
 -- One tree of a forest: its own counts, its own part of both tapes, and the node columns from its place on. Assumes nothing.
-use Prim.Native.Nat.{ℕ, _+_, _-_, _*_, _≤_}
+use Prim.Native.Nat.{ℕ, _+_, _-_, _*_, _<_, _≤_}
 use native.Mathlib.Numerals.{add-one}
 use native.Mathlib.Omega.{arith}
 use mathlib.Core.Path.{_≡_, sym, ap, _∙_, subst}
@@ -7,31 +7,30 @@ use mathlib.Core.List.{List, _++_, append-nil}
 use lib.ListN.{length, getD, take, drop, length-append, length-drop, drop-of-length-le}
 use lib.Seq.{take-all, take-at, drop-at, length-take-le, length-front}
 use lib.Ieee.{Float}
-use Rattle.rules.specs.declared.Params.{Params}
-use Rattle.rules.specs.Words.{stretch}
-use Rattle.rules.specs.Lent.{Data, OneTree, Columns, kept, keptRows}
+use Rattle.rules.specs.Lent.{OneTree, Columns, kept, keptRows}
 use Rattle.rules.specs.Checks.{roomFor}
 use Rattle.rules.specs.Fit.{element, listing}
 use Rattle.rules.specs.Forest.{part}
 use Rattle.lemmas.specs.Passed.{CutAt}
 use Rattle.node_entries.specs.Entries.{LongAll}
-use Rattle.tree_build.specs.declared.Planted.{Planted}
-use Rattle.tree_build.specs.Plant.{frameIn, PlantAsks, PlantDone}
+use Rattle.tree_report.specs.declared.Planted.{Planted}
+use Rattle.tree_build.specs.Plant.{frameIn, PlantDone}
+use Rattle.forest_parts.specs.declared.Parts.{Parts}
+use Rattle.forest_parts.specs.Parts.{PartsAsk, partsAt}
+use Rattle.forest_build.specs.Lot.{Lot, Widths, lotFrame, PlantIn}
 use Rattle.forest_build.specs.Standing.{dropAll, takeAll}
 
-abbrev pub oneTreeFor : ℕ → Params → List Float → List ℕ → List ℕ → List Float → List ℕ → List ℕ → ℕ → OneTree
-oneTreeFor rows p weights counts words thresholds wc tc t = frameIn rows p weights (stretch (t * rows) rows counts) (part wc words t) (part tc thresholds t)
-
-pub record NextAsks (features rows : ℕ) (p : Params) (weights : List Float) (counts words : List ℕ) (thresholds : List Float) (wc tc : List ℕ) (D : Data) (t at : ℕ) (c : Columns) (order sc fl rw rr : ℕ) : Type 0 where
-  pub plant : PlantAsks features (oneTreeFor rows p weights counts words thresholds wc tc t) D (dropAll at c) order sc fl rw rr
+pub record NextAsks (L : Lot) (t at : ℕ) (c : Columns) (w : Widths) : Type 0 where
+  pub plant : PlantIn L (lotFrame L t) (dropAll at c) w
   pub long : LongAll at c
-  pub counted : t * rows + rows ≤ length counts
-  pub word : CutAt wc (length words) t
-  pub threshold : CutAt tc (length thresholds) t
+  pub small : t * L .rows + L .rows < 4294967296
+  pub counted : t * L .rows + L .rows ≤ length (L .counts)
+  pub word : CutAt (L .wordStarts) (length (L .words)) t
+  pub threshold : CutAt (L .thresholdStarts) (length (L .thresholds)) t
 
-pub record NextDone (F : OneTree) (D : Data) (at : ℕ) (c c′ : Columns) (r : Planted) : Type 0 where
+pub record NextDone (L : Lot) (t at : ℕ) (c c′ : Columns) (r : Planted) : Type 0 where
   pub kept : takeAll at c′ ≡ takeAll at c
-  pub done : PlantDone F D (dropAll at c) (dropAll at c′) r
+  pub done : PlantDone (lotFrame L t) (L .inputs) (dropAll at c) (dropAll at c′) r
 
 -- ---- what is lent of each list, and how it comes back
 
@@ -113,56 +112,64 @@ columns-back at c l h = λ i.
       falseChild = back-drop at (c .falseChild) (l .falseChild) (h .falsechild) i;
     }
 
-module _ (features rows : ℕ) (p : Params) (weights : List Float) (counts words : List ℕ) (thresholds : List Float) (wc tc : List ℕ) (D : Data) (t at : ℕ) (c : Columns) (order sc fl rw rr : ℕ)
-    (h : NextAsks features rows p weights counts words thresholds wc tc D t at c order sc fl rw rr) where
-  -- the frame as the code lends it
-  abbrev pub frameLent : OneTree
-  frameLent =
-      frameIn rows p weights (take (t * rows + rows - t * rows) (drop (t * rows) counts)) (take (getD wc (t + 1) 0 - getD wc t 0) (drop (getD wc t 0) words))
-      (take (getD tc (t + 1) 0 - getD tc t 0) (drop (getD tc t 0) thresholds))
+-- what the code lends of the counts, and the tree as the code lends it
+abbrev pub countsLent : Lot → Parts → List ℕ
+countsLent L P = take (P .countend - P .count) (drop (P .count) (L .counts))
 
-  frame-lent : frameLent ≡ oneTreeFor rows p weights counts words thresholds wc tc t
-  unfolding part
-  frame-lent = λ i.
-      frameIn rows p weights (take (wide (t * rows) i) (drop (t * rows) counts)) (take (getD wc (add-one t i) 0 - getD wc t 0) (drop (getD wc t 0) words))
-      (take (getD tc (add-one t i) 0 - getD tc t 0) (drop (getD tc t 0) thresholds))
-    where
-      wide : (a : ℕ) → a + rows - a ≡ rows
-      wide a = omega arith
+abbrev pub frameLent : Lot → Parts → OneTree
+frameLent L P =
+    frameIn (L .rows) (L .params) (L .weights) (countsLent L P) (take (P .wordend - P .word) (drop (P .word) (L .words)))
+    (take (P .thresholdend - P .threshold) (drop (P .threshold) (L .thresholds)))
 
-  -- whatever the tapes: nothing is asked of them
-  pub next-asks : (W : List ℕ) (M : List Float) → PlantAsks features (frameIn rows p weights (frameLent .counts) W M) D (lentAll at c) order sc fl rw rr
-  unfolding listing element roomFor keptRows kept
-  next-asks W M =
-      let k = subst (λ k. PlantAsks features (oneTreeFor rows p weights counts words thresholds wc tc t) D k order sc fl rw rr) (sym (columns-lent at c)) (h .plant) in
-      let q = subst (λ F. PlantAsks features F D (lentAll at c) order sc fl rw rr) (sym frame-lent) k in
-      record {
-        listed = record { once = q .listed .once; rising = q .listed .rising; values = q .listed .values };
-        same = q .same;
-        rows = q .rows;
-        few = q .few;
-        some = q .some;
-        wide = q .wide;
-        targeted = q .targeted;
-        tables = q .tables;
-        low = q .low;
-        listings = q .listings;
-        features-few = q .features-few;
-        deep = q .deep;
-        col-room = q .col-room;
-        scratch-room = q .scratch-room;
-        flag-room = q .flag-room;
-        whole-room = q .whole-room;
-        real-room = q .real-room;
-        node-room = q .node-room;
-      }
+module _ (L : Lot) (t at : ℕ) (c : Columns) (w : Widths) (h : NextAsks L t at c w) where
+  pub parts-ask : PartsAsk (L .rows) t (L .wordStarts) (L .thresholdStarts)
+  parts-ask = record { small = h .small; words = h .word .known; thresholds = h .threshold .known }
 
-  pub next-done : (l : Columns) (r : Planted) → PlantDone frameLent D (lentAll at c) l r → NextDone (oneTreeFor rows p weights counts words thresholds wc tc t) D at c (backAll at c l) r
-  next-done l r d =
-      record {
-        kept = columns-kept at c l (h .long);
-        done =
-            subst (λ k. PlantDone (oneTreeFor rows p weights counts words thresholds wc tc t) D (dropAll at c) k r) (sym (columns-back at c l (h .long)))
-            (subst (λ k. PlantDone (oneTreeFor rows p weights counts words thresholds wc tc t) D k l r) (columns-lent at c)
-            (subst (λ F. PlantDone F D (lentAll at c) l r) frame-lent d));
-      }
+  module _ (P : Parts) (e : P ≡ partsAt (L .rows) t (L .wordStarts) (L .thresholdStarts)) where
+    frame-lent : frameLent L P ≡ lotFrame L t
+    unfolding part
+    frame-lent =
+        ap (frameLent L) e
+        ∙ (λ i. frameIn (L .rows) (L .params) (L .weights) (take (wide (t * L .rows) i) (drop (t * L .rows) (L .counts)))
+        (take (getD (L .wordStarts) (add-one t i) 0 - getD (L .wordStarts) t 0) (drop (getD (L .wordStarts) t 0) (L .words)))
+        (take (getD (L .thresholdStarts) (add-one t i) 0 - getD (L .thresholdStarts) t 0) (drop (getD (L .thresholdStarts) t 0) (L .thresholds))))
+      where
+        wide : (a : ℕ) → a + L .rows - a ≡ L .rows
+        wide a = omega arith
+
+    -- whatever the tapes: nothing is asked of them
+    pub next-asks : (W : List ℕ) (M : List Float) → PlantIn L (frameIn (L .rows) (L .params) (L .weights) (countsLent L P) W M) (lentAll at c) w
+    unfolding listing element roomFor keptRows kept
+    next-asks W M =
+        let k = subst (λ k. PlantIn L (lotFrame L t) k w) (sym (columns-lent at c)) (h .plant) in
+        let q = subst (λ F. PlantIn L F (lentAll at c) w) (sym frame-lent) k in
+        record {
+          listed = record { once = q .listed .once; rising = q .listed .rising; values = q .listed .values };
+          same = q .same;
+          rows = q .rows;
+          few = q .few;
+          some = q .some;
+          wide = q .wide;
+          targeted = q .targeted;
+          tables = q .tables;
+          low = q .low;
+          listings = q .listings;
+          features-few = q .features-few;
+          deep = q .deep;
+          col-room = q .col-room;
+          scratch-room = q .scratch-room;
+          flag-room = q .flag-room;
+          whole-room = q .whole-room;
+          real-room = q .real-room;
+          node-room = q .node-room;
+        }
+
+    pub next-done : (l : Columns) (r : Planted) → PlantDone (frameLent L P) (L .inputs) (lentAll at c) l r → NextDone L t at c (backAll at c l) r
+    next-done l r d =
+        record {
+          kept = columns-kept at c l (h .long);
+          done =
+              subst (λ k. PlantDone (lotFrame L t) (L .inputs) (dropAll at c) k r) (sym (columns-back at c l (h .long)))
+              (subst (λ k. PlantDone (lotFrame L t) (L .inputs) k l r) (columns-lent at c)
+              (subst (λ F. PlantDone F (L .inputs) (lentAll at c) l r) frame-lent d));
+        }

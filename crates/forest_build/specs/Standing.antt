@@ -1,23 +1,21 @@
 -- The loop over a forest's trees: those grown so far stand at the front of the rooms, and what is left to grow makes up the whole. Assumes nothing.
-use Prim.Native.Nat.{ℕ, suc, _+_, _<_, _≤_}
+use Prim.Native.Nat.{ℕ, zero, suc, _+_, _<_, _≤_}
 use native.Mathlib.Nat.{zero-add, le-refl}
 use native.Mathlib.Numerals.{add-one}
 use native.Mathlib.Omega.{arith}
 use mathlib.Core.Path.{_≡_, refl, sym, ap, _∙_, subst}
 use mathlib.Core.List.{List, [], _∷_, _++_, map, map-append, append-assoc, append-nil}
 use lib.ListN.{length, getD, set, take, drop, length-append, length-map, drop-of-length-le, take-append-drop}
-use lib.Seq.{drop-cons, drop-drop, take-at, drop-at, set-at}
-use lib.Ieee.{nan}
+use lib.Seq.{drop-cons, drop-drop, take-at, drop-at}
 use Rattle.rules.specs.declared.Report.{Report}
 use Rattle.rules.specs.declared.Place.{Place}
 use Rattle.rules.specs.Words.{front, total}
-use Rattle.rules.specs.Lent.{Data, OneTree, Columns, Entry, Reports, writeEntries, writeReports}
+use Rattle.rules.specs.Lent.{Data, OneTree, Columns, Entry, writeEntries}
 use Rattle.rules.specs.Checks.{roomFor}
 use Rattle.rules.specs.Draws.{bad, ok}
 use Rattle.rules.specs.Fit.{Tree, fit, entries}
 use Rattle.rules.specs.Forest.{Forest, stopped, grownAll, withTree, nextTree, growTrees, startsFrom, forestEntries}
 use Rattle.lemmas.specs.Tables.{length-entries}
-use Rattle.lemmas.specs.Written.{starts-length}
 
 -- ---- columns from place n on, and before it
 
@@ -89,13 +87,11 @@ map-next : {A B : Type 0} (f : A → B) (l : List A) (x : A) → map f (l ++ (x 
 map-next f [] x = refl
 map-next f (y ∷ l) x = ap (λ z. f y ∷ z) (map-next f l x)
 
--- an entry written behind what stands at the front
-front-set {ℓ} : {A : Type ℓ} (k old : List A) (x d : A) (n : ℕ) → length k ≡ n → n < length old → set (front k old) n x ≡ front (k ++ (x ∷ [])) old
-front-set k old x d n e h =
-    ap (λ z. set (k ++ z) n x) (ap (λ m. drop m old) e ∙ drop-cons old n d h)
-    ∙ set-at k (getD old n d) (drop (suc n) old) x n e
-    ∙ sym (append-assoc k (x ∷ []) (drop (suc n) old))
-    ∙ ap (λ m. (k ++ (x ∷ [])) ++ drop m old) (sym (length-append k (x ∷ []) ∙ ap (λ m. m + 1) e ∙ add-one n))
+-- an entry written behind the first ones
+take-next : {A : Type 0} (l : List A) (t : ℕ) (x : A) → t < length l → take (suc t) (set l t x) ≡ take t l ++ (x ∷ [])
+take-next [] t x h = absurd (omega arith)
+take-next (y ∷ l) zero x h = refl
+take-next (y ∷ l) (suc t) x h = ap (λ z. y ∷ z) (take-next l t x (omega arith))
 
 -- a list written behind what stands at the front
 front-more {ℓ} : {A : Type ℓ} (k m old new : List A) (n : ℕ) → length k ≡ n → take n new ≡ take n (front k old) → drop n new ≡ front m (drop n (front k old)) → new ≡ front (k ++ m) old
@@ -106,82 +102,58 @@ front-more k m old new n e a b =
     ∙ sym (append-assoc k m (drop (length k + length m) old))
     ∙ ap (λ z. (k ++ m) ++ drop z old) (sym (length-append k m))
 
--- ---- report columns, a tree at a time
-
-abbrev pub putReport : ℕ → Report → Reports → Reports
-putReport t r p =
-    record {
-      nodes = set (p .nodes) t (r .nodes);
-      depth = set (p .depth) t (r .depth);
-      mass = set (p .mass) t (r .mass);
-      searches = set (p .searches) t (r .searches);
-      words = set (p .words) t (r .words);
-      thresholds = set (p .thresholds) t (r .thresholds);
-    }
-
-pub record ReportsLong (n : ℕ) (p : Reports) : Type 0 where
-  pub nodes : length (p .nodes) ≡ n
-  pub depth : length (p .depth) ≡ n
-  pub mass : length (p .mass) ≡ n
-  pub searches : length (p .searches) ≡ n
-  pub words : length (p .words) ≡ n
-  pub thresholds : length (p .thresholds) ≡ n
-
-report-next : (n : ℕ) (p : Reports) (rs : List Report) (r : Report) → ReportsLong n p → length rs < n → putReport (length rs) r (writeReports rs p) ≡ writeReports (rs ++ (r ∷ [])) p
-report-next n p rs r l h = λ i.
-    record {
-      nodes = one (λ (x : Report). x .nodes) (p .nodes) 0 (l .nodes) i;
-      depth = one (λ (x : Report). x .depth) (p .depth) 0 (l .depth) i;
-      mass = one (λ (x : Report). x .mass) (p .mass) nan (l .mass) i;
-      searches = one (λ (x : Report). x .searches) (p .searches) 0 (l .searches) i;
-      words = one (λ (x : Report). x .words) (p .words) 0 (l .words) i;
-      thresholds = one (λ (x : Report). x .thresholds) (p .thresholds) 0 (l .thresholds) i;
-    }
-  where
-    one : {A : Type 0} (f : Report → A) (old : List A) (d : A) → length old ≡ n → set (front (map f rs) old) (length rs) (f r) ≡ front (map f (rs ++ (r ∷ []))) old
-    one f old d e = front-set (map f rs) old (f r) d (length rs) (length-map rs f) (omega (arith, e)) ∙ ap (λ z. front z old) (sym (map-next f rs r))
-
 -- ---- node columns, a tree at a time
 
-nodes-next : (c₀ c c′ : Columns) (es fs : List Entry) → c ≡ writeEntries es c₀ → takeAll (length es) c′ ≡ takeAll (length es) c → dropAll (length es) c′ ≡ writeEntries fs (dropAll (length es) c)
-    → c′ ≡ writeEntries (es ++ fs) c₀
+nodes-next : (c₀ c c′ : Columns) (es fs : List Entry) → c ≡ writeEntries es c₀ → takeAll (length es) c′ ≡ takeAll (length es) c
+    → dropAll (length es) c′ ≡ writeEntries fs (dropAll (length es) c) → c′ ≡ writeEntries (es ++ fs) c₀
 nodes-next c₀ c c′ es fs e a b = λ i.
     record {
-      value = one (λ (x : Entry). x .value) (c₀ .value) (c .value) (c′ .value) (ap (λ (z : Columns). z .value) e) (ap (λ (z : Columns). z .value) a) (ap (λ (z : Columns). z .value) b) i;
-      feature = one (λ (x : Entry). x .feature) (c₀ .feature) (c .feature) (c′ .feature) (ap (λ (z : Columns). z .feature) e) (ap (λ (z : Columns). z .feature) a) (ap (λ (z : Columns). z .feature) b) i;
-      threshold = one (λ (x : Entry). x .threshold) (c₀ .threshold) (c .threshold) (c′ .threshold) (ap (λ (z : Columns). z .threshold) e) (ap (λ (z : Columns). z .threshold) a) (ap (λ (z : Columns). z .threshold) b) i;
-      score = one (λ (x : Entry). x .score) (c₀ .score) (c .score) (c′ .score) (ap (λ (z : Columns). z .score) e) (ap (λ (z : Columns). z .score) a) (ap (λ (z : Columns). z .score) b) i;
-      trueChild = one (λ (x : Entry). x .trueChild) (c₀ .trueChild) (c .trueChild) (c′ .trueChild) (ap (λ (z : Columns). z .trueChild) e) (ap (λ (z : Columns). z .trueChild) a) (ap (λ (z : Columns). z .trueChild) b) i;
-      falseChild = one (λ (x : Entry). x .falseChild) (c₀ .falseChild) (c .falseChild) (c′ .falseChild) (ap (λ (z : Columns). z .falseChild) e) (ap (λ (z : Columns). z .falseChild) a) (ap (λ (z : Columns). z .falseChild) b) i;
+      value = one (λ (x : Entry). x .value) (λ (z : Columns). z .value) (λ i. e i .value) (λ i. a i .value) (λ i. b i .value) i;
+      feature = one (λ (x : Entry). x .feature) (λ (z : Columns). z .feature) (λ i. e i .feature) (λ i. a i .feature) (λ i. b i .feature) i;
+      threshold = one (λ (x : Entry). x .threshold) (λ (z : Columns). z .threshold) (λ i. e i .threshold) (λ i. a i .threshold) (λ i. b i .threshold) i;
+      score = one (λ (x : Entry). x .score) (λ (z : Columns). z .score) (λ i. e i .score) (λ i. a i .score) (λ i. b i .score) i;
+      trueChild = one (λ (x : Entry). x .trueChild) (λ (z : Columns). z .trueChild) (λ i. e i .trueChild) (λ i. a i .trueChild) (λ i. b i .trueChild) i;
+      falseChild = one (λ (x : Entry). x .falseChild) (λ (z : Columns). z .falseChild) (λ i. e i .falseChild) (λ i. a i .falseChild) (λ i. b i .falseChild) i;
     }
   where
-    one : {A : Type 0} (f : Entry → A) (old now new : List A) → now ≡ front (map f es) old → take (length es) new ≡ take (length es) now → drop (length es) new ≡ front (map f fs) (drop (length es) now)
-        → new ≡ front (map f (es ++ fs)) old
-    one f old now new e a b =
-        front-more (map f es) (map f fs) old new (length es) (length-map es f) (a ∙ ap (take (length es)) e) (b ∙ ap (λ z. front (map f fs) (drop (length es) z)) e)
-        ∙ ap (λ z. front z old) (sym (map-append f es fs))
+    one : {A : Type 0} (f : Entry → A) (col : Columns → List A) → col c ≡ front (map f es) (col c₀) → take (length es) (col c′) ≡ take (length es) (col c)
+        → drop (length es) (col c′) ≡ front (map f fs) (drop (length es) (col c)) → col c′ ≡ front (map f (es ++ fs)) (col c₀)
+    one f col e a b =
+        front-more (map f es) (map f fs) (col c₀) (col c′) (length es) (length-map es f) (a ∙ ap (take (length es)) e)
+        (b ∙ ap (λ z. front (map f fs) (drop (length es) z)) e)
+        ∙ ap (λ z. front z (col c₀)) (sym (map-append f es fs))
 
 -- ---- where the loop stands
 
-pub record Standing (Fs : List OneTree) (D : Data) (c₀ : Columns) (s₀ : List ℕ) (p₀ : Reports) (t at : ℕ) (c : Columns) (s : List ℕ) (p : Reports) : Type 0 where
+pub record Standing (Fs : List OneTree) (D : Data) (c₀ : Columns) (t at : ℕ) (c : Columns) (rs : List Report) (es : List ℕ) : Type 0 where
   pub trees : List Tree
   pub count : length trees ≡ t
   pub so : over trees (growTrees t (drop t Fs) D) ≡ growTrees 0 Fs D
   pub end : length (forestEntries trees) ≡ at
   pub nodes : c ≡ writeEntries (forestEntries trees) c₀
-  pub starts : s ≡ front (startsFrom 0 trees) s₀
-  pub reports : p ≡ writeReports (map (λ (x : Tree). x .report) trees) p₀
+  pub reports : take t rs ≡ map (λ (x : Tree). x .report) trees
+  pub starts : 0 ∷ take t es ≡ startsFrom 0 trees
   pub room : at + total roomFor (drop t Fs) ≤ total roomFor Fs
 
-pub standing-first : (Fs : List OneTree) (D : Data) (c₀ : Columns) (s₀ : List ℕ) (p₀ : Reports) (s : List ℕ) → s ≡ set s₀ 0 0 → 0 < length s₀ → Standing Fs D c₀ s₀ p₀ 0 0 c₀ s p₀
+pub standing-first : (Fs : List OneTree) (D : Data) (c₀ : Columns) (rs : List Report) (es : List ℕ) → Standing Fs D c₀ 0 0 c₀ rs es
 unfolding over forestEntries startsFrom
-standing-first Fs D c₀ s₀ p₀ s e h =
-    record { trees = []; count = refl; so = refl; end = refl; nodes = refl; starts = e ∙ front-set [] s₀ 0 0 0 refl h; reports = refl; room = subst (λ n. n ≤ total roomFor Fs) (sym (zero-add (total roomFor Fs))) (le-refl (total roomFor Fs)) }
+standing-first Fs D c₀ rs es =
+    record {
+      trees = [];
+      count = refl;
+      so = refl;
+      end = refl;
+      nodes = refl;
+      reports = refl;
+      starts = refl;
+      room = subst (λ n. n ≤ total roomFor Fs) (sym (zero-add (total roomFor Fs))) (le-refl (total roomFor Fs));
+    }
 
-module _ (Fs : List OneTree) (D : Data) (c₀ : Columns) (s₀ : List ℕ) (p₀ : Reports) (t at : ℕ) (c : Columns) (s : List ℕ) (p : Reports) (st : Standing Fs D c₀ s₀ p₀ t at c s p) where
+module _ (Fs : List OneTree) (D : Data) (c₀ : Columns) (t at : ℕ) (c : Columns) (rs : List Report) (es : List ℕ) (st : Standing Fs D c₀ t at c rs es) where
   pub standing-end : length Fs ≤ t → growTrees 0 Fs D ≡ grownAll (st .trees)
   unfolding growTrees
-  standing-end h = sym (st .so) ∙ ap (λ l. over (st .trees) (growTrees t l D)) (drop-of-length-le Fs h) ∙ over-all (st .trees) [] ∙ ap grownAll (append-nil (st .trees))
+  standing-end h =
+      sym (st .so) ∙ ap (λ l. over (st .trees) (growTrees t l D)) (drop-of-length-le Fs h) ∙ over-all (st .trees) [] ∙ ap grownAll (append-nil (st .trees))
 
   module _ (h : t < length Fs) (F : OneTree) (is : getD Fs t F ≡ F) where
     rest-is : growTrees t (drop t Fs) D ≡ nextTree t (fit F D) (growTrees (suc t) (drop (suc t) Fs) D)
@@ -191,47 +163,60 @@ module _ (Fs : List OneTree) (D : Data) (c₀ : Columns) (s₀ : List ℕ) (p₀
     pub standing-stop : (k : ℕ) → fit F D ≡ bad k → growTrees 0 Fs D ≡ stopped (record { tree = t; search = k })
     unfolding nextTree
     standing-stop k e =
-        sym (st .so) ∙ ap (over (st .trees)) (rest-is ∙ ap (λ o. nextTree t o (growTrees (suc t) (drop (suc t) Fs) D)) e) ∙ over-stopped (st .trees) (record { tree = t; search = k })
+        sym (st .so) ∙ ap (over (st .trees)) (rest-is ∙ ap (λ o. nextTree t o (growTrees (suc t) (drop (suc t) Fs) D)) e)
+        ∙ over-stopped (st .trees) (record { tree = t; search = k })
 
     -- the room left is enough for the tree, and for those after it
     pub room-here : at + roomFor F + total roomFor (drop (suc t) Fs) ≤ total roomFor Fs
     unfolding total
-    room-here = subst (λ n. n ≤ total roomFor Fs) (sum at (roomFor F) (total roomFor (drop (suc t) Fs)) (total roomFor (drop t Fs)) (ap (total roomFor) (drop-cons Fs t F h ∙ ap (λ x. x ∷ drop (suc t) Fs) is))) (st .room)
+    room-here =
+        subst (λ n. n ≤ total roomFor Fs)
+        (sum at (roomFor F) (total roomFor (drop (suc t) Fs)) (total roomFor (drop t Fs)) (ap (total roomFor) (drop-cons Fs t F h ∙ ap (λ x. x ∷ drop (suc t) Fs) is)))
+        (st .room)
       where
         sum : (a b c d : ℕ) → d ≡ b + c → a + d ≡ a + b + c
         sum a b c d e = omega arith
 
-    pub standing-next : (tree : Tree) → fit F D ≡ ok tree → length (tree .nodes) ≤ roomFor F → (at′ : ℕ) → at′ ≡ at + length (tree .nodes)
-        → (c′ : Columns) → takeAll at c′ ≡ takeAll at c → dropAll at c′ ≡ writeEntries (entries (tree .nodes)) (dropAll at c)
-        → (s′ : List ℕ) → s′ ≡ set s (t + 1) at′ → t + 1 < length s₀ → (p′ : Reports) → p′ ≡ putReport t (tree .report) p → (n : ℕ) → ReportsLong n p₀ → t < n
-        → Standing Fs D c₀ s₀ p₀ (t + 1) at′ c′ s′ p′
-    unfolding nextTree
-    standing-next tree e few at′ ea c′ ct cd s′ es hs p′ ep n lp hp =
-        record {
-          trees = st .trees ++ (tree ∷ []);
-          count = length-append (st .trees) (tree ∷ []) ∙ ap (λ k. k + 1) (st .count);
-          so =
-              ap (λ k. over (st .trees ++ (tree ∷ [])) (growTrees k (drop k Fs) D)) (add-one t)
-              ∙ over-next (st .trees) tree (growTrees (suc t) (drop (suc t) Fs) D)
-              ∙ ap (over (st .trees)) (sym (rest-is ∙ ap (λ o. nextTree t o (growTrees (suc t) (drop (suc t) Fs) D)) e))
-              ∙ st .so;
-          end = ap length (entries-next (st .trees) tree) ∙ length-append (forestEntries (st .trees)) (entries (tree .nodes))
-              ∙ (λ i. st .end i + length-entries (tree .nodes) i) ∙ sym ea;
-          nodes =
-              nodes-next c₀ c c′ (forestEntries (st .trees)) (entries (tree .nodes)) (st .nodes) (subst (λ k. takeAll k c′ ≡ takeAll k c) (sym (st .end)) ct)
-              (subst (λ k. dropAll k c′ ≡ writeEntries (entries (tree .nodes)) (dropAll k c)) (sym (st .end)) cd)
-              ∙ ap (λ l. writeEntries l c₀) (sym (entries-next (st .trees) tree));
-          starts =
-              es ∙ ap (λ l. set l (t + 1) at′) (st .starts)
-              ∙ front-set (startsFrom 0 (st .trees)) s₀ at′ 0 (t + 1) (starts-length 0 (st .trees) ∙ ap suc (st .count) ∙ sym (add-one t)) hs
-              ∙ ap (λ k. front (startsFrom 0 (st .trees) ++ (k ∷ [])) s₀) (ea ∙ ap (λ k. k + length (tree .nodes)) (sym (st .end) ∙ sym (zero-add (length (forestEntries (st .trees))))))
-              ∙ ap (λ l. front l s₀) (sym (starts-next 0 (st .trees) tree));
-          reports =
-              ep ∙ (λ i. putReport (sym (length-map (st .trees) (λ (x : Tree). x .report) ∙ st .count) i) (tree .report) (st .reports i))
-              ∙ report-next n p₀ (map (λ (x : Tree). x .report) (st .trees)) (tree .report) lp (subst (λ k. k < n) (sym (length-map (st .trees) (λ (x : Tree). x .report) ∙ st .count)) hp)
-              ∙ ap (λ l. writeReports l p₀) (sym (map-next (λ (x : Tree). x .report) (st .trees) tree));
-          room = subst (λ k. at′ + total roomFor (drop k Fs) ≤ total roomFor Fs) (sym (add-one t)) (fits at at′ (length (tree .nodes)) (roomFor F) (total roomFor (drop (suc t) Fs)) ea few room-here);
-        }
-      where
-        fits : (a a′ n r x : ℕ) → a′ ≡ a + n → n ≤ r → a + r + x ≤ total roomFor Fs → a′ + x ≤ total roomFor Fs
-        fits a a′ n r x e h k = omega arith
+    module _ (tree : Tree) (e : fit F D ≡ ok tree) (few : length (tree .nodes) ≤ roomFor F) (at′ : ℕ) (ea : at′ ≡ at + length (tree .nodes)) where
+      so-next : over (st .trees ++ (tree ∷ [])) (growTrees (t + 1) (drop (t + 1) Fs) D) ≡ growTrees 0 Fs D
+      unfolding nextTree
+      so-next =
+          ap (λ k. over (st .trees ++ (tree ∷ [])) (growTrees k (drop k Fs) D)) (add-one t)
+          ∙ over-next (st .trees) tree (growTrees (suc t) (drop (suc t) Fs) D)
+          ∙ ap (over (st .trees)) (sym (rest-is ∙ ap (λ o. nextTree t o (growTrees (suc t) (drop (suc t) Fs) D)) e))
+          ∙ st .so
+
+      starts-more : t < length es → 0 ∷ take (t + 1) (set es t at′) ≡ startsFrom 0 (st .trees ++ (tree ∷ []))
+      starts-more he =
+          ap (λ l. 0 ∷ l) (ap (λ k. take k (set es t at′)) (add-one t) ∙ take-next es t at′ he)
+          ∙ ap (λ l. l ++ (at′ ∷ [])) (st .starts)
+          ∙ ap (λ k. startsFrom 0 (st .trees) ++ (k ∷ [])) (ea ∙ ap (λ k. k + length (tree .nodes)) (sym (st .end) ∙ sym (zero-add (length (forestEntries (st .trees))))))
+          ∙ sym (starts-next 0 (st .trees) tree)
+
+      reports-more : t < length rs → take (t + 1) (set rs t (tree .report)) ≡ map (λ (x : Tree). x .report) (st .trees ++ (tree ∷ []))
+      reports-more hr =
+          ap (λ k. take k (set rs t (tree .report))) (add-one t) ∙ take-next rs t (tree .report) hr
+          ∙ ap (λ l. l ++ (tree .report ∷ [])) (st .reports)
+          ∙ sym (map-next (λ (x : Tree). x .report) (st .trees) tree)
+
+      pub standing-next : (c′ : Columns) → takeAll at c′ ≡ takeAll at c → dropAll at c′ ≡ writeEntries (entries (tree .nodes)) (dropAll at c)
+          → t < length rs → t < length es → Standing Fs D c₀ (t + 1) at′ c′ (set rs t (tree .report)) (set es t at′)
+      standing-next c′ ct cd hr he =
+          record {
+            trees = st .trees ++ (tree ∷ []);
+            count = length-append (st .trees) (tree ∷ []) ∙ ap (λ k. k + 1) (st .count);
+            so = so-next;
+            end = ap length (entries-next (st .trees) tree) ∙ length-append (forestEntries (st .trees)) (entries (tree .nodes))
+                ∙ (λ i. st .end i + length-entries (tree .nodes) i) ∙ sym ea;
+            nodes =
+                nodes-next c₀ c c′ (forestEntries (st .trees)) (entries (tree .nodes)) (st .nodes) (subst (λ k. takeAll k c′ ≡ takeAll k c) (sym (st .end)) ct)
+                (subst (λ k. dropAll k c′ ≡ writeEntries (entries (tree .nodes)) (dropAll k c)) (sym (st .end)) cd)
+                ∙ ap (λ l. writeEntries l c₀) (sym (entries-next (st .trees) tree));
+            reports = reports-more hr;
+            starts = starts-more he;
+            room = subst (λ k. at′ + total roomFor (drop k Fs) ≤ total roomFor Fs) (sym (add-one t))
+                (fits at at′ (length (tree .nodes)) (roomFor F) (total roomFor (drop (suc t) Fs)) ea few room-here);
+          }
+        where
+          fits : (a a′ n r x : ℕ) → a′ ≡ a + n → n ≤ r → a + r + x ≤ total roomFor Fs → a′ + x ≤ total roomFor Fs
+          fits a a′ n r x e h k = omega arith

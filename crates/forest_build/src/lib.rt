@@ -1,16 +1,14 @@
 // The trees of a forest, one after another: each with its own counts and its own part of both tapes, its nodes behind those of the one before.
-ghost use mathlib.Core.Path.{_≡_};
-ghost use Prim.Native.Nat.{_+_, _<_};
-ghost use lib.ListN.{length, set};
-ghost use Rattle.rules.specs.Lent.{Reports};
+ghost use lib.ListN.{length};
+ghost use Rattle.rules.specs.Lent.{columnsOf};
 ghost use Rattle.tree_build.specs.Plant.{dataIn};
-ghost use Rattle.forest_build.specs.Standing.{putReport, ReportsLong};
-ghost use Rattle.forest_build.specs.Next.{NextAsks, NextDone, oneTreeFor};
+ghost use Rattle.forest_build.specs.Lot.{lotOf, widthsOf};
+ghost use Rattle.forest_build.specs.Next.{NextAsks, NextDone};
 ghost use Rattle.forest_build.specs.All.{AllAsks, AllDone};
 use rules::Params;
 use rules::Place;
 use rules::Report;
-use tree_build::Planted;
+use tree_report::Planted;
 
 // All trees are grown, or where a bad draw was met.
 pub enum Grove {
@@ -18,17 +16,15 @@ pub enum Grove {
     Grown,
 }
 
+// How the growth of all trees ended; of the trees that are grown, the reports and the places where they end.
+pub struct Told {
+    pub end: Grove,
+    pub reports: [Report; 1024],
+    pub ends: [u32; 1024],
+}
+
 // Tree t, its nodes from place `at` of the node columns on.
 pub fn plant_next(
-    values: &[f64],
-    targets: &[f64],
-    weights: &[f64],
-    counts: &[u32],
-    listings: &[u32],
-    words: &[u32],
-    thresholds: &[f64],
-    wordstarts: &[usize],
-    thresholdstarts: &[usize],
     value: &mut [f64],
     feature: &mut [u32],
     threshold: &mut [f64],
@@ -40,30 +36,39 @@ pub fn plant_next(
     flags: &mut [bool],
     wholes: &mut [[u32; 6]],
     reals: &mut [[f64; 3]],
+    values: &[f64],
+    targets: &[f64],
+    weights: &[f64],
+    counts: &[u32],
+    listings: &[u32],
+    words: &[u32],
+    thresholds: &[f64],
+    wordstarts: &[usize],
+    thresholdstarts: &[usize],
     rows: usize,
     features: usize,
     p: Params,
     t: usize,
     at: usize,
 ) -> Planted
-    requires { ⌜ NextAsks features rows p (now weights) (now counts) (now words) (now thresholds) (now wordstarts) (now thresholdstarts) (dataIn (now values) (now targets) (now listings)) t at (record { value = now value; feature = now feature; threshold = now threshold; score = now score; trueChild = now truechild; falseChild = now falsechild }) (length (now order)) (length (now scratch)) (length (now flags)) (length (now wholes)) (length (now reals)) ⌝ }
-    ensures { λ r. ⌜ NextDone (oneTreeFor rows p (now (weights .entry)) (now (counts .entry)) (now (words .entry)) (now (thresholds .entry)) (now (wordstarts .entry)) (now (thresholdstarts .entry)) t) (dataIn (now (values .entry)) (now (targets .entry)) (now (listings .entry))) at (record { value = now (value .entry); feature = now (feature .entry); threshold = now (threshold .entry); score = now (score .entry); trueChild = now (truechild .entry); falseChild = now (falsechild .entry) }) (record { value = now (value .exit); feature = now (feature .exit); threshold = now (threshold .exit); score = now (score .exit); trueChild = now (truechild .exit); falseChild = now (falsechild .exit) }) r ⌝ }
+    requires { ⌜ NextAsks
+        (lotOf rows features p (now weights) (now counts) (now words) (now thresholds) (now wordstarts) (now thresholdstarts) (dataIn (now values) (now targets) (now listings)))
+        t at (columnsOf (now value) (now feature) (now threshold) (now score) (now truechild) (now falsechild))
+        (widthsOf (length (now order)) (now scratch) (now flags) (now wholes) (now reals)) ⌝ }
+    ensures { λ r. ⌜ NextDone
+        (lotOf rows features p (now (weights .entry)) (now (counts .entry)) (now (words .entry)) (now (thresholds .entry)) (now (wordstarts .entry)) (now (thresholdstarts .entry))
+        (dataIn (now (values .entry)) (now (targets .entry)) (now (listings .entry)))) t at
+        (columnsOf (now (value .entry)) (now (feature .entry)) (now (threshold .entry)) (now (score .entry)) (now (truechild .entry)) (now (falsechild .entry)))
+        (columnsOf (now (value .exit)) (now (feature .exit)) (now (threshold .exit)) (now (score .exit)) (now (truechild .exit)) (now (falsechild .exit))) r ⌝ }
 {
-    let base = t * rows;
-    let end = base + rows;
-    let next = t + 1;
-    let word = wordstarts[t];
-    let wordend = wordstarts[next];
-    let cut = thresholdstarts[t];
-    let cutend = thresholdstarts[next];
+    let part = forest_parts::parts_of(wordstarts, thresholdstarts, rows, t);
+    let count = part.count;
+    let countend = part.countend;
+    let word = part.word;
+    let wordend = part.wordend;
+    let cut = part.threshold;
+    let cutend = part.thresholdend;
     tree_build::plant(
-        values,
-        targets,
-        weights,
-        &counts[base..end],
-        listings,
-        &words[word..wordend],
-        &thresholds[cut..cutend],
         &mut value[at..],
         &mut feature[at..],
         &mut threshold[at..],
@@ -75,44 +80,32 @@ pub fn plant_next(
         flags,
         wholes,
         reals,
+        values,
+        targets,
+        weights,
+        &counts[count..countend],
+        listings,
+        &words[word..wordend],
+        &thresholds[cut..cutend],
         rows,
         features,
         p,
     )
 }
 
-// Where tree t ends, and its report. Answers where the next one starts.
-pub fn note(
-    starts: &mut [u32],
-    nodes: &mut [u32],
-    depth: &mut [u32],
-    mass: &mut [f64],
-    searches: &mut [u32],
-    words: &mut [u32],
-    thresholds: &mut [u32],
-    t: usize,
-    at: usize,
-    r: Report,
-) -> usize
-    requires { ⌜ (t + 1 < length (now starts)) × ((n : _) × (t < n) × ReportsLong n (record { nodes = now nodes; depth = now depth; mass = now mass; searches = now searches; words = now words; thresholds = now thresholds })) × (at + r .nodes < 4294967296) ⌝ }
-    ensures { λ e. ⌜ e ≡ at + r .nodes ⌝ }
-    ensures { λ e. ⌜ now (starts .exit) ≡ set (now (starts .entry)) (t + 1) (at + r .nodes) ⌝ }
-    ensures { λ e. ⌜ _≡_ {A = Reports} (record { nodes = now (nodes .exit); depth = now (depth .exit); mass = now (mass .exit); searches = now (searches .exit); words = now (words .exit); thresholds = now (thresholds .exit) }) (putReport t r (record { nodes = now (nodes .entry); depth = now (depth .entry); mass = now (mass .entry); searches = now (searches .entry); words = now (words .entry); thresholds = now (thresholds .entry) })) ⌝ }
-{
-    let end = at + slices::wide(r.nodes);
-    let next = t + 1;
-    starts[next] = end as u32;
-    nodes[t] = r.nodes;
-    depth[t] = r.depth;
-    mass[t] = r.mass;
-    searches[t] = r.searches;
-    words[t] = r.words;
-    thresholds[t] = r.thresholds;
-    end
-}
-
 // Tree after tree, from the first to the last or to a bad draw.
 pub fn plant_all(
+    value: &mut [f64],
+    feature: &mut [u32],
+    threshold: &mut [f64],
+    score: &mut [f64],
+    truechild: &mut [u32],
+    falsechild: &mut [u32],
+    order: &mut [u32],
+    scratch: &mut [u32],
+    flags: &mut [bool],
+    wholes: &mut [[u32; 6]],
+    reals: &mut [[f64; 3]],
     values: &[f64],
     targets: &[f64],
     weights: &[f64],
@@ -122,46 +115,35 @@ pub fn plant_all(
     thresholds: &[f64],
     wordstarts: &[usize],
     thresholdstarts: &[usize],
-    value: &mut [f64],
-    feature: &mut [u32],
-    threshold: &mut [f64],
-    score: &mut [f64],
-    truechild: &mut [u32],
-    falsechild: &mut [u32],
-    starts: &mut [u32],
-    nodes: &mut [u32],
-    depth: &mut [u32],
-    mass: &mut [f64],
-    searches: &mut [u32],
-    wordsused: &mut [u32],
-    thresholdsused: &mut [u32],
-    order: &mut [u32],
-    scratch: &mut [u32],
-    flags: &mut [bool],
-    wholes: &mut [[u32; 6]],
-    reals: &mut [[f64; 3]],
     rows: usize,
     features: usize,
     trees: usize,
     p: Params,
-) -> Grove
-    requires { ⌜ AllAsks (record { rows = rows; features = features; trees = trees; params = p; weights = now weights; counts = now counts; words = now words; thresholds = now thresholds; wordStarts = now wordstarts; thresholdStarts = now thresholdstarts; inputs = dataIn (now values) (now targets) (now listings) }) (record { value = now value; feature = now feature; threshold = now threshold; score = now score; trueChild = now truechild; falseChild = now falsechild }) (length (now starts)) (record { nodes = now nodes; depth = now depth; mass = now mass; searches = now searches; words = now wordsused; thresholds = now thresholdsused }) (record { order = length (now order); scratch = length (now scratch); flags = length (now flags); wholes = length (now wholes); reals = length (now reals) }) ⌝ }
-    ensures { λ r. ⌜ AllDone (record { rows = rows; features = features; trees = trees; params = p; weights = now (weights .entry); counts = now (counts .entry); words = now (words .entry); thresholds = now (thresholds .entry); wordStarts = now (wordstarts .entry); thresholdStarts = now (thresholdstarts .entry); inputs = dataIn (now (values .entry)) (now (targets .entry)) (now (listings .entry)) }) (record { value = now (value .entry); feature = now (feature .entry); threshold = now (threshold .entry); score = now (score .entry); trueChild = now (truechild .entry); falseChild = now (falsechild .entry) }) (record { value = now (value .exit); feature = now (feature .exit); threshold = now (threshold .exit); score = now (score .exit); trueChild = now (truechild .exit); falseChild = now (falsechild .exit) }) (now (starts .entry)) (now (starts .exit)) (record { nodes = now (nodes .entry); depth = now (depth .entry); mass = now (mass .entry); searches = now (searches .entry); words = now (wordsused .entry); thresholds = now (thresholdsused .entry) }) (record { nodes = now (nodes .exit); depth = now (depth .exit); mass = now (mass .exit); searches = now (searches .exit); words = now (wordsused .exit); thresholds = now (thresholdsused .exit) }) r ⌝ }
+) -> Told
+    requires { ⌜ AllAsks trees
+        (lotOf rows features p (now weights) (now counts) (now words) (now thresholds) (now wordstarts) (now thresholdstarts) (dataIn (now values) (now targets) (now listings)))
+        (columnsOf (now value) (now feature) (now threshold) (now score) (now truechild) (now falsechild))
+        (widthsOf (length (now order)) (now scratch) (now flags) (now wholes) (now reals)) ⌝ }
+    ensures { λ r. ⌜ AllDone trees
+        (lotOf rows features p (now (weights .entry)) (now (counts .entry)) (now (words .entry)) (now (thresholds .entry)) (now (wordstarts .entry)) (now (thresholdstarts .entry))
+        (dataIn (now (values .entry)) (now (targets .entry)) (now (listings .entry))))
+        (columnsOf (now (value .entry)) (now (feature .entry)) (now (threshold .entry)) (now (score .entry)) (now (truechild .entry)) (now (falsechild .entry)))
+        (columnsOf (now (value .exit)) (now (feature .exit)) (now (threshold .exit)) (now (score .exit)) (now (truechild .exit)) (now (falsechild .exit))) r ⌝ }
 {
-    starts[0] = 0;
+    let blank = Report {
+        nodes: 0,
+        depth: 0,
+        mass: 0.0,
+        searches: 0,
+        words: 0,
+        thresholds: 0,
+    };
+    let mut reports = [blank; 1024];
+    let mut ends = [0; 1024];
     let mut at: usize = 0;
     let mut t: usize = 0;
     while t < trees {
         let r = plant_next(
-            values,
-            targets,
-            weights,
-            counts,
-            listings,
-            words,
-            thresholds,
-            wordstarts,
-            thresholdstarts,
             value,
             feature,
             threshold,
@@ -173,6 +155,15 @@ pub fn plant_all(
             flags,
             wholes,
             reals,
+            values,
+            targets,
+            weights,
+            counts,
+            listings,
+            words,
+            thresholds,
+            wordstarts,
+            thresholdstarts,
             rows,
             features,
             p,
@@ -181,27 +172,25 @@ pub fn plant_all(
         );
         match r {
             Planted::BadDraw(k) => {
-                return Grove::Stopped(Place {
-                    tree: t as u32,
-                    search: k,
-                });
+                let tree = t as u32;
+                let place = Place { tree, search: k };
+                return Told {
+                    end: Grove::Stopped(place),
+                    reports,
+                    ends,
+                };
             }
             Planted::Grown(report) => {
-                at = note(
-                    starts,
-                    nodes,
-                    depth,
-                    mass,
-                    searches,
-                    wordsused,
-                    thresholdsused,
-                    t,
-                    at,
-                    report,
-                );
+                reports[t] = report;
+                at = forest_parts::end_of(at, report.nodes);
+                ends[t] = at as u32;
             }
         }
         t += 1;
     }
-    Grove::Grown
+    Told {
+        end: Grove::Grown,
+        reports,
+        ends,
+    }
 }

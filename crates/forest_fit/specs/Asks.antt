@@ -3,10 +3,12 @@ use Prim.Native.Nat.{ℕ, _+_, _-_, _*_, _<_, _≤_, max}
 use native.Mathlib.Nat.{suc-mul, mul-le-mul, mul-le-mul-right}
 use native.Mathlib.Omega.{arith}
 use mathlib.Core.Path.{_≡_, refl, sym, _∙_, subst}
+use mathlib.Core.List.{List}
 use lib.ListN.{length, drop, length-map, length-drop}
 use lib.Seq.{length-take-le}
 use lib.Dec.{T, eqb, eqb→eq}
 use Rattle.rules.specs.declared.Params.{Params}
+use Rattle.rules.specs.declared.Report.{Report}
 use Rattle.rules.specs.Words.{from, stretch, total}
 use Rattle.rules.specs.Lent.{OneTree, Reports, ForestRooms, WaitingRoom, waitingRoom, kept, keptRows}
 use Rattle.rules.specs.Checks.{firstFailed, goodStarts, roomFor, reportsExact}
@@ -15,11 +17,14 @@ use Rattle.rules.specs.Forest.{ForestCall, oneTreeAt, eachTree, tapesGood, fore
 use Rattle.lemmas.specs.Lists.{every-all, every-map, total-under, keep-short, length-from}
 use Rattle.lemmas.specs.Root.{Listed, fit-nodes, fit-reported}
 use Rattle.lemmas.specs.Passed.{ForestPassed, forest-passed, forest-framed, listed-right, Binary64, and2, and5, cut-at}
+use Rattle.rooms.specs.Enough.{WorkRoom, work-room}
 use Rattle.work_columns.specs.Setup.{counted-passed}
-use Rattle.tree_fit.specs.Ends.{none, WorkRoom, work-room}
-use Rattle.forest_build.specs.Standing.{ReportsLong}
-use Rattle.forest_build.specs.All.{AllAsks}
-use Rattle.forest_fit.specs.Ends.{lot, Made}
+use Rattle.forest_build.specs.Lot.{widthsOf}
+use Rattle.forest_build.specs.All.{AllAsks, ToldLong}
+use Rattle.forest_reports.specs.Reports.{ReportsLong, AllAsk}
+use Rattle.forest_grow.specs.Grown.{GrowAsks}
+use Rattle.forest_ready.specs.Ready.{Made}
+use Rattle.forest_fit.specs.Ends.{lot}
 
 reports-exact : (n : ℕ) (p : Reports) → T (reportsExact n p) → ReportsLong n p
 unfolding reportsExact
@@ -35,27 +40,34 @@ room-low F h = low (length (keptRows F)) (F .rows) (omega (arith, keep-short (ke
     low : (k n : ℕ) → k ≤ n → n ≤ 65535 → max 1 (2 * k - 1) ≤ 131069
     low k n a b = omega arith
 
-module _ (C : ForestCall) (R : ForestRooms WaitingRoom) (n : ℕ) (e : n ≡ firstFailed (forestTests waitingRoom C R)) (h : n ≤ 0) where
+module _ (C : ForestCall) (R : ForestRooms WaitingRoom) (e : firstFailed (forestTests waitingRoom C R) ≡ 0) where
   right : ForestPassed waitingRoom C R
-  right = forest-passed waitingRoom C R (sym e ∙ none n h)
+  right = forest-passed waitingRoom C R e
 
   room : WorkRoom (C .shape) (R .work)
   room = work-room (C .shape) (R .work) (right .work)
 
-  pub few-features : C .shape .features ≤ 1024
-  few-features = right .passed .fewFeatures
-
-  pub size-low : C .shape .features * C .shape .rows ≤ 1024 * 65535
-  size-low = mul-le-mul few-features (right .passed .fewRows)
-
-  pub size-room : C .shape .features * C .shape .rows ≤ length (R .work .order)
-  size-room = room .order
+  pub tell-asks : (rs : List Report) (es : List ℕ) → ToldLong rs es → AllAsk (C .trees) (R .starts) (R .reports) rs es
+  tell-asks rs es l =
+      record {
+        few = right .fewTrees;
+        starts = right .startsRoom;
+        reports = reports-exact (C .trees) (R .reports) (right .reports);
+        told = omega (arith, right .fewTrees, l .reports);
+        ends = omega (arith, right .fewTrees, l .ends);
+      }
 
   -- tree t's counts lie within the counts
   counted : (t : ℕ) → t < C .trees → t * C .shape .rows + C .shape .rows ≤ length (C .given .counts)
   counted t k =
       subst (λ m. t * C .shape .rows + C .shape .rows ≤ m) (sym (right .passed .countsLong))
       (subst (λ m. m ≤ C .trees * C .shape .rows) (suc-mul t (C .shape .rows)) (mul-le-mul-right (C .shape .rows) k))
+
+  small : (t : ℕ) → t < C .trees → t * C .shape .rows + C .shape .rows < 4294967296
+  small t k = under _ _ (counted t k) (subst (λ m. m ≤ 1024 * 65535) (sym (right .passed .countsLong)) (mul-le-mul (right .fewTrees) (right .passed .fewRows)))
+    where
+      under : (a b : ℕ) → a ≤ b → b ≤ 1024 * 65535 → a < 4294967296
+      under a b x y = omega arith
 
   low : total roomFor (eachTree C) < 4294967296
   unfolding eachTree oneTreeAt
@@ -74,14 +86,14 @@ module _ (C : ForestCall) (R : ForestRooms WaitingRoom) (n : ℕ) (e : n ≡ fir
     listed : (t : ℕ) → Listed (oneTreeAt C t) (C .given .inputs)
     listed t = listed-right (C .shape) (C .trees) (C .given) (right .passed) (oneTreeAt C t) (forest-framed C (right .passed) t) held
 
-    pub all-asks : AllAsks (lot C p) (R .nodes) (length (R .starts)) (R .reports)
-        (record { order = k; scratch = length (R .work .scratch); flags = length (R .work .flags); wholes = length (R .work .waiting .wholes); reals = length (R .work .waiting .reals) })
+    trees-ask : AllAsks (C .trees) (lot C p) (R .nodes) (widthsOf k (R .work .scratch) (R .work .flags) (R .work .waiting .wholes) (R .work .waiting .reals))
     unfolding eachTree oneTreeAt tapesGood paramsOf
-    all-asks =
+    trees-ask =
         let q = right .passed in
-        let (w, d) = and2 (goodStarts (C .trees) (length (C .words)) (C .wordStarts)) (goodStarts (C .trees) (length (C .thresholds)) (C .thresholdStarts)) (right .cuts) in
-        subst (λ p′. AllAsks (lot C p′) (R .nodes) (length (R .starts)) (R .reports)
-        (record { order = k; scratch = length (R .work .scratch); flags = length (R .work .flags); wholes = length (R .work .waiting .wholes); reals = length (R .work .waiting .reals) })) (sym (m .same))
+        let (w, d) =
+        and2 (goodStarts (C .trees) (length (C .words)) (C .wordStarts)) (goodStarts (C .trees) (length (C .thresholds)) (C .thresholdStarts)) (right .cuts) in
+        subst (λ p′. AllAsks (C .trees) (lot C p′) (R .nodes) (widthsOf k (R .work .scratch) (R .work .flags) (R .work .waiting .wholes) (R .work .waiting .reals)))
+        (sym (m .same))
         (record {
           fine = λ t b c r.
               record {
@@ -95,7 +107,7 @@ module _ (C : ForestCall) (R : ForestRooms WaitingRoom) (n : ℕ) (e : n ≡ fir
                 tables = counted-passed (C .shape .rows) (C .given .weights) _ (part-long t (counted t b)) (q .weightsLong);
                 low = forest-framed C q t .low;
                 listings = q .listingsLong;
-                features-few = few-features;
+                features-few = q .fewFeatures;
                 deep = subst (λ (p′ : Params). p′ .limit ≤ 65535) (m .same) (m .deep);
                 col-room = ek;
                 scratch-room = room .scratch;
@@ -104,17 +116,20 @@ module _ (C : ForestCall) (R : ForestRooms WaitingRoom) (n : ℕ) (e : n ≡ fir
                 real-room = room .reals;
                 node-room = r;
               };
+          small = small;
           counted = counted;
           word = cut-at (C .trees) (length (C .words)) (C .wordStarts) w;
           threshold = cut-at (C .trees) (length (C .thresholds)) (C .thresholdStarts) d;
           nodes = λ t b. fit-nodes (oneTreeAt C t) (C .given .inputs) (listed t) (q .someFeatures);
           reported = λ t b. fit-reported (oneTreeAt C t) (C .given .inputs);
           few = right .fewTrees;
-          startsRoom = right .startsRoom;
-          reports = reports-exact (C .trees) (R .reports) (right .reports);
           room = right .room;
           low = low;
         })
       where
-        part-long : (t : ℕ) → t * C .shape .rows + C .shape .rows ≤ length (C .given .counts) → length (stretch (t * C .shape .rows) (C .shape .rows) (C .given .counts)) ≡ C .shape .rows
+        part-long : (t : ℕ) → t * C .shape .rows + C .shape .rows ≤ length (C .given .counts)
+            → length (stretch (t * C .shape .rows) (C .shape .rows) (C .given .counts)) ≡ C .shape .rows
         part-long t b = length-take-le (C .shape .rows) (drop (t * C .shape .rows) (C .given .counts)) (omega (arith, length-drop (t * C .shape .rows) (C .given .counts)))
+
+    pub all-asks : GrowAsks (C .trees) (lot C p) (R .nodes) (R .work .order) k (widthsOf k (R .work .scratch) (R .work .flags) (R .work .waiting .wholes) (R .work .waiting .reals))
+    all-asks = record { high = subst (λ n. n ≤ length (R .work .order)) (sym ek) (room .order); all = trees-ask }

@@ -1,80 +1,16 @@
-// The fit of a forest: checks, its trees one after another, and the rooms as they are left.
+// The fit of a forest: checks, its trees one after another, and what is told of them.
 ghost use mathlib.Core.Path.{_≡_};
-ghost use Rattle.rules.specs.Lent.{Reports, ForestRooms, Outcome, WaitingRoom, waitingRoom, zeroReports, givenOf};
-ghost use Rattle.rules.specs.Forest.{fitForest};
-ghost use Rattle.forest_fit.specs.Ends.{Left, leaves};
+ghost use Rattle.rules.specs.Lent.{waitingRoom, givenOf, columnsOf, reportsOf, workOf, forestRoomsOf, outcomeOf};
+ghost use Rattle.rules.specs.Forest.{fitForest, forestCall};
 use checks::Lengths;
 use checks::ReportLengths;
-use forest_build::Grove;
+use forest_ready::Plan;
 use rules::ForestAnswer;
 use rules::Settings;
 use rules::Shape;
 use rules::Tried;
 
-fn zero_reports(
-    nodes: &mut [u32],
-    depth: &mut [u32],
-    mass: &mut [f64],
-    searches: &mut [u32],
-    words: &mut [u32],
-    thresholds: &mut [u32],
-)
-    ensures { λ _. ⌜ _≡_ {A = Reports} (record { nodes = now (nodes .exit); depth = now (depth .exit); mass = now (mass .exit); searches = now (searches .exit); words = now (words .exit); thresholds = now (thresholds .exit) })
-        (zeroReports (record { nodes = now (nodes .entry); depth = now (depth .entry); mass = now (mass .entry); searches = now (searches .entry); words = now (words .entry); thresholds = now (thresholds .entry) })) ⌝ }
-{
-    slices::zero_u32(nodes);
-    slices::zero_u32(depth);
-    slices::zero_f64(mass);
-    slices::zero_u32(searches);
-    slices::zero_u32(words);
-    slices::zero_u32(thresholds);
-}
-
-// Grown trees stay as they are; a bad draw leaves nodes, starts and reports zero.
-fn leave(
-    value: &mut [f64],
-    feature: &mut [u32],
-    threshold: &mut [f64],
-    score: &mut [f64],
-    truechild: &mut [u32],
-    falsechild: &mut [u32],
-    starts: &mut [u32],
-    nodes: &mut [u32],
-    depth: &mut [u32],
-    mass: &mut [f64],
-    searches: &mut [u32],
-    words: &mut [u32],
-    thresholds: &mut [u32],
-    r: Grove,
-) -> ForestAnswer
-    ensures { λ a. ⌜ _≡_ {A = Left} (record { answer = a; nodes = record { value = now (value .exit); feature = now (feature .exit); threshold = now (threshold .exit); score = now (score .exit); trueChild = now (truechild .exit); falseChild = now (falsechild .exit) }; starts = now (starts .exit); reports = record { nodes = now (nodes .exit); depth = now (depth .exit); mass = now (mass .exit); searches = now (searches .exit); words = now (words .exit); thresholds = now (thresholds .exit) } })
-        (leaves r (record { value = now (value .entry); feature = now (feature .entry); threshold = now (threshold .entry); score = now (score .entry); trueChild = now (truechild .entry); falseChild = now (falsechild .entry) }) (now (starts .entry)) (record { nodes = now (nodes .entry); depth = now (depth .entry); mass = now (mass .entry); searches = now (searches .entry); words = now (words .entry); thresholds = now (thresholds .entry) })) ⌝ }
-{
-    match r {
-        Grove::Stopped(place) => {
-            tree_fit::zero_nodes(value, feature, threshold, score, truechild, falsechild);
-            slices::zero_u32(starts);
-            zero_reports(nodes, depth, mass, searches, words, thresholds);
-            ForestAnswer::BadDraw(place)
-        }
-        Grove::Grown => ForestAnswer::Grown,
-    }
-}
-
 pub fn fit_forest(
-    shape: Shape,
-    trees: usize,
-    settings: Settings,
-    tried: Tried,
-    values: &[f64],
-    targets: &[f64],
-    weights: &[f64],
-    counts: &[u32],
-    listings: &[u32],
-    words: &[u32],
-    thresholds: &[f64],
-    wordstarts: &[usize],
-    thresholdstarts: &[usize],
     value: &mut [f64],
     feature: &mut [u32],
     threshold: &mut [f64],
@@ -93,12 +29,34 @@ pub fn fit_forest(
     flags: &mut [bool],
     wholes: &mut [[u32; 6]],
     reals: &mut [[f64; 3]],
+    values: &[f64],
+    targets: &[f64],
+    weights: &[f64],
+    counts: &[u32],
+    listings: &[u32],
+    words: &[u32],
+    thresholds: &[f64],
+    wordstarts: &[usize],
+    thresholdstarts: &[usize],
+    shape: Shape,
+    trees: usize,
+    settings: Settings,
+    tried: Tried,
 ) -> ForestAnswer
-    ensures { λ a. ⌜ _≡_ {A = Outcome ForestAnswer (ForestRooms WaitingRoom)}
-        (record { answer = a; rooms = record { nodes = record { value = now (value .exit); feature = now (feature .exit); threshold = now (threshold .exit); score = now (score .exit); trueChild = now (truechild .exit); falseChild = now (falsechild .exit) }; starts = now (starts .exit); reports = record { nodes = now (nodes .exit); depth = now (depth .exit); mass = now (mass .exit); searches = now (searches .exit); words = now (wordsused .exit); thresholds = now (thresholdsused .exit) }; work = record { order = now (order .exit); scratch = now (scratch .exit); flags = now (flags .exit); waiting = record { wholes = now (wholes .exit); reals = now (reals .exit) } } } })
-        (fitForest waitingRoom
-        (record { shape = shape; trees = trees; settings = settings; tried = tried; given = givenOf (now (values .entry)) (now (targets .entry)) (now (weights .entry)) (now (counts .entry)) (now (listings .entry)); words = now (words .entry); thresholds = now (thresholds .entry); wordStarts = now (wordstarts .entry); thresholdStarts = now (thresholdstarts .entry) })
-        (record { nodes = record { value = now (value .entry); feature = now (feature .entry); threshold = now (threshold .entry); score = now (score .entry); trueChild = now (truechild .entry); falseChild = now (falsechild .entry) }; starts = now (starts .entry); reports = record { nodes = now (nodes .entry); depth = now (depth .entry); mass = now (mass .entry); searches = now (searches .entry); words = now (wordsused .entry); thresholds = now (thresholdsused .entry) }; work = record { order = now (order .entry); scratch = now (scratch .entry); flags = now (flags .entry); waiting = record { wholes = now (wholes .entry); reals = now (reals .entry) } } })) ⌝ }
+    ensures { λ a. ⌜ outcomeOf a (forestRoomsOf
+        (columnsOf (now (value .exit)) (now (feature .exit)) (now (threshold .exit)) (now (score .exit)) (now (truechild .exit)) (now (falsechild .exit)))
+        (now (starts .exit))
+        (reportsOf (now (nodes .exit)) (now (depth .exit)) (now (mass .exit)) (now (searches .exit)) (now (wordsused .exit)) (now (thresholdsused .exit)))
+        (workOf (now (order .exit)) (now (scratch .exit)) (now (flags .exit)) (now (wholes .exit)) (now (reals .exit))))
+        ≡ fitForest waitingRoom
+        (forestCall shape trees settings tried
+        (givenOf (now (values .entry)) (now (targets .entry)) (now (weights .entry)) (now (counts .entry)) (now (listings .entry)))
+        (now (words .entry)) (now (thresholds .entry)) (now (wordstarts .entry)) (now (thresholdstarts .entry)))
+        (forestRoomsOf
+        (columnsOf (now (value .entry)) (now (feature .entry)) (now (threshold .entry)) (now (score .entry)) (now (truechild .entry)) (now (falsechild .entry)))
+        (now (starts .entry))
+        (reportsOf (now (nodes .entry)) (now (depth .entry)) (now (mass .entry)) (now (searches .entry)) (now (wordsused .entry)) (now (thresholdsused .entry)))
+        (workOf (now (order .entry)) (now (scratch .entry)) (now (flags .entry)) (now (wholes .entry)) (now (reals .entry)))) ⌝ }
 {
     let places = slices::shortest_of(
         value.len(),
@@ -124,78 +82,65 @@ pub fn fit_forest(
         words: wordsused.len(),
         thresholds: thresholdsused.len(),
     };
-    let n = checks::forest::forest_verdict(
-        shape,
-        trees,
+    let plan = forest_ready::ready(
         values,
         targets,
         weights,
         counts,
         listings,
-        words.len(),
-        thresholds.len(),
         wordstarts,
         thresholdstarts,
+        shape,
+        trees,
+        settings,
+        tried,
+        words.len(),
+        thresholds.len(),
         room,
         starts.len(),
         reports,
     );
-    if 0 < n {
-        return ForestAnswer::Refused(n);
+    match plan {
+        Plan::Refused(n) => ForestAnswer::Refused(n),
+        Plan::Grow(growing) => {
+            let told = forest_grow::grow(
+                value,
+                feature,
+                threshold,
+                score,
+                truechild,
+                falsechild,
+                order,
+                scratch,
+                flags,
+                wholes,
+                reals,
+                values,
+                targets,
+                weights,
+                counts,
+                listings,
+                words,
+                thresholds,
+                wordstarts,
+                thresholdstarts,
+                shape.rows,
+                shape.features,
+                trees,
+                growing.params,
+                growing.size,
+            );
+            forest_reports::tell(
+                starts,
+                nodes,
+                depth,
+                mass,
+                searches,
+                wordsused,
+                thresholdsused,
+                trees,
+                told,
+            )
+        }
     }
-    let rows = shape.rows;
-    let features = shape.features;
-    let size = features * rows;
-    let m = criterion::tried_of(features as u32, tried);
-    let p = tree_build::params_of(settings, m, features);
-    let r = forest_build::plant_all(
-        values,
-        targets,
-        weights,
-        counts,
-        listings,
-        words,
-        thresholds,
-        wordstarts,
-        thresholdstarts,
-        value,
-        feature,
-        threshold,
-        score,
-        truechild,
-        falsechild,
-        starts,
-        nodes,
-        depth,
-        mass,
-        searches,
-        wordsused,
-        thresholdsused,
-        &mut order[0..size],
-        scratch,
-        flags,
-        wholes,
-        reals,
-        rows,
-        features,
-        trees,
-        p,
-    );
-    tree_fit::zero_work(order, scratch, flags, wholes, reals);
-    leave(
-        value,
-        feature,
-        threshold,
-        score,
-        truechild,
-        falsechild,
-        starts,
-        nodes,
-        depth,
-        mass,
-        searches,
-        wordsused,
-        thresholdsused,
-        r,
-    )
 }

@@ -84,16 +84,6 @@ fn fit(
     let mut wholes = [[9u32; 6]; 64];
     let mut triples = [[9.0; 3]; 64];
     let a = tree_fit::fit_tree(
-        shape,
-        settings,
-        tried,
-        values,
-        targets,
-        weights,
-        counts,
-        listings,
-        words,
-        thresholds,
         rooms::lent_reals(lengths, 0, &mut value),
         rooms::lent_words(lengths, 1, &mut feature),
         rooms::lent_reals(lengths, 2, &mut threshold),
@@ -105,6 +95,16 @@ fn fit(
         rooms::lent_flags(lengths, 8, &mut flags),
         rooms::lent_wholes(lengths, 9, &mut wholes),
         rooms::lent_triples(lengths, 9, &mut triples),
+        values,
+        targets,
+        weights,
+        counts,
+        listings,
+        words,
+        thresholds,
+        shape,
+        settings,
+        tried,
     );
     compare(
         answer,

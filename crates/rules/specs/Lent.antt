@@ -108,6 +108,10 @@ pub record Reports : Type 0 where
   pub words : List ℕ
   pub thresholds : List ℕ
 
+-- R2.11: from slices
+abbrev pub reportsOf : List ℕ → List ℕ → List Float → List ℕ → List ℕ → List ℕ → Reports
+reportsOf n d m s w t = record { nodes = n; depth = d; mass = m; searches = s; words = w; thresholds = t }
+
 -- R2.12: a waiting list of any form: how many places it has, and what it is when all are zero
 pub record WaitingForm (W : Type 0) : Type 0 where
   pub places : W → ℕ
@@ -133,6 +137,11 @@ pub record Work (W : Type 0) : Type 0 where
   pub flags : List Bool
   pub waiting : W
 
+-- R2.14: from slices
+abbrev pub workOf : List ℕ → List ℕ → List Bool → List (List ℕ) → List (List Float) → Work WaitingRoom
+workOf order scratch flags wholes reals =
+    record { order = order; scratch = scratch; flags = flags; waiting = record { wholes = wholes; reals = reals } }
+
 -- R2.15
 pub record TreeRooms (W : Type 0) : Type 0 where
   pub nodes : Columns
@@ -145,10 +154,22 @@ pub record ForestRooms (W : Type 0) : Type 0 where
   pub reports : Reports
   pub work : Work W
 
+-- R2.15
+abbrev pub treeRoomsOf : Columns → Work WaitingRoom → TreeRooms WaitingRoom
+treeRoomsOf nodes work = record { nodes = nodes; work = work }
+
+-- R2.15
+abbrev pub forestRoomsOf : Columns → List ℕ → Reports → Work WaitingRoom → ForestRooms WaitingRoom
+forestRoomsOf nodes starts reports work = record { nodes = nodes; starts = starts; reports = reports; work = work }
+
 -- R2.16: what a call leaves: its answer, and the rooms
 pub record Outcome (A R : Type 0) : Type 0 where
   pub answer : A
   pub rooms : R
+
+-- R2.16
+abbrev pub outcomeOf : {A R : Type 0} → A → R → Outcome A R
+outcomeOf answer rooms = record { answer = answer; rooms = rooms }
 
 -- ---- node room
 

@@ -7,7 +7,6 @@ use lib.ListN.{length}
 use lib.Dec.{T, leb}
 use lib.Ieee.{Float}
 use Rattle.rules.specs.declared.Params.{Params}
-use Rattle.rules.specs.declared.Settings.{Settings}
 use Rattle.rules.specs.declared.Totals.{Totals}
 use Rattle.rules.specs.declared.Report.{Report}
 use Rattle.rules.specs.Words.{from, keep, total, eachOnce}
@@ -16,7 +15,7 @@ use Rattle.rules.specs.Totals.{empty}
 use Rattle.rules.specs.Checks.{roomFor}
 use Rattle.rules.specs.Draws.{bad, ok}
 use Rattle.rules.specs.Search.{totalsOf}
-use Rattle.rules.specs.Fit.{elementIn, limitOf, paramsOf, listing, root, Tree, entries, fit}
+use Rattle.rules.specs.Fit.{elementIn, listing, root, Tree, entries, fit}
 use Rattle.lemmas.specs.Lists.{Every}
 use Rattle.lemmas.specs.Root.{Listed, root-good, root-rows}
 use Rattle.lemmas.specs.Room.{rowsOf}
@@ -26,13 +25,10 @@ use Rattle.work_columns.specs.Columns.{Counted, KeptAll, bare}
 use Rattle.work_columns.specs.Kept.{root-made, kept-below}
 use Rattle.node_entries.specs.Entries.{LongAll}
 use Rattle.node_growth.specs.Rooms.{Ground}
-use Rattle.tree_growth.specs.declared.At.{At}
-use Rattle.tree_growth.specs.declared.Turned.{Turned}
-use Rattle.tree_growth.specs.declared.Turned.the-variants.{Refused, Goes}
 use Rattle.tree_growth.specs.Tree.{TreeAsks, rootRows}
+use Rattle.tree_report.specs.declared.Planted.{Planted}
+use Rattle.tree_report.specs.declared.Planted.the-variants.{BadDraw, Grown}
 use Rattle.tree_build.specs.declared.Root.{Root}
-use Rattle.tree_build.specs.declared.Planted.{Planted}
-use Rattle.tree_build.specs.declared.Planted.the-variants.{BadDraw, Grown}
 
 -- what is lent, as the rules have it
 abbrev pub frameIn : ℕ → Params → List Float → List ℕ → List ℕ → List Float → OneTree
@@ -40,17 +36,6 @@ frameIn rows p weights counts words thresholds = record { rows = rows; params = 
 
 abbrev pub dataIn : List Float → List Float → List ℕ → Data
 dataIn values targets listings = record { values = values; targets = targets; listings = listings }
-
--- the settings, with the depth as a number of 16 bits
-pub record ParamsMade (S : Settings) (tried features : ℕ) (p : Params) : Type 0 where
-  pub same : p ≡ paramsOf S tried features
-  pub deep : p .limit ≤ 65535
-
-pub params-made : (S : Settings) (tried features : ℕ) {l f : ℕ} → (l ≡ limitOf (S .depth)) × (l ≤ 65535) → f ≡ features
-    → ParamsMade S tried features (record { limit = l; leaf = S .leaf; split = S .split; tried = tried; features = f; splitter = S .splitter })
-unfolding paramsOf
-params-made S tried features el ef =
-    record { same = λ i. record { limit = el .0 i; leaf = S .leaf; split = S .split; tried = tried; features = ef i; splitter = S .splitter }; deep = el .1 }
 
 -- ---- set-up
 
@@ -70,44 +55,11 @@ pub record SetUp (rows features : ℕ) (targets weights : List Float) (counts li
   pub count : r .asked .count ≡ total (countIn counts) (keep (keptIn weights counts) (from 0 rows))
   pub most : r .most ≡ max 1 (2 * r .kept - 1)
 
-pub set-up-made : {rows features : ℕ} {targets weights : List Float} {counts listings order : List ℕ} {k kept count most : ℕ} {t : Totals}
-    → KeptAll (keptIn weights counts) rows features listings order k → t ≡ totalsOf empty (map (bare targets weights counts) (from 0 rows))
-    → count ≡ total (countIn counts) (keep (keptIn weights counts) (from 0 rows)) → most ≡ max 1 (2 * k - 1) → kept ≡ k
+pub set-up-made : {rows features : ℕ} {targets weights : List Float} {counts listings order : List ℕ} {kept count most : ℕ} {t : Totals}
+    → KeptAll (keptIn weights counts) rows features listings order kept → t ≡ totalsOf empty (map (bare targets weights counts) (from 0 rows))
+    → count ≡ total (countIn counts) (keep (keptIn weights counts) (from 0 rows)) → most ≡ max 1 (2 * kept - 1)
     → SetUp rows features targets weights counts listings order (record { kept = kept; most = most; asked = record { totals = t; count = count } })
-set-up-made {rows} {features} {targets} {weights} {counts} {listings} {order} s et en em ek =
-    record {
-      kept = subst (KeptAll (keptIn weights counts) rows features listings order) (sym ek) s;
-      totals = et;
-      count = en;
-      most = em ∙ ap (λ n. max 1 (2 * n - 1)) (sym ek);
-    }
-
--- ---- the growth's answer
-
-pub record ReportAsks (words thresholds : ℕ) (at : At) : Type 0 where
-  pub searches : at .drawn .searches < 4294967296
-  pub words-used : min (at .drawn .words) words < 4294967296
-  pub thresholds-used : min (at .drawn .thresholds) thresholds < 4294967296
-
-abbrev pub TellAsks : ℕ → ℕ → Turned → Type 0
-TellAsks words thresholds (Refused k) = k < 4294967296
-TellAsks words thresholds (Goes at) = ReportAsks words thresholds at
-
--- of a tape, what was used is at most the tape
-abbrev pub reportAt : Float → ℕ → ℕ → At → Report
-reportAt mass words thresholds at =
-    record {
-      nodes = at .nodes;
-      depth = at .depth;
-      mass = mass;
-      searches = at .drawn .searches;
-      words = min (at .drawn .words) words;
-      thresholds = min (at .drawn .thresholds) thresholds;
-    }
-
-abbrev pub told : Float → ℕ → ℕ → Turned → Planted
-told mass words thresholds (Refused k) = BadDraw k
-told mass words thresholds (Goes at) = Grown (reportAt mass words thresholds at)
+set-up-made s et en em = record { kept = s; totals = et; count = en; most = em }
 
 -- ---- the whole
 
@@ -146,19 +98,6 @@ pub record PlantDone (F : OneTree) (D : Data) (c c′ : Columns) (r : Planted) :
   pub done : Answers F D c c′ r
 
 -- ---- the root that is laid out is the definition's, and may be grown
-
-pub report-made : (mass : Float) (words thresholds : ℕ) (at : At) {s w t : ℕ} → s ≡ at .drawn .searches → w ≡ min (at .drawn .words) words → t ≡ min (at .drawn .thresholds) thresholds
-    → _≡_ {A = Report} (record { nodes = at .nodes; depth = at .depth; mass = mass; searches = s; words = w; thresholds = t }) (reportAt mass words thresholds at)
-report-made mass words thresholds at es ew et = λ i. record { nodes = at .nodes; depth = at .depth; mass = mass; searches = es i; words = ew i; thresholds = et i }
-
--- node columns as long as others are
-pub record NodesLong (c c′ : Columns) : Type 0 where
-  pub value : length (c′ .value) ≡ length (c .value)
-  pub feature : length (c′ .feature) ≡ length (c .feature)
-  pub threshold : length (c′ .threshold) ≡ length (c .threshold)
-  pub score : length (c′ .score) ≡ length (c .score)
-  pub truechild : length (c′ .trueChild) ≡ length (c .trueChild)
-  pub falsechild : length (c′ .falseChild) ≡ length (c .falseChild)
 
 under : (m a b : ℕ) → m ≤ min a b → (m ≤ a) × (m ≤ b)
 under m a b h = (omega arith, omega arith)

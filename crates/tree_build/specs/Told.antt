@@ -20,9 +20,10 @@ use Rattle.tree_growth.specs.declared.At.{At}
 use Rattle.tree_growth.specs.declared.Turned.{Turned}
 use Rattle.tree_growth.specs.declared.Turned.the-variants.{Refused, Goes}
 use Rattle.tree_growth.specs.Tree as G
-use Rattle.tree_build.specs.declared.Planted.{Planted}
+use Rattle.tree_report.specs.declared.Planted.{Planted}
+use Rattle.tree_report.specs.Report.{ReportAsks, TellAsks, told}
 use Rattle.tree_build.specs.declared.Root.{Root}
-use Rattle.tree_build.specs.Plant.{SetUp, ReportAsks, TellAsks, told, PlantAsks, PlantDone, ground, root-is, enough, most-low, root-fine}
+use Rattle.tree_build.specs.Plant.{SetUp, PlantAsks, PlantDone, ground, root-is, enough, most-low, root-fine}
 
 -- how far a tape is used, from what is left of it
 used-up : {A : Type 0} (l : List A) (n : ℕ) → min n (length l) ≡ length l - length (drop n l)

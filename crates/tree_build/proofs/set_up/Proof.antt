@@ -16,23 +16,16 @@ kept-count-requires c κs = search needs
 most-nodes-requires : tie.Need-most-nodes-requires
 most-nodes-requires c κs = search needs
 
-narrow-requires : tie.Need-narrow-requires
-narrow-requires c κs = search needs
+cast-few : tie.Need-cast-few
+cast-few c = search needs
 
 same-length : tie.Need-same-length
 same-length c = search needs
 
 returns : tie.Need-returns
-returns c = set-up-made (c .before .before .before .before .before .before .kept-columns .ensures) (c .before .before .before .root-totals .ensures) (c .before .before .kept-count .ensures) (c .before .most-nodes .ensures) (c .narrow .ensures)
+returns c = set-up-made (c .before .before .before .before .before .kept-columns .ensures) (c .before .before .root-totals .ensures) (c .before .kept-count .ensures) (c .most-nodes .ensures)
 
 pub set-up-spec : {M : Type 1} → statement M
 set-up-spec =
     tie.close
-    (tie.spec
-    kept-columns-requires
-    root-totals-requires
-    kept-count-requires
-    most-nodes-requires
-    narrow-requires
-    same-length
-    returns)
+    (tie.spec kept-columns-requires root-totals-requires kept-count-requires most-nodes-requires cast-few same-length returns)

@@ -1,0 +1,50 @@
+-- `forest_grow::leave_nodes` meets its contract: a match on how the growth ended. Assumes nothing.
+use mathlib.Core.Path.{sym, ap, _∙_}
+use denote.Ref.{now}
+use borrow.Author.Needs.{needs}
+use Rattle.rules.specs.Lent.{Columns, columnsOf}
+use Rattle.forest_grow.specs.Grown.{nodesLeft}
+use Rattle.forest_grow.proofs.leave_nodes.Statement.{statement}
+use Rattle.forest_grow.proofs.leave_nodes.Tie as tie
+
+abbrev nodes : tie.Start → Columns
+nodes s =
+    let a = s .args in columnsOf (now (a .value)) (now (a .feature)) (now (a .threshold)) (now (a .score)) (now (a .truechild)) (now (a .falsechild))
+
+enum-told : tie.Need-enum-told
+enum-told c = search needs
+
+zero-nodes-requires : tie.Need-zero-nodes-requires
+zero-nodes-requires c κs = tt
+
+enum-told-2 : tie.Need-enum-told-2
+enum-told-2 c = search needs
+
+same-length : tie.Need-same-length
+same-length c = c .before .before .before .before .before .before .before .before .before .before .before .before .zero-nodes .kept .0
+
+same-length-2 : tie.Need-same-length-2
+same-length-2 c = c .before .before .before .before .before .before .before .before .before .before .before .before .zero-nodes .kept .1 .0
+
+same-length-3 : tie.Need-same-length-3
+same-length-3 c = c .before .before .before .before .before .before .before .before .before .before .before .before .zero-nodes .kept .1 .1 .0
+
+same-length-4 : tie.Need-same-length-4
+same-length-4 c = c .before .before .before .before .before .before .before .before .before .before .before .before .zero-nodes .kept .1 .1 .1 .0
+
+same-length-5 : tie.Need-same-length-5
+same-length-5 c = c .before .before .before .before .before .before .before .before .before .before .before .before .zero-nodes .kept .1 .1 .1 .1 .0
+
+same-length-6 : tie.Need-same-length-6
+same-length-6 c = c .before .before .before .before .before .before .before .before .before .before .before .before .zero-nodes .kept .1 .1 .1 .1 .1 .0
+
+returns : tie.Need-returns
+returns c = c .before .before .before .before .before .before .before .before .before .before .before .before .zero-nodes .ensures ∙ sym (ap (λ g. nodesLeft g (nodes (c .before .before .before .before .before .before .before .before .before .before .before .before .before .before .before .before .before .before .before .before .before .before .before .before .before .before .before))) (c .before .before .before .before .before .before .before .before .before .before .before .before .before .before .before .before .before .before .before .enum-told .given .1))
+
+returns-2 : tie.Need-returns-2
+returns-2 c = sym (ap (λ g. nodesLeft g (nodes (c .before .before .before .before .before .before .before .before))) (c .enum-told2 .given .1))
+
+pub leave-nodes-spec : {M : Type 1} → statement M
+leave-nodes-spec =
+    tie.close
+    (tie.spec enum-told zero-nodes-requires enum-told-2 same-length same-length-2 same-length-3 same-length-4 same-length-5 same-length-6 returns returns-2)

@@ -1,0 +1,4 @@
+-- The parts of counts and tapes. Nothing is assumed.
+
+-- from where to where each tree has them
+pub mod Parts
