@@ -182,6 +182,5 @@ module _ {W : Type 0} (K : WaitingForm W) where
         le-trans
         (grew-room (eachTree C) (C .given .inputs) (a .trees) (a .grew)
         (every-map _ (oneTreeAt C) (from 0 (C .trees))
-        (every-all _ (λ t. fit-nodes (oneTreeAt C t) (C .given .inputs) (listed-right (C .shape) (C .trees) (C .given) p (oneTreeAt C t) (forest-framed C p t) held)
-        (p .someFeatures)) (from 0 (C .trees)))))
+        (every-all _ (λ t. fit-nodes (oneTreeAt C t) (C .given .inputs) (listed-right (C .shape) (C .trees) (C .given) p (oneTreeAt C t) (forest-framed C p t) held) (p .someFeatures)) (from 0 (C .trees)))))
         (forest-right .room)

@@ -230,8 +230,7 @@ module _ (P : Params) (node : NodeRows) (j : ℕ) (known : j < P .features) (cou
   unfolding drawn goesTrue keep
   drawn-fine h e es t hc v low high g =
       judge-fine P node h (totalsOf empty (trueSide c (e ∷ es))) (tally (trueSide c (e ∷ es))) c g
-      (λ l₁ l₂. subst (λ col. 0 < total (λ x. 1) (trueSide c col) → 0 < total (λ x. 1) (falseSide c col) → P .leaf ≤ tally (trueSide c col) → P .leaf ≤ tally (falseSide c col)
-      → Fine P node c) (sym hc)
+      (λ l₁ l₂. subst (λ col. 0 < total (λ x. 1) (trueSide c col) → 0 < total (λ x. 1) (falseSide c col) → P .leaf ≤ tally (trueSide c col) → P .leaf ≤ tally (falseSide c col) → Fine P node c) (sym hc)
       (λ x y z u. record { known = known; someTrue = x; someFalse = y; leafTrue = z; leafFalse = u })
       (put-some (le (at j e) t) e (keep (λ x. le (at j x) t) es) (is-true _ low))
       (keep-last (λ x. not (le (at j x) t)) e es (ap not (past t (at j (final e es)) (at j (final e es)) high (le-refl _ v))))

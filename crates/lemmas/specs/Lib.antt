@@ -1,28 +1,46 @@
+-- Laws of the definitions, for the demands and for the proofs of the code. Nothing is assumed.
+
+-- lists in the words of the rules; a list that has each number below n once; answers that a bad draw may cut short
 pub mod Lists
 pub mod Once
 pub mod Outs
--- loops over the entries of a list, and over the numbers below n
+-- growth over any way to choose: the last to wait is split first
+pub mod WaitingOrder
+-- a change of what is left to choose by goes through the whole growth
+pub mod Lifted
+-- a limit that a growth stays below does not show
+pub mod Unmet
+-- values that a fit accepts, and the threshold between two of them
+pub mod Values
+-- a cut that is found leaves rows on both sides, and both are good nodes again
+pub mod Cuts
+-- how many nodes a growth makes at most
+pub mod Room
+-- what a growth draws from the tapes
+pub mod Spent
+-- one growth follows another, over any two sources; and it looks at no more of its tapes than it uses
+pub mod Follows
+pub mod Tapes
+-- what each split leaves
+pub mod Splits
+-- the root of a fit that passes its checks is good
+pub mod Root
+-- what a fit knows once its checks have passed
+pub mod Passed
+-- good tables: a walk ends at a leaf, and what a fit grows is one
+pub mod Tables
+-- what is written can be read back
+pub mod Written
+-- what a fit that answers has passed, grown and written
+pub mod Answered
+-- the number of features tried by default
+pub mod Tried
+-- the work columns as code lays them
+pub mod Work
+-- loops over the entries of a list, and over the numbers below n; marks of the numbers that a loop has met
 pub mod Scans
--- marks of the numbers that a loop has met
 pub mod Marks
 -- chains of tests, how a call ends by its verdict, and what a shape in range says
 pub mod Tests
 -- where a cell lies among the values, and a listing among the listings
 pub mod Cells
-pub mod WaitingOrder
-pub mod Lifted
-pub mod Unmet
-pub mod Values
-pub mod Cuts
-pub mod Room
-pub mod Spent
-pub mod Follows
-pub mod Tapes
-pub mod Splits
-pub mod Root
-pub mod Passed
-pub mod Tables
-pub mod Written
-pub mod Answered
-pub mod Tried
-pub mod Work

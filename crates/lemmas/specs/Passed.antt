@@ -132,8 +132,8 @@ module _ {W : Type 0} (K : WaitingForm W) where
       let (t₁, h₂) = past 0 _ _ h₁ in let (t₂, h₃) = past 1 _ _ h₂ in let (t₃, h₄) = past 2 _ _ h₃ in
       let (t₄, h₅) = past 3 _ _ h₄ in let (t₅, h₆) = past 4 _ _ h₅ in let (t₆, h₇) = past 5 _ _ h₆ in
       let (s, n) = and2 (shapeIn (C .shape)) (treesIn (C .trees)) t₁ in
-      let (a, k, b, e) = and4 (leb (total roomFor (eachTree C)) (shortest (R .nodes))) (workEnough K (C .shape) (R .work)) (leb (suc (C .trees)) (length (R .starts)))
-      (reportsExact (C .trees) (R .reports)) t₆ in
+      let (a, k, b, e) = and4 (leb (total roomFor (eachTree C)) (shortest (R .nodes))) (workEnough K (C .shape) (R .work))
+      (leb (suc (C .trees)) (length (R .starts))) (reportsExact (C .trees) (R .reports)) t₆ in
       record {
         passed = from-tests (C .shape) (C .trees) (C .given) s (and-l (lengths (C .shape) (C .trees) (C .given)) (tapesGood C) t₂) t₃ (and-l (countsGood (C .given)) (countsOne (C .given)) t₄) t₅;
         ranges = t₁;

@@ -76,10 +76,8 @@ module _ (P : Params) {S : Type 0} (choose : S → NodeRows → Out (Found × S)
       → Then (expand P choose w s) (λ r. Bounded top (r .0 ++ ws) (r .1))
   unfolding expand total
   expand-bounded some top w ws s b h =
-      then-then (searchIf P choose (searchable P (suc (w .level)) (child onTrue w)) (length (s .nodes)) (suc (w .level)) (child onTrue w) (s .left)) _ _ _
-      (searchIf-load _ _ _ _ _ (side-good P onTrue w (h .0 .0)))
-      (λ t ht. then-then (searchIf P choose (searchable P (suc (w .level)) (child onFalse w)) (suc (length (s .nodes))) (suc (w .level)) (child onFalse w) (t .1)) _ _ _
-      (searchIf-load _ _ _ _ _ (side-good P onFalse w (h .0 .0)))
+      then-then (searchIf P choose (searchable P (suc (w .level)) (child onTrue w)) (length (s .nodes)) (suc (w .level)) (child onTrue w) (s .left)) _ _ _ (searchIf-load _ _ _ _ _ (side-good P onTrue w (h .0 .0)))
+      (λ t ht. then-then (searchIf P choose (searchable P (suc (w .level)) (child onFalse w)) (suc (length (s .nodes))) (suc (w .level)) (child onFalse w) (t .1)) _ _ _ (searchIf-load _ _ _ _ _ (side-good P onFalse w (h .0 .0)))
       (λ f hf. (
         every-append _ (f .0 ++ t .0) ws (every-append _ (f .0) (t .0) (hf .0) (ht .0)) (h .0 .1),
         room (length (s .nodes)) (length (withChildren w (s .nodes))) (load (f .0 ++ t .0 ++ ws)) (load (f .0)) (load (t .0)) (load ws)

@@ -178,8 +178,7 @@ unfolding total
 growth-bad P some node d none g k e =
     ends-bad _ (λ n. n ≤ top) _ k e
     (root-ends P (choose P) (λ ws s. Since P d s × Bounded P (choose P) fine top ws s) (λ n. n ≤ top)
-    (λ w ws s b h. ends-both (expand P (choose P) w s) _ _ _ (expand-spent P _ _ top w s (omega (arith, halves P w (h .1 .0 .0) some, h .1 .1)) (h .0))
-    (expand-bounded P (choose P) fine some top w ws s b (h .1)))
+    (λ w ws s b h. ends-both (expand P (choose P) w s) _ _ _ (expand-spent P _ _ top w s (omega (arith, halves P w (h .1 .0 .0) some, h .1 .1)) (h .0)) (expand-bounded P (choose P) fine some top w ws s b (h .1)))
     node d (λ b. ends-both (searchIf P (choose P) b 0 1 node d) _ _ _ (root-spent P node d none top b) (root-bounded P (choose P) fine node d g b)))
   where
     top : ℕ

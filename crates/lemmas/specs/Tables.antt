@@ -161,8 +161,7 @@ good-entry P ns k v (Split s) h =
     (ltb k (s .children) && (eqb (suc (s .children)) (suc (s .children)) && (ltb (suc (s .children)) (length ns) && ltb (s .cut .feature) (P .features))))
     (and-i (ltb k (s .children)) _ (lt→ltb k (s .children) (h s refl .above))
     (and-i (eqb (suc (s .children)) (suc (s .children))) _ (eqb-refl (suc (s .children)))
-    (and-i (ltb (suc (s .children)) (length ns)) (ltb (s .cut .feature) (P .features)) (lt→ltb (suc (s .children)) (length ns) (h s refl .inside))
-    (lt→ltb (s .cut .feature) (P .features) (h s refl .known)))))
+    (and-i (ltb (suc (s .children)) (length ns)) (ltb (s .cut .feature) (P .features)) (lt→ltb (suc (s .children)) (length ns) (h s refl .inside)) (lt→ltb (s .cut .feature) (P .features) (h s refl .known)))))
 
 pub stands-good : (P : Params) (ns : List TreeNode) → Stands P ns → T (goodTree (P .features) (entries ns))
 unfolding goodTree

@@ -97,8 +97,7 @@ unfolding forestEntries total
 length-forest [] = refl
 length-forest (t ∷ ts) = length-append (entries (t .nodes)) (forestEntries ts) ∙ (λ i. length-entries (t .nodes) i + length-forest ts i)
 
-trees-from : (all : List Entry) (c : Columns) (starts : List ℕ) (x : List ℕ) (ts : List Tree) (k : ℕ) (pre : List Entry) → all ≡ pre ++ forestEntries ts → drop k starts
-    ≡ startsFrom (length pre) ts ++ x
+trees-from : (all : List Entry) (c : Columns) (starts : List ℕ) (x : List ℕ) (ts : List Tree) (k : ℕ) (pre : List Entry) → all ≡ pre ++ forestEntries ts → drop k starts ≡ startsFrom (length pre) ts ++ x
     → map (treeAt (writeEntries all c) starts) (from k (length ts)) ≡ tables ts
 unfolding from forestEntries startsFrom treeAt
 trees-from all c starts x [] k pre e s = refl
