@@ -1,4 +1,4 @@
-// The listing check, the call that makes it alone: refusals 1, 2 and 5.
+// The call that checks listings alone.
 ghost use mathlib.Core.Path.{_≡_};
 ghost use mathlib.Core.Bool.{true, _&&_};
 ghost use Rattle.rules.specs.Checks.{firstFailed, shapeIn, valuesLong, listingsLong};

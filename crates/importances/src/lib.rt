@@ -1,7 +1,6 @@
 // Importances: how much of the scores of a tree's splits, or of a forest's, falls to each feature.
 ghost use mathlib.Core.Path.{_≡_};
 ghost use mathlib.Core.List.{List};
-ghost use Prim.Native.Nat.{_<_};
 ghost use lib.ListN.{length};
 ghost use lib.Ieee.{Float};
 ghost use Rattle.rules.specs.declared.Reply.{Reply};

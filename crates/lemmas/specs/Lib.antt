@@ -4,14 +4,6 @@
 pub mod Lists
 pub mod Once
 pub mod Outs
--- loops over the entries of a list, and over the numbers below n
-pub mod Scans
--- marks of the numbers that a loop has met
-pub mod Marks
--- chains of tests, how a call ends by its verdict, and what a shape in range says
-pub mod Tests
--- where a cell lies among the values, and a listing among the listings
-pub mod Cells
 -- growth over any way to choose: the last to wait is split first
 pub mod WaitingOrder
 -- a change of what is left to choose by goes through the whole growth
@@ -45,3 +37,10 @@ pub mod Answered
 pub mod Tried
 -- the work columns as code lays them
 pub mod Work
+-- loops over the entries of a list, and over the numbers below n; marks of the numbers that a loop has met
+pub mod Scans
+pub mod Marks
+-- chains of tests, how a call ends by its verdict, and what a shape in range says
+pub mod Tests
+-- where a cell lies among the values, and a listing among the listings
+pub mod Cells

@@ -206,7 +206,9 @@ module _ (S : Shape) (trees : ℕ) (G : Given) (p : Passed S trees G) (F : OneTr
   inside i j h k = subst (λ n. i * S .features + j < n) (sym (p .valuesLong)) (cell-within i (S .rows) (S .features) j h k)
 
   cell-finite : (i j : ℕ) → i < S .rows → j < S .features → T (finite (cell (S .features) (G .inputs .values) j i))
-  cell-finite i j h k = subst (λ x. T (finite x)) (sym (cell-lies (S .features) (G .inputs .values) i j k)) (every-at _ (G .inputs .values) nan (i * S .features + j) (p .valuesFinite) (inside i j h k))
+  cell-finite i j h k =
+      subst (λ x. T (finite x)) (sym (cell-lies (S .features) (G .inputs .values) i j k))
+      (every-at _ (G .inputs .values) nan (i * S .features + j) (p .valuesFinite) (inside i j h k))
 
   rising : (j : ℕ) → j < S .features → (l : List ℕ) → Every (λ i. i < S .rows) l → T (neverFalls (cell (S .features) (G .inputs .values) j) l)
       → Ordered (Before F (G .inputs) j) l

@@ -64,7 +64,7 @@ loop-again : tie.Need-loop-again Inv-loop μ-loop
 loop-again c =
     let at = c .before .before .before .before in
     let s = at .before .before in (
-      length-set (at .loop .seen) _ true ∙ at .loop .inv .0,
+      length-set (at .loop .seen) _ _ ∙ at .loop .inv .0,
       met-next (s .args .rows) (now (s .args .listing)) (at .loop .seen) (at .loop .i) (at .loop .inv .1) (omega arith) (omega (arith, s .pre, at .loop .inv .0)) (omega arith) (c .if3 .left),
     )
 
