@@ -1,4 +1,5 @@
--- A fit that is lent a list of waiting nodes is the fit that is lent the list's columns: from the same call it gives the same answer, and leaves the same rooms. So growth over the list needs no definition of its own.
+-- A fit that is lent a list of waiting nodes is the fit that is lent the list's columns: from the same call it gives the same answer, and leaves the
+-- same rooms. So growth over the list needs no definition of its own.
 -- Assumes nothing.
 use Prim.Native.Nat.{ℕ, zero, suc}
 use mathlib.Core.Path.{_≡_, refl, sym, ap, _∙_}

@@ -1,5 +1,6 @@
 -- The list of waiting nodes and the two flat columns that growth is lent agree. `flat l` has entry by entry what l has, and loses nothing of it (`unflat`).
--- A push on the list is growth's push on the columns (`push-agrees`), with room for it on both or on neither (`room-agrees`); a pop gives the node that growth reads off the columns (`pop-agrees`), and both stand
+-- A push on the list is growth's push on the columns (`push-agrees`), with room for it on both or on neither (`room-agrees`); a pop gives the node
+-- that growth reads off the columns (`pop-agrees`), and both stand
 -- for the same waiting nodes of the definition (`joins-agree`, `taken-agree`). Both have as many places, and are zero together (`places-agree`, `zeroed-agrees`).
 -- Assumes nothing.
 use Prim.Native.Nat.{ℕ, zero, suc, _+_, _-_, _<_, _≤_, min}

@@ -9,6 +9,6 @@ pub mod Steps
 -- both children searched, one after the other
 pub mod Both
 -- a node's stretch of the columns, and what a good node gives the code
-pub mod Frames
+pub mod InColumns
 -- a split node's children
 pub mod Sides

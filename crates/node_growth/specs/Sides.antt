@@ -34,7 +34,7 @@ use Rattle.node_growth.specs.declared.Step.the-variants.{Goes}
 use Rattle.node_growth.specs.Rooms.{Ground, cutOf, askedOf, nodeRows, waitingOf, waitingList, BelowTo, searchTwo, Taken, BothAsks, BothDone, SidesDone}
 use Rattle.node_growth.specs.Steps.{laid-more}
 use Rattle.node_growth.specs.Both.{onto, chain}
-use Rattle.node_growth.specs.Frames.{withOrder, column-at, child-rows, frame, good-alike, good-room, good-cleft, good-asks, part-short, ones-map, rows-of}
+use Rattle.node_growth.specs.InColumns.{withOrder, column-at, child-rows, below-still, good-alike, good-room, good-cleft, good-asks, part-short, ones-map, rows-of}
 
 -- ---- a node's ends as the code widened them
 
@@ -240,7 +240,7 @@ module _ (g : Ground) (P : Params) (W : List ℕ) (sc : ℕ) (flags : List Bool)
           }
         where
           under : waitingList g′ wholes reals (s .waiting) ≡ waitingList g wholes reals (s .waiting)
-          under = frame g order′ (w .start) beside wholes reals (w .start) (s .waiting) (le-refl (w .start)) (q .laid)
+          under = below-still g order′ (w .start) beside wholes reals (w .start) (s .waiting) (le-refl (w .start)) (q .laid)
             where
               beside : (k b f : ℕ) → b ≤ f → f ≤ w .start → part (g .rows) k b f order′ ≡ part (g .rows) k b f (g .order)
               beside k b f o u =

@@ -159,12 +159,12 @@ pub fn split_node(
         threshold: w.cut,
     };
     let s = work_columns::split_sides(
+        flags,
         values,
         targets,
         weights,
         counts,
         order,
-        flags,
         rows,
         features,
         slices::wide(w.start),
@@ -303,12 +303,12 @@ pub fn search_sides(
     if candidates::either_searched(p, l, a, b) {
         work_columns::partition_columns(
             order,
+            scratch,
+            flags,
             rows,
             features,
             slices::wide(w.start),
             slices::wide(w.end),
-            scratch,
-            flags,
             slices::wide(w.feature),
         );
         let mid = w.start + h.rows;

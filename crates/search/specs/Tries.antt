@@ -105,7 +105,7 @@ module _ (el : ℕ → Element) (P : Params) (a : Side) (j : ℕ) (h : Held) (W 
       (λ x es i p r. d ∙ ap (λ z. drawAt P (bare a) j h z (left W M s m) lo hi) (sym i)
       ∙ ap (λ z. drawAt P (bare a) j h (x ∷ es) (left W M s m) z hi) (sym p) ∙ ap (λ z. drawAt P (bare a) j h (x ∷ es) (left W M s m) (at j x) z) (sym r))
 
--- ---- of a task only the totals and the count are searchable
+-- ---- of a node only the totals and the count are read
 
 module _ (P : Params) (a : Side) (C : List Column) (j : ℕ) where
   abbrev full : NodeRows

@@ -27,7 +27,7 @@ use Rattle.node_entries.specs.Writes.{long-less}
 use Rattle.node_growth.specs.Rooms.{Ground, waitingOf, waitingList, Laid, BelowTo}
 use Rattle.node_growth.specs.Steps.{laid-more}
 use Rattle.node_growth.specs.Both.{onto}
-use Rattle.node_growth.specs.Frames.{withOrder}
+use Rattle.node_growth.specs.InColumns.{withOrder}
 use Rattle.node_growth.specs.Numbers.{expand-number}
 use Rattle.tree_growth.specs.declared.At.{At}
 use Rattle.tree_growth.specs.declared.Turned.{Turned}

@@ -30,7 +30,7 @@ use Rattle.node_growth.specs.declared.Stand.{Stand}
 use Rattle.node_growth.specs.declared.Step.{Step}
 use Rattle.node_growth.specs.declared.Step.the-variants.{Refused, Goes}
 use Rattle.node_growth.specs.Rooms.{Ground, nodeRows, waitingList, LaidStep, FairStep, meantStep, BelowTo, ChildAsks, ChildDone}
-use Rattle.node_growth.specs.Frames.{good-asks}
+use Rattle.node_growth.specs.InColumns.{good-asks}
 use Rattle.node_growth.specs.Numbers.{searchIf-number}
 use Rattle.tree_growth.specs.declared.At.{At}
 use Rattle.tree_growth.specs.declared.Turned.{Turned}

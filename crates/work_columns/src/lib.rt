@@ -157,12 +157,12 @@ pub fn stable_partition(col: &mut [u32], scratch: &mut [u32], flags: &[bool]) ->
 // The rows from `start` to `end` of every column partitioned. Those of the column `but` are parted as they stand, and are left so.
 pub fn partition_columns(
     order: &mut [u32],
+    scratch: &mut [u32],
+    flags: &[bool],
     rows: usize,
     features: usize,
     start: usize,
     end: usize,
-    scratch: &mut [u32],
-    flags: &[bool],
     but: usize,
 )
     requires { ⌜ ColumnsAsk rows features start end (now order) (length (now scratch)) (length (now flags)) ⌝ }
@@ -212,11 +212,11 @@ fn true_rows(values: &[f64], col: &[u32], rows: usize, features: usize, cut: Cut
 
 // The rows of a column on one side, all flagged t; and the whole, which had `start`, with them.
 fn gather(
+    flags: &mut [bool],
     targets: &[f64],
     weights: &[f64],
     counts: &[u32],
     col: &[u32],
-    flags: &mut [bool],
     rows: usize,
     t: bool,
     start: Totals,
@@ -241,12 +241,12 @@ fn gather(
 
 // Along the split column's stretch, in which the true side stands first: each row gets its flag, and its side and the whole take it in.
 pub fn split_pass(
+    flags: &mut [bool],
     values: &[f64],
     targets: &[f64],
     weights: &[f64],
     counts: &[u32],
     col: &[u32],
-    flags: &mut [bool],
     rows: usize,
     features: usize,
     cut: Cut,
@@ -259,11 +259,11 @@ pub fn split_pass(
     let n = true_rows(values, col, rows, features, cut);
     let none = criterion::no_rows();
     let front = gather(
+        flags,
         targets,
         weights,
         counts,
         &col[0..n],
-        flags,
         rows,
         true,
         none,
@@ -271,11 +271,11 @@ pub fn split_pass(
     let trueside = front.side;
     let t = front.all;
     let rest = gather(
+        flags,
         targets,
         weights,
         counts,
         &col[n..col.len()],
-        flags,
         rows,
         false,
         t,
@@ -292,12 +292,12 @@ pub fn split_pass(
 
 // The pass of a node whose rows lie from `start` to `end` of every column.
 pub fn split_sides(
+    flags: &mut [bool],
     values: &[f64],
     targets: &[f64],
     weights: &[f64],
     counts: &[u32],
     order: &[u32],
-    flags: &mut [bool],
     rows: usize,
     features: usize,
     start: usize,
@@ -314,12 +314,12 @@ pub fn split_sides(
     let low = base + start;
     let high = base + end;
     split_pass(
+        flags,
         values,
         targets,
         weights,
         counts,
         &order[low..high],
-        flags,
         rows,
         features,
         cut,

@@ -1,4 +1,5 @@
--- `lent_forms::add_to` meets its contract: a walk of its MIR, by hand. The borrow is opened, the record is copied out, `take_in` is called on it, what it returns is stored, and the borrow is closed at that record.
+-- `lent_forms::add_to` meets its contract: a walk of its MIR, by hand. The borrow is opened, the record is copied out, `take_in` is called on it,
+-- what it returns is stored, and the borrow is closed at that record.
 -- All that the proof knows of `take_in` is its contract.
 -- Assumes nothing.
 use mathlib.Core.Path.{_≡_, refl}
@@ -70,7 +71,8 @@ module _ {M : Type 1} (𝓤 : URA M) (H : Heap 𝓤) (A : Atoms 𝓤) (at-mem : 
   told : (h : Totals) (y m : Float) (r : Totals) → ent 𝓤 (ensured 𝓤 H A by-value.ended (by-value.clauses 𝓤 H A at-mem run) tt (h, (y, (m, tt))) tt r) (fact 𝓤 (r ≡ takeIn h y m))
   told h y m r = exE 𝓤 _ (λ ws. snd∗ 𝓤 (sem 𝓤 H A (lasts by-value.ended tt (h, (y, (m, tt))) ws)) (fact 𝓤 (r ≡ takeIn h y m)))
 
-module _ {M : Type 1} (𝓤 : URA M) (H : Heap 𝓤) (A : Atoms 𝓤) (W : Given 𝓤 H A) (at-mem : Memory → SProp 𝓤) (run : Routine → Fun 𝓤) (κ : Lft) (q : Share) (b o : ℕ) (γ : GName) (h : Totals) (y m : Float) (y-ok : fits binary64 y ≡ true) (m-ok : fits binary64 m ≡ true) where
+module _ {M : Type 1} (𝓤 : URA M) (H : Heap 𝓤) (A : Atoms 𝓤) (W : Given 𝓤 H A) (at-mem : Memory → SProp 𝓤) (run : Routine → Fun 𝓤) (κ : Lft) (q : Share) (b o : ℕ)
+    (γ : GName) (h : Totals) (y m : Float) (y-ok : fits binary64 y ≡ true) (m-ok : fits binary64 m ≡ true) where
   abbrev x : Arg
   x = (record { ptr = (b, o); name = γ; now = h }, (y, (m, tt)))
 
@@ -83,7 +85,8 @@ module _ {M : Type 1} (𝓤 : URA M) (H : Heap 𝓤) (A : Atoms 𝓤) (W : Given
   exits : (r : Totals) → r ≡ takeIn h y m → ent 𝓤 (sep 𝓤 (A .obs γ (R .coded .code r)) (sep 𝓤 (A .bor κ (Body (mem R) b o γ)) (A .lft κ q))) (Post vunit)
   exits r e =
       qed W (‵ (fobs γ (R .coded .code r)) ∷ ‵ (fbor κ (Body (mem R) b o γ)) ∷ ‵ (flft κ q) ∷ []) ∵
-      suffices ! _ (ends-at 𝓤 H A f.ended stayed (f.clauses 𝓤 H A at-mem run) W (((κ, tt), (q, tt), tt, x, at), tt) vunit tt (r, (tt, (tt, tt))) (tt, (tt, (tt, tt)))) $ says ! e $ nothing ! $ move ! (3 ∷ 0 ∷ []) $ join ! $
+      suffices ! _ (ends-at 𝓤 H A f.ended stayed (f.clauses 𝓤 H A at-mem run) W (((κ, tt), (q, tt), tt, x, at), tt) vunit tt (r, (tt, (tt, tt))) (tt, (tt, (tt, tt)))) $
+      says ! e $ nothing ! $ move ! (3 ∷ 0 ∷ []) $ join ! $
       frame ! $ feqI ! (List Val) (vptr b o ∷ []) (vptr b o ∷ []) refl $ fjoin3 ! $ nothing ! $ owned ! f64 (Is f64) (float-makes 𝓤 H A W binary64) m _ (refl, m-ok) $ fjoin ! $
       owned ! f64 (Is f64) (float-makes 𝓤 H A W binary64) y _ (refl, y-ok) $ fjoin ! $ move ! (1 ∷ 0 ∷ []) $ fjoin ! $
       feqI ! (List Val) (vunit ∷ []) (vunit ∷ []) refl $ move ! (1 ∷ 0 ∷ []) $ done !
@@ -91,7 +94,9 @@ module _ {M : Type 1} (𝓤 : URA M) (H : Heap 𝓤) (A : Atoms 𝓤) (W : Given
   abbrev to-value : ByValue 𝓤 H A at-mem run .Ghost
   to-value = ((tt, tt, tt, (h, (y, (m, tt))), (T′.lowered h ∷ [], (vfloat binary64 y ∷ [], (vfloat binary64 m ∷ [], tt)))), tt)
 
-  goes-value : ent 𝓤 (sep 𝓤 (sem 𝓤 H A ftrue) (sem 𝓤 H A (owns (R ∷ f64 ∷ f64 ∷ []) (h, (y, (m, tt))) (T′.lowered h ∷ [], (vfloat binary64 y ∷ [], (vfloat binary64 m ∷ [], tt)))))) (ByValue 𝓤 H A at-mem run .pre to-value)
+  goes-value : ent 𝓤 (sep 𝓤 (sem 𝓤 H A ftrue)
+      (sem 𝓤 H A (owns (R ∷ f64 ∷ f64 ∷ []) (h, (y, (m, tt))) (T′.lowered h ∷ [], (vfloat binary64 y ∷ [], (vfloat binary64 m ∷ [], tt))))))
+      (ByValue 𝓤 H A at-mem run .pre to-value)
   goes-value = qed W (‵ ftrue ∷ ‵ (owns (R ∷ f64 ∷ f64 ∷ []) (h, (y, (m, tt))) (T′.lowered h ∷ [], (vfloat binary64 y ∷ [], (vfloat binary64 m ∷ [], tt)))) ∷ []) ∵ join ! $ frame ! $ done !
 
   module _ (C : Calls 𝓤 H) (Λ : Loops 𝓤 H) (fm : FmC 𝓤 H (W .laws) C) (known : Triple 𝓤 (C #criterion·take-in) (ByValue 𝓤 H A at-mem run)) where
@@ -110,8 +115,10 @@ module _ {M : Type 1} (𝓤 : URA M) (H : Heap 𝓤) (A : Atoms 𝓤) (W : Given
         -- what the callee takes
         nothing ! $ owned ! f64 (Is f64) (float-makes 𝓤 H A W binary64) m _ (refl, m-ok) $ fjoin ! $ owned ! f64 (Is f64) (float-makes 𝓤 H A W binary64) y _ (refl, y-ok) $ fjoin ! $
         owned ! R (Is R) ((LL.makes T.the-type T′.the-plain) 𝓤 H A) h _ was $ fjoin ! $ nothing ! $ use2 W (raw (ByValue 𝓤 H A at-mem run .pre to-value)) goes-value $
-        calls-at ! fm (ByValue 𝓤 H A at-mem run) known to-value (and-then ! (load ! (from ! (stop !)) (look ! 8 refl)) (and-then ! (load ! (from ! (stop !)) (look ! 14 refl)) (and-then ! (load ! (from ! (stop !)) (look ! 12 refl)) (no-more !)))) (λ v.
-        use1 W (later (some (λ (r : Totals). (‵ ftrue ⊛ ‵ (R .own r (v ∷ []))) ⊛ raw (ensured 𝓤 H A by-value.ended (by-value.clauses 𝓤 H A at-mem run) tt (h, (y, (m, tt))) tt r)))) (id⊢ 𝓤 _) $ await ! tt $ pick ! (λ r.
+        calls-at ! fm (ByValue 𝓤 H A at-mem run) known to-value (and-then ! (load ! (from ! (stop !)) (look ! 8 refl))
+        (and-then ! (load ! (from ! (stop !)) (look ! 14 refl)) (and-then ! (load ! (from ! (stop !)) (look ! 12 refl)) (no-more !)))) (λ v.
+        use1 W (later (some (λ (r : Totals). (‵ ftrue ⊛ ‵ (R .own r (v ∷ []))) ⊛ raw (ensured 𝓤 H A by-value.ended (by-value.clauses 𝓤 H A at-mem run) tt (h, (y, (m, tt))) tt r)))) (id⊢ 𝓤 _) $
+        await ! tt $ pick ! (λ r.
         split ! $ move ! (1 ∷ []) $ use1 W (raw (fact 𝓤 (r ≡ takeIn h y m))) (told 𝓤 H A at-mem run h y m r) $ heard ! (r ≡ takeIn h y m) (λ e. split ! $ drop ! $
         peeks ! R (Is R) (shows 𝓤 H A R) r (v ∷ []) (λ is.
         land ! (from ! (stop !)) (init ! 10 refl (LL.lawful T.the-type T′.the-laws 𝓤 H A W .typed r _ is .0)) $
@@ -122,21 +129,26 @@ module _ {M : Type 1} (𝓤 : URA M) (H : Heap 𝓤) (A : Atoms 𝓤) (W : Given
         -- [obs; the borrow; the token; what h owns; true; the floats'; _5; …]
         assigns ! (of-opd ! (unit-lit !)) (from ! (stop !)) (init ! 16 refl (tt, tt)) $
         returns ! (look ! 16 refl) $ forget ! 6 refl $ forget ! 8 refl $ forget ! 10 refl $ forget ! 12 refl $ forget ! 14 refl $ forget ! 16 refl $
-        move ! (16 ∷ 17 ∷ []) $ free1 ! $ move ! (14 ∷ 15 ∷ []) $ free1 ! $ move ! (12 ∷ 13 ∷ []) $ free1 ! $ move ! (10 ∷ 11 ∷ []) $ free1 ! $ move ! (8 ∷ 9 ∷ []) $ free1 ! $ move ! (6 ∷ 7 ∷ []) $ free1 ! $ free0 ! $
+        move ! (16 ∷ 17 ∷ []) $ free1 ! $ move ! (14 ∷ 15 ∷ []) $ free1 ! $ move ! (12 ∷ 13 ∷ []) $ free1 ! $ move ! (10 ∷ 11 ∷ []) $ free1 ! $ move ! (8 ∷ 9 ∷ []) $
+        free1 ! $ move ! (6 ∷ 7 ∷ []) $ free1 ! $ free0 ! $
         keep ! (0 ∷ 1 ∷ 2 ∷ []) $ by ! (exits r e)))))))))))))
 
 module _ {M : Type 1} (𝓤 : URA M) (H : Heap 𝓤) (A : Atoms 𝓤) (W : Given 𝓤 H A) (at-mem : Memory → SProp 𝓤) (run : Routine → Fun 𝓤) where
-  add-to-walks : (C : Calls 𝓤 H) (Λ : Loops 𝓤 H) → FmC 𝓤 H (W .laws) C → Triple 𝓤 (C #criterion·take-in) (ByValue 𝓤 H A at-mem run) → Walks 𝓤 H A f.ended stayed (WpFn 𝓤 H C Λ code.function) (f.clauses 𝓤 H A at-mem run)
+  add-to-walks : (C : Calls 𝓤 H) (Λ : Loops 𝓤 H) → FmC 𝓤 H (W .laws) C → Triple 𝓤 (C #criterion·take-in) (ByValue 𝓤 H A at-mem run)
+      → Walks 𝓤 H A f.ended stayed (WpFn 𝓤 H C Λ code.function) (f.clauses 𝓤 H A at-mem run)
   add-to-walks C Λ fm known = walked 𝓤 H A f.ended stayed (f.clauses 𝓤 H A at-mem run) (WpFn 𝓤 H C Λ code.function)
       (λ κs. (ptr-vals, (float-vals binary64, (float-vals binary64, tt)))) (λ κs. (mut-tells (named 0) (κs .0) R, (float-tells binary64, (float-tells binary64, tt))))
-      (λ κs qs bounds a g are. via 𝓤 _ (fst∗ 𝓤 _ (emp 𝓤)) (walk 𝓤 H A W at-mem run (κs .0) (qs .0) (a .0 .ptr .0) (a .0 .ptr .1) (a .0 .name) (a .0 .now) (a .1 .0) (a .1 .1 .0) (are .1 .0 .1) (are .1 .1 .0 .1) C Λ fm known))
+      (λ κs qs bounds a g are. via 𝓤 _ (fst∗ 𝓤 _ (emp 𝓤)) (walk 𝓤 H A W at-mem run (κs .0) (qs .0) (a .0 .ptr .0) (a .0 .ptr .1) (a .0 .name) (a .0 .now)
+      (a .1 .0) (a .1 .1 .0) (are .1 .0 .1) (are .1 .1 .0 .1) C Λ fm known))
 
   goes : AllGo 𝓤 H A W 1 (f.signature .params) (f.ended .kept) stayed
   goes = (goes-ref 𝓤 H A W 1 0 tt (plain (λ _. R)), (goes-none 𝓤 H A W 1 (λ _. f64) yes (λ κs x f. refl), (goes-none 𝓤 H A W 1 (λ _. f64) yes (λ κs x f. refl), tt)))
 
 add-to-meets : {M : Type 1} (𝓤 : URA M) (H : Heap 𝓤) (A : Atoms 𝓤) (W : Given 𝓤 H A) (at-mem : Memory → SProp 𝓤) (run : Routine → Fun 𝓤) (𝓣 : Tables 𝓤 H)
     → Triple 𝓤 (𝓣 .C #criterion·take-in) (ByValue 𝓤 H A at-mem run) → Meets 𝓤 H A f.signature (WpFn 𝓤 H (𝓣 .C) (𝓣 .Λ) code.function) (f.spec 𝓤 H A at-mem run)
-add-to-meets 𝓤 H A W at-mem run 𝓣 known = walk-meets 𝓤 H A f.ended stayed W (goes 𝓤 H A W at-mem run) (f.clauses 𝓤 H A at-mem run) (WpFn 𝓤 H (𝓣 .C) (𝓣 .Λ) code.function) (WpFn-mono 𝓤 H (W .laws) 𝓣 code.function)
+add-to-meets 𝓤 H A W at-mem run 𝓣 known =
+    walk-meets 𝓤 H A f.ended stayed W (goes 𝓤 H A W at-mem run) (f.clauses 𝓤 H A at-mem run) (WpFn 𝓤 H (𝓣 .C) (𝓣 .Λ) code.function)
+    (WpFn-mono 𝓤 H (W .laws) 𝓣 code.function)
     (add-to-walks 𝓤 H A W at-mem run (𝓣 .C) (𝓣 .Λ) (fmOf 𝓤 H (W .laws) 𝓣) known)
 
 pub add-to-spec : {M : Type 1} → stated.statement M

@@ -1,4 +1,5 @@
--- `lent_forms::pop` meets its contract: a walk of its MIR, by hand. Where a node waits and the list has so many entries, the place of `list[n - 1]` is computed, the slice is looked into, the entry is taken out of the row,
+-- `lent_forms::pop` meets its contract: a walk of its MIR, by hand. Where a node waits and the list has so many entries, the place of `list[n - 1]`
+-- is computed, the slice is looked into, the entry is taken out of the row,
 -- read and put back, and the answer is made of it. Elsewhere the slice stays shut.
 -- Assumes nothing.
 use mathlib.Core.Path.{_≡_, refl, sym, ap}
@@ -75,7 +76,8 @@ some ys n = ltb 0 n && leb n (length ys)
 abbrev told : Popped → Val
 told = LE.val P.the-type P′.the-laws
 
-module _ {M : Type 1} (𝓤 : URA M) (H : Heap 𝓤) (A : Atoms 𝓤) (W : Given 𝓤 H A) (at-mem : Memory → SProp 𝓤) (run : Routine → Fun 𝓤) (κ : Lft) (q : Share) (b o : ℕ) (γ : GName) (ys : List Waiting) (n : ℕ) where
+module _ {M : Type 1} (𝓤 : URA M) (H : Heap 𝓤) (A : Atoms 𝓤) (W : Given 𝓤 H A) (at-mem : Memory → SProp 𝓤) (run : Routine → Fun 𝓤) (κ : Lft) (q : Share) (b o : ℕ)
+    (γ : GName) (ys : List Waiting) (n : ℕ) where
   abbrev x : RefT (List Waiting) × (ℕ × Unit {0})
   x = (record { ptr = (b, o); name = γ; now = ys }, (n, tt))
 
@@ -98,7 +100,8 @@ module _ {M : Type 1} (𝓤 : URA M) (H : Heap 𝓤) (A : Atoms 𝓤) (W : Given
   is-nothing : Is P.the-row Nothing (told Nothing ∷ [])
   is-nothing = LE.owes P.the-type P′.the-laws Nothing tt
 
-  exits : (r : Popped) → Is P.the-row r (told r ∷ []) → r ≡ popped ys n → ent 𝓤 (⋆ 𝓤 H A (‵ (flft κ q) ∷ ‵ (ShrSlice (named 0) κ N.the-row .own (x .0) (at .0)) ∷ ‵ (usize .own n (vint w64 n ∷ [])) ∷ [])) (Post (told r))
+  exits : (r : Popped) → Is P.the-row r (told r ∷ []) → r ≡ popped ys n
+      → ent 𝓤 (⋆ 𝓤 H A (‵ (flft κ q) ∷ ‵ (ShrSlice (named 0) κ N.the-row .own (x .0) (at .0)) ∷ ‵ (usize .own n (vint w64 n ∷ [])) ∷ [])) (Post (told r))
   exits r is said =
       qed W (‵ (flft κ q) ∷ ‵ (ShrSlice (named 0) κ N.the-row .own (x .0) (at .0)) ∷ ‵ (usize .own n (vint w64 n ∷ [])) ∷ []) ∵
       suffices ! _ (ends-at 𝓤 H A f.ended stayed (f.clauses 𝓤 H A at-mem run) W (((κ, tt), (q, tt), tt, x, at), tt) (told r) r (tt, (tt, tt)) (tt, (tt, tt))) $ says ! said $
@@ -109,7 +112,8 @@ module _ {M : Type 1} (𝓤 : URA M) (H : Heap 𝓤) (A : Atoms 𝓤) (W : Given
     walk : Room N.the-row (length ys) → n < 2 ^ 64 → ent 𝓤 (onEntry 𝓤 H A f.signature (κ, tt) (q, tt) x at) (WpFn 𝓤 H C Λ code.function (sliceVal (b, o) (length ys) ∷ vint w64 n ∷ []) Post)
     walk gn gi =
         qed W ((‵ (flft κ q) ⊛ ‵ ftrue) ∷ ‵ (owns (ShrSlice (named 0) κ N.the-row ∷ usize ∷ []) x at) ∷ []) ∵ enter ! C Λ code.function (sliceVal (b, o) (length ys) ∷ vint w64 n ∷ []) _ $
-        alloc1 ! (λ l₀. alloc1 ! (λ l₁. alloc1 ! (λ l₂. alloc1 ! (λ l₃. alloc1 ! (λ l₄. alloc1 ! (λ l₅. alloc1 ! (λ l₆. alloc1 ! (λ l₇. alloc1 ! (λ l₈. alloc1 ! (λ l₉. alloc1 ! (λ l₁₀. alloc0 ! $ params1 ! $
+        alloc1 ! (λ l₀. alloc1 ! (λ l₁. alloc1 ! (λ l₂. alloc1 ! (λ l₃. alloc1 ! (λ l₄. alloc1 ! (λ l₅.
+        alloc1 ! (λ l₆. alloc1 ! (λ l₇. alloc1 ! (λ l₈. alloc1 ! (λ l₉. alloc1 ! (λ l₁₀. alloc0 ! $ params1 ! $
         pass1 ! (init ! 18 refl (tt, (tt, (record { fits = gn .0 }, tt)))) $ pass1 ! (init ! 16 refl (tt, record { fits = gi })) $ pass0 ! $
         move ! (23 ∷ []) $ fsplit ! $ fsplit ! $ move ! (1 ∷ []) $ fsplit ! $ move ! (26 ∷ []) $ split ! $ move ! (3 ∷ 0 ∷ []) $
         -- [the fractured borrow; the token; true; res; list's fact; n's; _10; …; _9; …; _8; …; _7; …; _6; …; _5; …; _4; …; _3; …; _2; …; _1; …; room for _0; …]
@@ -131,17 +135,23 @@ module _ {M : Type 1} (𝓤 : URA M) (H : Heap 𝓤) (A : Atoms 𝓤) (W : Given
         -- [list[n - 1]; what it owns; the others; what shuts; the fractured borrow; true; res; list's fact; n's; _10; …; _9; …; _8; …; …; _0; …]
         use1 W (‵ (fat q′ N′.mir b (place 48 o i) (N′.lowered elem))) (W .laws .raw-at q′ N′.mir b (place 48 o i) (N′.lowered elem)) $
         assigns ! (of-opd ! (load ! (from ! (hop ! (look ! 11 refl) (stop !))) (look ! 0 refl))) (from ! (stop !)) (init ! 9 refl (LL.lawful N.the-type N′.the-laws 𝓤 H A W .typed elem _ g .0)) $
-        assigns ! (agg ! (and-then ! (lit ! tt) (and-then ! (load ! (from ! (stop !)) (look ! 9 refl)) (no-more !)))) (from ! (stop !)) (init ! 29 refl (LE.lawful P.the-type P′.the-laws 𝓤 H A W tt .typed (Top elem) _ (is-top g) .0)) $
+        assigns ! (agg ! (and-then ! (lit ! tt) (and-then ! (load ! (from ! (stop !)) (look ! 9 refl)) (no-more !)))) (from ! (stop !))
+        (init ! 29 refl (LE.lawful P.the-type P′.the-laws 𝓤 H A W tt .typed (Top elem) _ (is-top g) .0)) $
         use1 W (‵ (cellAt q′ (N.the-row .mir) (N′.lowered elem ∷ []) b (place 48 o i))) (W .laws .at-raw q′ N′.mir b (place 48 o i) (N′.lowered elem)) $
         elem-back ! N.the-row q′ ys i noEntry (N′.lowered elem ∷ []) b o l $ shuts-slice ! tt N.the-row q′ ys b o $
-        returns-within ! Post refl (look ! 26 refl) $ forget ! 6 refl $ forget ! 8 refl $ forget ! 10 refl $ forget ! 12 refl $ forget ! 14 refl $ forget ! 16 refl $ forget ! 18 refl $ forget ! 20 refl $ forget ! 22 refl $ forget ! 24 refl $ forget ! 26 refl $
-        move ! (26 ∷ 27 ∷ []) $ free1 ! $ move ! (24 ∷ 25 ∷ []) $ free1 ! $ move ! (22 ∷ 23 ∷ []) $ free1 ! $ move ! (20 ∷ 21 ∷ []) $ free1 ! $ move ! (18 ∷ 19 ∷ []) $ free1 ! $ move ! (16 ∷ 17 ∷ []) $ free1 ! $ move ! (14 ∷ 15 ∷ []) $ free1 ! $ move ! (12 ∷ 13 ∷ []) $ free1 ! $ move ! (10 ∷ 11 ∷ []) $ free1 ! $ move ! (8 ∷ 9 ∷ []) $ free1 ! $ move ! (6 ∷ 7 ∷ []) $ free1 ! $ free0 ! $
+        returns-within ! Post refl (look ! 26 refl) $ forget ! 6 refl $ forget ! 8 refl $ forget ! 10 refl $ forget ! 12 refl $ forget ! 14 refl $ forget ! 16 refl $
+        forget ! 18 refl $ forget ! 20 refl $ forget ! 22 refl $ forget ! 24 refl $ forget ! 26 refl $
+        move ! (26 ∷ 27 ∷ []) $ free1 ! $ move ! (24 ∷ 25 ∷ []) $ free1 ! $ move ! (22 ∷ 23 ∷ []) $ free1 ! $ move ! (20 ∷ 21 ∷ []) $ free1 ! $ move ! (18 ∷ 19 ∷ []) $
+        free1 ! $ move ! (16 ∷ 17 ∷ []) $ free1 ! $ move ! (14 ∷ 15 ∷ []) $ free1 ! $ move ! (12 ∷ 13 ∷ []) $ free1 ! $ move ! (10 ∷ 11 ∷ []) $ free1 ! $
+        move ! (8 ∷ 9 ∷ []) $ free1 ! $ move ! (6 ∷ 7 ∷ []) $ free1 ! $ free0 ! $
         move ! (3 ∷ 1 ∷ []) $ fjoin ! $ move ! (3 ∷ 0 ∷ []) $ fjoin ! $ move ! (3 ∷ []) $ fsplit ! $ keep ! (3 ∷ 2 ∷ 0 ∷ []) $
         by ! (exits (Top elem) (is-top g) (ap (λ (c : Bool). cond c (Top elem) Nothing) (sym (is-true (some ys n) h)))))))
         (λ h. skips ! $ exec ! C Λ _ pieces.t-6 (atRet _ Post) $
         assigns ! (agg ! (and-then ! (lit ! tt) (no-more !))) (from ! (stop !)) (init ! 26 refl (LE.lawful P.the-type P′.the-laws 𝓤 H A W tt .typed Nothing _ is-nothing .0)) $
         returns ! (look ! 26 refl) $ forget ! 14 refl $ forget ! 16 refl $ forget ! 18 refl $ forget ! 20 refl $ forget ! 22 refl $ forget ! 24 refl $ forget ! 26 refl $
-        move ! (26 ∷ 27 ∷ []) $ free1 ! $ move ! (24 ∷ 25 ∷ []) $ free1 ! $ move ! (22 ∷ 23 ∷ []) $ free1 ! $ move ! (20 ∷ 21 ∷ []) $ free1 ! $ move ! (18 ∷ 19 ∷ []) $ free1 ! $ move ! (16 ∷ 17 ∷ []) $ free1 ! $ move ! (14 ∷ 15 ∷ []) $ free1 ! $ move ! (12 ∷ 13 ∷ []) $ free1 ! $ move ! (10 ∷ 11 ∷ []) $ free1 ! $ move ! (8 ∷ 9 ∷ []) $ free1 ! $ move ! (6 ∷ 7 ∷ []) $ free1 ! $ free0 ! $
+        move ! (26 ∷ 27 ∷ []) $ free1 ! $ move ! (24 ∷ 25 ∷ []) $ free1 ! $ move ! (22 ∷ 23 ∷ []) $ free1 ! $ move ! (20 ∷ 21 ∷ []) $ free1 ! $ move ! (18 ∷ 19 ∷ []) $
+        free1 ! $ move ! (16 ∷ 17 ∷ []) $ free1 ! $ move ! (14 ∷ 15 ∷ []) $ free1 ! $ move ! (12 ∷ 13 ∷ []) $ free1 ! $ move ! (10 ∷ 11 ∷ []) $ free1 ! $
+        move ! (8 ∷ 9 ∷ []) $ free1 ! $ move ! (6 ∷ 7 ∷ []) $ free1 ! $ free0 ! $
         move ! (3 ∷ 0 ∷ []) $ fjoin ! $ move ! (3 ∷ 0 ∷ []) $ fjoin ! $ move ! (3 ∷ []) $ fsplit ! $ keep ! (3 ∷ 2 ∷ 0 ∷ []) $
         by ! (exits Nothing is-nothing (ap (λ (c : Bool). cond c (Top elem) Nothing) (sym (is-false (some ys n) h))))))))))))))))
 

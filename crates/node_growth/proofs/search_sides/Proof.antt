@@ -47,8 +47,8 @@ wide-requires-3 c κs = search needs
 partition-columns-requires : tie.Need-partition-columns-requires
 partition-columns-requires c κs =
     let b = start-to-part c in
-    taken-parts _ _ _ _ (now (b .args .flags)) _ _ _ _ _ (b .pre .taken) _ (b .pre .split) (few b) (c .before .before .before .wide .ensures)
-    (c .before .before .wide2 .ensures) (c .wide3 .ensures)
+    taken-parts _ _ _ _ (now (b .args .flags)) _ _ _ _ _ (b .pre .taken) _ (b .pre .split) (few b) (c .before .before .wide .ensures)
+    (c .before .wide2 .ensures) (c .wide3 .ensures)
 
 add-mid : tie.Need-add-mid
 add-mid c =
@@ -59,8 +59,8 @@ search-both-requires : tie.Need-search-both-requires
 search-both-requires c κs =
     let p = parted-to-search c in
     let b = start-to-part (p .before) in
-    both-asks _ _ _ _ (now (b .args .flags)) _ _ _ _ _ (b .pre .taken) _ (b .pre .split) (few b) _ (p .before .before .before .before .wide .ensures)
-    (p .before .before .before .wide2 .ensures) (p .partition-columns .ensures)
+    both-asks _ _ _ _ (now (b .args .flags)) _ _ _ _ _ (b .pre .taken) _ (b .pre .split) (few b) _ (p .before .before .before .wide .ensures)
+    (p .before .before .wide2 .ensures) (p .partition-columns .ensures)
 
 same-length : tie.Need-same-length
 same-length c = search needs
@@ -78,8 +78,8 @@ returns : tie.Need-returns
 returns c =
     let p = parted-end c in
     let b = start-to-part (p .before) in
-    sides-both _ _ _ _ (now (b .args .flags)) _ _ _ _ _ (b .pre .taken) _ (b .pre .split) (few b) _ (p .before .before .before .before .wide .ensures)
-    (p .before .before .before .wide2 .ensures) (p .partition-columns .ensures) _ _ _ _ (c .before .before .search-both .ensures)
+    sides-both _ _ _ _ (now (b .args .flags)) _ _ _ _ _ (b .pre .taken) _ (b .pre .split) (few b) _ (p .before .before .before .wide .ensures)
+    (p .before .before .wide2 .ensures) (p .partition-columns .ensures) _ _ _ _ (c .before .before .search-both .ensures)
 
 returns-2 : tie.Need-returns-2
 returns-2 c =

@@ -17,10 +17,10 @@ use Rattle.work_columns.proofs.gather.Statement.{statement}
 use Rattle.work_columns.proofs.gather.Tie as tie
 
 abbrev Inv-loop : tie.InvT-loop
-Inv-loop targets weights counts col flags₀ rows t side₀ all₀ i₀ flags side all i = Gathering (bare targets weights counts) t all₀ col flags₀ side all flags i
+Inv-loop flags₀ targets weights counts col rows t side₀ all₀ i₀ flags side all i = Gathering (bare targets weights counts) t all₀ col flags₀ side all flags i
 
 abbrev μ-loop : tie.MeasureT-loop
-μ-loop targets weights counts col flags₀ rows t side₀ all₀ i₀ flags side all i = length col - i
+μ-loop flags₀ targets weights counts col rows t side₀ all₀ i₀ flags side all i = length col - i
 
 abbrev start-of-no-side : tie.After-no-side Inv-loop μ-loop → tie.Start Inv-loop μ-loop
 start-of-no-side c = c .before .before .before .before .before .before
@@ -73,13 +73,13 @@ mass-of-requires : tie.Need-mass-of-requires Inv-loop μ-loop
 mass-of-requires c κs = weighed-row _ _ _ _ (start c .pre .tables) (below c)
 
 mul-join : tie.Need-mul-join Inv-loop μ-loop
-mul-join c = let w = c .before in omega (arith, below w, start w .pre .targeted, start w .good .0)
+mul-join c = let w = c .before in omega (arith, below w, start w .pre .targeted, start w .good .1 .0)
 
 shared-slice-read-join : tie.Need-shared-slice-read-join Inv-loop μ-loop
 shared-slice-read-join c = let w = c .before .before in omega (arith, below w, start w .pre .targeted)
 
 mul-join-2 : tie.Need-mul-join-2 Inv-loop μ-loop
-mul-join-2 c = let w = c .before .before in omega (arith, below w, start w .pre .tables .counted, start w .good .1 .1 .0)
+mul-join-2 c = let w = c .before .before in omega (arith, below w, start w .pre .tables .counted, start w .good .1 .1 .1 .0)
 
 shared-slice-read-join-2 : tie.Need-shared-slice-read-join-2 Inv-loop μ-loop
 shared-slice-read-join-2 c = let w = c .before .before .before in omega (arith, below w, start w .pre .tables .counted)
@@ -95,7 +95,7 @@ join-requires c κs =
     (ap (λ z. getD (now (a .counts)) z 0) (w .wide .ensures))
 
 mul-take-in : tie.Need-mul-take-in Inv-loop μ-loop
-mul-take-in c = let w = c .before .before .before .before in omega (arith, below w, start w .pre .targeted, start w .good .0)
+mul-take-in c = let w = c .before .before .before .before in omega (arith, below w, start w .pre .targeted, start w .good .1 .0)
 
 shared-slice-read-take-in : tie.Need-shared-slice-read-take-in Inv-loop μ-loop
 shared-slice-read-take-in c = let w = wide-of-known c in omega (arith, below w, start w .pre .targeted)
@@ -107,7 +107,7 @@ slice-write-flags : tie.Need-slice-write-flags Inv-loop μ-loop
 slice-write-flags c = let w = wide-of-take-in c in omega (arith, below w, start w .pre .room, w .before .before .before .loop .inv .long)
 
 add-i : tie.Need-add-i Inv-loop μ-loop
-add-i c = let w = wide-of-take-in c in omega (arith, w .before .before .loop-test .taken, start w .good .1 .1 .1 .0)
+add-i c = let w = wide-of-take-in c in omega (arith, w .before .before .loop-test .taken, start w .good .1 .1 .1 .1 .0)
 
 loop-less : tie.Need-loop-less Inv-loop μ-loop
 loop-less c = omega (arith, at-in-loop c .loop-test .taken)

@@ -53,11 +53,11 @@ module _ (rows features a e : ℕ) (flags : List Bool) (order₀ order : List �
   past h is p = going-past rows a e (way flags) features order₀ (q .ordered) (q .high) (q .long) (keeps flags features (e - a)) order k s h (rw is p)
 
 abbrev Inv-loop : tie.InvT-loop
-Inv-loop order₀ rows features start end scratch₀ flags but k₀ order scratch k =
+Inv-loop order₀ scratch₀ flags rows features start end but k₀ order scratch k =
     Going rows start end (way flags) features order₀ order k × (length scratch ≡ length scratch₀)
 
 abbrev μ-loop : tie.MeasureT-loop
-μ-loop order₀ rows features start end scratch₀ flags but k₀ order scratch k = features - k
+μ-loop order₀ scratch₀ flags rows features start end but k₀ order scratch k = features - k
 
 abbrev from : tie.In-loop Inv-loop μ-loop → tie.Start Inv-loop μ-loop
 from c = c .before .before .before .before .before

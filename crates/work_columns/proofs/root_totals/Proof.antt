@@ -48,7 +48,7 @@ loop-again : tie.Need-loop-again Inv-loop μ-loop
 unfolding elementIn
 loop-again c =
     let b = c .before .before .before in
-    let a = b .before .before .before .before .before .before .args in
+    let a = at-start b .args in
     adding-turn (bare (now (a .targets)) (now (a .weights)) (now (a .counts))) (a .rows) _ _ _ (b .before .loop .inv) (b .loop-test .taken)
     (c .take-in .ensures ∙ ap (takeIn _ _) (c .before .before .mass-of .ensures))
 

@@ -70,7 +70,7 @@ gather-requires-2 c κs =
     let n = true-rows-to-rest c .true-rows .result in
     let a = start-to-rest c in
     subst (GatherAsks (a .args .rows) (now (a .args .targets)) (now (a .args .weights)) (now (a .args .counts)) _)
-    (sym (front-to-rest c .gather .kept .1 .1 .1 .1 .0)) (part-asks (a .pre) n (inr (lent-rest (now (a .args .col)) n)))
+    (sym (front-to-rest c .gather .kept .0)) (part-asks (a .pre) n (inr (lent-rest (now (a .args .col)) n)))
 
 cast-t31 : tie.Need-cast-t31
 cast-t31 c = omega (arith, true-rows-of-all c .true-rows .ensures .within, start-of-all c .pre .short)

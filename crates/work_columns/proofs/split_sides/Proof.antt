@@ -19,25 +19,25 @@ wide-requires : tie.Need-wide-requires
 wide-requires c κs = search needs
 
 mul-base : tie.Need-mul-base
-mul-base c = omega (arith, room c, start c .pre .ordered, start c .pre .high, start c .good .1 .1 .1 .1 .0)
+mul-base c = omega (arith, room c, start c .pre .ordered, start c .pre .high, start c .good .1 .1 .1 .1 .1 .0)
 
 add-low : tie.Need-add-low
-add-low c = omega (arith, room c, start c .pre .ordered, start c .pre .high, start c .good .1 .1 .1 .1 .0)
+add-low c = omega (arith, room c, start c .pre .ordered, start c .pre .high, start c .good .1 .1 .1 .1 .1 .0)
 
 add-high : tie.Need-add-high
-add-high c = omega (arith, room c, start c .pre .ordered, start c .pre .high, start c .good .1 .1 .1 .1 .0)
+add-high c = omega (arith, room c, start c .pre .ordered, start c .pre .high, start c .good .1 .1 .1 .1 .1 .0)
 
 mul-split-pass : tie.Need-mul-split-pass
-mul-split-pass c = omega (arith, room c, start c .pre .ordered, start c .pre .high, start c .good .1 .1 .1 .1 .0)
+mul-split-pass c = let b = c .before in omega (arith, room b, start b .pre .ordered, start b .pre .high, start b .good .1 .1 .1 .1 .1 .0)
 
 sub-split-pass : tie.Need-sub-split-pass
-sub-split-pass c = omega (arith, room c, start c .pre .ordered, start c .pre .high, start c .good .1 .1 .1 .1 .0)
+sub-split-pass c = let b = c .before in omega (arith, room b, start b .pre .ordered, start b .pre .high, start b .good .1 .1 .1 .1 .1 .0)
 
 part-split-pass-start : tie.Need-part-split-pass-start
-part-split-pass-start c = omega (arith, room c, start c .pre .ordered, start c .pre .high, start c .good .1 .1 .1 .1 .0)
+part-split-pass-start c = let b = c .before in omega (arith, room b, start b .pre .ordered, start b .pre .high, start b .good .1 .1 .1 .1 .1 .0)
 
 part-split-pass-end : tie.Need-part-split-pass-end
-part-split-pass-end c = omega (arith, room c, start c .pre .ordered, start c .pre .high, start c .good .1 .1 .1 .1 .0)
+part-split-pass-end c = let b = c .before in omega (arith, room b, start b .pre .ordered, start b .pre .high, start b .good .1 .1 .1 .1 .1 .0)
 
 split-pass-requires : tie.Need-split-pass-requires
 split-pass-requires c κs = let b = c .before .before in pass-asks _ _ _ _ _ _ _ _ _ _ _ (start b .pre) (b .wide .result) (b .wide .ensures)

@@ -42,7 +42,7 @@ start-of-then1 c = start-of-value-at (c .before .before)
 
 -- the value that was read is the row's
 read : (c : tie.After-value-at Inv-loop μ-loop)
-    → let a = c .before .before .before .before .before .before .before .before .args in le (c .value-at .result) (a .cut .threshold) ≡ tested (a .features)
+    → let a = start-of-value-at c .args in le (c .value-at .result) (a .cut .threshold) ≡ tested (a .features)
     (a .values .now) (a .cut) (getD (a .col .now) (c .before .before .before .before .loop .i) 0)
 read c =
     let a = start-of-value-at c .args in

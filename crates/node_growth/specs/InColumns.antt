@@ -76,10 +76,10 @@ child-rows g e order′ b a′ e′ h hj hp eh = λ i.
     mine = column-at g (e .start) (e .end) (e .feature) hj
 
 -- what lies below the split stretch is as it was
-pub frame : (g : Ground) (order′ : List ℕ) (a : ℕ) → ((k b f : ℕ) → b ≤ f → f ≤ a → part (g .rows) k b f order′ ≡ part (g .rows) k b f (g .order))
+pub below-still : (g : Ground) (order′ : List ℕ) (a : ℕ) → ((k b f : ℕ) → b ≤ f → f ≤ a → part (g .rows) k b f order′ ≡ part (g .rows) k b f (g .order))
     → (wholes : List (List ℕ)) (reals : List (List Float)) (high m : ℕ) → high ≤ a → Laid wholes reals high m → waitingList (withOrder g order′) wholes reals m ≡ waitingList g wholes reals m
-frame g order′ a beside wholes reals high zero hh l = refl
-frame g order′ a beside wholes reals high (suc m) hh l =
+below-still g order′ a beside wholes reals high zero hh l = refl
+below-still g order′ a beside wholes reals high (suc m) hh l =
     ap (λ z. record {
       number = x .node;
       level = x .level;
@@ -88,7 +88,7 @@ frame g order′ a beside wholes reals high (suc m) hh l =
           = cutOf x;
     } ∷ waitingList (withOrder g order′) wholes reals m)
     (cols-alike (elementOf (g .features) (g .tables)) (g .rows) (g .features) order′ (g .order) (x .start) (x .end) (λ k u. beside k (x .start) (x .end) (l .1) (le-trans (l .2) hh)))
-    ∙ ap (λ z. waitingOf g x ∷ z) (frame g order′ a beside wholes reals (x .start) m (le-trans (l .1) (le-trans (l .2) hh)) (l .3))
+    ∙ ap (λ z. waitingOf g x ∷ z) (below-still g order′ a beside wholes reals (x .start) m (le-trans (l .1) (le-trans (l .2) hh)) (l .3))
   where
     x : WaitingNode
     x = waitingAt wholes reals m
