@@ -11,7 +11,7 @@ use borrow.Author.Tests.{eqb-true}
 use Rattle.rules.specs.declared.Shape.{Shape}
 use Rattle.rules.specs.Words.{from, total}
 use Rattle.rules.specs.Lent.{Given, TreeRooms, ForestRooms, WaitingRoom, waitingRoom, unweighted, shortest}
-use Rattle.rules.specs.Checks.{Test, test, firstFailed, shapeIn, treesIn, lengths, goodStarts, numbersGood, countsGood, countsOne, roomFor, workEnough, reportsExact}
+use Rattle.rules.specs.Checks.{Test, test, firstFailed, shapeIn, treesIn, lengths, goodTapeStarts, numbersGood, countsGood, countsOne, roomFor, workEnough, reportsExact}
 use Rattle.rules.specs.Listing.{listingsGood}
 use Rattle.rules.specs.Fit.{TreeCall, oneTreeOf, treeTests}
 use Rattle.rules.specs.Forest.{ForestCall, oneTreeAt, eachTree, tapesGood, roomsGood, forestTests}
@@ -125,19 +125,19 @@ forest-room-is C =
 -- its tests are the call's
 pub forest-same : (S : Shape) (n : ℕ) (G : Given) (w t : ℕ) (wc tc : List ℕ) (L : Lengths) (s : ℕ) (P : ReportLengths) (C : ForestCall) (R : ForestRooms WaitingRoom)
     → ForestHas S n G w t wc tc L s P C R
-    → firstFailed (sixTests (shapeIn S && treesIn n) (lengths S n G && (goodStarts n w wc && goodStarts n t tc)) (numbersGood G) (countsGood G && countsOne G)
+    → firstFailed (sixTests (shapeIn S && treesIn n) (lengths S n G && (goodTapeStarts n w wc && goodTapeStarts n t tc)) (numbersGood G) (countsGood G && countsOne G)
     (listingsGood S (G .inputs .values) (G .inputs .listings))
     (leb (roomsIn (S .rows) n (G .weights) (G .counts)) (L .nodes) && (workEnough waitingRoom S (R .work) && (leb (suc n) s && reportsExact n (R .reports)))))
     ≡ firstFailed (forestTests waitingRoom C R)
 unfolding forestTests tapesGood roomsGood
 forest-same S n G w t wc tc L s P C R h =
     (λ i. firstFailed (sixTests (shapeIn (h .shape i) && treesIn (h .trees i))
-    (lengths (h .shape i) (h .trees i) (h .given i) && (goodStarts (h .trees i) (h .words i) (h .wordStarts i) && goodStarts (h .trees i) (h .thresholds i) (h .thresholdStarts i)))
+    (lengths (h .shape i) (h .trees i) (h .given i) && (goodTapeStarts (h .trees i) (h .words i) (h .wordStarts i) && goodTapeStarts (h .trees i) (h .thresholds i) (h .thresholdStarts i)))
     (numbersGood (h .given i)) (countsGood (h .given i) && countsOne (h .given i)) (listingsGood (h .shape i) (h .given i .inputs .values) (h .given i .inputs .listings))
     (leb (roomsIn (h .shape i .rows) (h .trees i) (h .given i .weights) (h .given i .counts)) (h .nodes i)
     && (workEnough waitingRoom (h .shape i) (R .work) && (leb (suc (h .trees i)) (h .starts i) && reportsExact (h .trees i) (R .reports))))))
     ∙ ap (λ m. firstFailed (sixTests (shapeIn (C .shape) && treesIn (C .trees))
-    (lengths (C .shape) (C .trees) (C .given) && (goodStarts (C .trees) (length (C .words)) (C .wordStarts) && goodStarts (C .trees) (length (C .thresholds)) (C .thresholdStarts)))
+    (lengths (C .shape) (C .trees) (C .given) && (goodTapeStarts (C .trees) (length (C .words)) (C .wordStarts) && goodTapeStarts (C .trees) (length (C .thresholds)) (C .thresholdStarts)))
     (numbersGood (C .given)) (countsGood (C .given) && countsOne (C .given)) (listingsGood (C .shape) (C .given .inputs .values) (C .given .inputs .listings))
     (leb m (shortest (R .nodes)) && (workEnough waitingRoom (C .shape) (R .work) && (leb (suc (C .trees)) (length (R .starts)) && reportsExact (C .trees) (R .reports))))))
     (forest-room-is C)

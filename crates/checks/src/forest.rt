@@ -5,7 +5,7 @@ ghost use Prim.Native.Nat.{_≤_};
 ghost use lib.Dec.{leb, eqb};
 ghost use Rattle.rules.specs.Words.{every};
 ghost use Rattle.rules.specs.Lent.{ForestRooms, WaitingRoom, waitingRoom, unweighted, givenOf};
-ghost use Rattle.rules.specs.Checks.{firstFailed, treesIn, shapeIn, lengths, goodStarts};
+ghost use Rattle.rules.specs.Checks.{firstFailed, treesIn, shapeIn, lengths, goodTapeStarts};
 ghost use Rattle.rules.specs.Forest.{ForestCall, forestTests};
 ghost use Rattle.checks.specs.Asks.{Ranges};
 ghost use Rattle.checks.specs.Verdicts.{ForestHas};
@@ -23,7 +23,7 @@ pub fn forest_in(shape: Shape, trees: usize) -> bool
     }
 }
 
-fn both_cuts(
+fn both_tapes(
     trees: usize,
     words: usize,
     thresholds: usize,
@@ -31,10 +31,10 @@ fn both_cuts(
     thresholdstarts: &[usize],
 ) -> bool
     requires { ⌜ trees ≤ 1024 ⌝ }
-    ensures { λ r. ⌜ r ≡ (goodStarts trees words (now (wordstarts .entry)) && goodStarts trees thresholds (now (thresholdstarts .entry))) ⌝ }
+    ensures { λ r. ⌜ r ≡ (goodTapeStarts trees words (now (wordstarts .entry)) && goodTapeStarts trees thresholds (now (thresholdstarts .entry))) ⌝ }
 {
-    if crate::inputs::cuts_good(trees, words, wordstarts) {
-        crate::inputs::cuts_good(trees, thresholds, thresholdstarts)
+    if crate::inputs::tape_starts_good(trees, words, wordstarts) {
+        crate::inputs::tape_starts_good(trees, thresholds, thresholdstarts)
     } else {
         false
     }
@@ -55,10 +55,10 @@ fn forest_long(
 ) -> bool
     requires { ⌜ Ranges shape trees ⌝ }
     ensures { λ r. ⌜ r ≡ (lengths shape trees (givenOf (now (values .entry)) (now (targets .entry)) (now (weights .entry)) (now (counts .entry)) (now (listings .entry)))
-        && (goodStarts trees words (now (wordstarts .entry)) && goodStarts trees thresholds (now (thresholdstarts .entry)))) ⌝ }
+        && (goodTapeStarts trees words (now (wordstarts .entry)) && goodTapeStarts trees thresholds (now (thresholdstarts .entry)))) ⌝ }
 {
     if crate::inputs::lengths_good(shape, trees, values, targets, weights, counts, listings) {
-        both_cuts(trees, words, thresholds, wordstarts, thresholdstarts)
+        both_tapes(trees, words, thresholds, wordstarts, thresholdstarts)
     } else {
         false
     }

@@ -1,4 +1,4 @@
-// What is lent to a fit: its lengths, its cut tables, its numbers and its counts.
+// What is lent to a fit: its lengths, its starts in the tapes, its numbers and its counts.
 ghost use mathlib.Core.Path.{_≡_};
 ghost use mathlib.Core.Bool.{_&&_, _||_};
 ghost use Prim.Native.Nat.{_≤_};
@@ -7,7 +7,7 @@ ghost use lib.Dec.{leb, eqb};
 ghost use lib.Ieee.Scale.{finite};
 ghost use Rattle.rules.specs.Words.{every, along};
 ghost use Rattle.rules.specs.Lent.{unweighted, givenOf};
-ghost use Rattle.rules.specs.Checks.{lengths, goodStarts, goodWeight};
+ghost use Rattle.rules.specs.Checks.{lengths, goodTapeStarts, goodWeight};
 ghost use Rattle.checks.specs.Asks.{Ranges};
 use rules::Shape;
 
@@ -52,18 +52,18 @@ pub fn lengths_good(
     crate::listings_long(shape, listings)
 }
 
-// ---- cut tables
+// ---- starts in the tapes
 
-fn cuts_rise(cuts: &[usize]) -> bool
-    ensures { λ r. ⌜ r ≡ along leb (now (cuts .entry)) ⌝ }
+fn tape_starts_rise(starts: &[usize]) -> bool
+    ensures { λ r. ⌜ r ≡ along leb (now (starts .entry)) ⌝ }
 {
-    if cuts.len() == 0 {
+    if starts.len() == 0 {
         return true;
     }
-    let mut last = cuts[0];
+    let mut last = starts[0];
     let mut i: usize = 1;
-    while i < cuts.len() {
-        let next = cuts[i];
+    while i < starts.len() {
+        let next = starts[i];
         if next < last {
             return false;
         }
@@ -73,21 +73,21 @@ fn cuts_rise(cuts: &[usize]) -> bool
     true
 }
 
-// The rule of a cut table over a tape of so many draws.
-pub fn cuts_good(trees: usize, tape: usize, cuts: &[usize]) -> bool
+// The rule of the starts of the parts of a tape of so many draws.
+pub fn tape_starts_good(trees: usize, tape: usize, starts: &[usize]) -> bool
     requires { ⌜ trees ≤ 1024 ⌝ }
-    ensures { λ r. ⌜ r ≡ goodStarts trees tape (now (cuts .entry)) ⌝ }
+    ensures { λ r. ⌜ r ≡ goodTapeStarts trees tape (now (starts .entry)) ⌝ }
 {
-    if cuts.len() != trees + 1 {
+    if starts.len() != trees + 1 {
         return false;
     }
-    if cuts[0] != 0 {
+    if starts[0] != 0 {
         return false;
     }
-    if !cuts_rise(cuts) {
+    if !tape_starts_rise(starts) {
         return false;
     }
-    cuts[trees] == tape
+    starts[trees] == tape
 }
 
 // ---- numbers

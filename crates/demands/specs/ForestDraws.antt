@@ -1,8 +1,8 @@
 -- Draws used are exact, of a forest. Each tree of a forest fit that answers uses of its own parts of both tapes exactly what its place of the report columns says. Over
 -- any tapes in which each tree's parts begin with as much, and the same, it is the same fit: so over tapes laid anew from each tree's parts, cut to what it used or longer;
--- cut to just that, the new cut tables are the sums of the report columns. Where one tree's words or thresholds are cut shorter than it used, and no tree's before it,
+-- cut to just that, the new starts in the tapes are the sums of the report columns. Where one tree's words or thresholds are cut shorter than it used, and no tree's before it,
 -- it is refusal 7 at that tree, whatever is left to those after it. It holds because a forest is its trees and each looks at no more than it uses; of the checks one alone
--- asks for a tape, that of the cut tables, and what is laid anew has good ones. Assumes nothing.
+-- asks for a tape, that of the starts in the tapes, and what is laid anew has good ones. Assumes nothing.
 use Prim.Native.Nat.{ℕ, zero, suc, _-_, _<_, _≤_}
 use native.Mathlib.Nat.{le-refl, zero-add}
 use native.Mathlib.Omega.{arith}
@@ -21,7 +21,7 @@ use Rattle.rules.specs.declared.TreeAnswer.{TreeAnswer}
 use Rattle.rules.specs.declared.ForestAnswer.{ForestAnswer}
 use Rattle.rules.specs.Words.{from, front, filled, total}
 use Rattle.rules.specs.Lent.{Data, OneTree, Reports, WaitingForm, TreeRooms, ForestRooms, Outcome, kept, keptRows, shortest, zeroColumns, zeroReports, zeroWork}
-use Rattle.rules.specs.Checks.{firstFailed, lengths, goodStarts, roomFor}
+use Rattle.rules.specs.Checks.{firstFailed, lengths, goodTapeStarts, roomFor}
 use Rattle.rules.specs.Fit.{Tree, fit, oneTreeOf, fitTree}
 use Rattle.rules.specs.Forest.{ForestCall, forestCall, part, oneTreeAt, eachTree, Forest, stopped, grownAll, nextTree, growTrees, grownForest, tapesGood, roomsGood, forestTests, forestDone, forestEnds, fitForest}
 use Rattle.rules.specs.Answers.{Told, forestTold, told}
@@ -31,7 +31,7 @@ use Rattle.lemmas.specs.Tapes.{Begins}
 use Rattle.lemmas.specs.Passed.{past, goes-on, none-fails}
 use Rattle.lemmas.specs.Written.{front-length}
 use Rattle.lemmas.specs.Answered.{TreeAnswered, tree-answered, ForestAnswered, forest-answered, forest-right, trees-length}
-use Rattle.demands.specs.Pieces.{sums, cutsOf, piece-at, cuts-good}
+use Rattle.demands.specs.Pieces.{sums, cutsOf, piece-at, tape-starts-good}
 use Rattle.demands.specs.Numbers.{columns-long}
 use Rattle.demands.specs.ItsTrees.{between, treeCallAt, reportAt, ownRooms, frame-same, its-trees, tree-alone}
 use Rattle.demands.specs.Refusals.{ForestUnrefused, forest-passes}
@@ -142,8 +142,8 @@ module _ {A : Type 0} (trees : ℕ) (ns : List ℕ) (p : ℕ → List A) where
   as-many = length-map (from 0 trees) (λ t. take (getD ns t 0) (p t)) ∙ length-from 0 trees
 
   -- its table is good
-  good-anew : T (goodStarts trees (length (flatten pieces)) (cutsOf pieces))
-  good-anew = subst (λ n. T (goodStarts n (length (flatten pieces)) (cutsOf pieces))) as-many (cuts-good pieces)
+  good-anew : T (goodTapeStarts trees (length (flatten pieces)) (cutsOf pieces))
+  good-anew = subst (λ n. T (goodTapeStarts n (length (flatten pieces)) (cutsOf pieces))) as-many (tape-starts-good pieces)
 
   piece : (t : ℕ) → t < trees → getD pieces t [] ≡ take (getD ns t 0) (p t)
   piece t h = getD-from (λ t. take (getD ns t 0) (p t)) 0 trees t [] h ∙ ap (λ t. take (getD ns t 0) (p t)) (zero-add t)
@@ -185,7 +185,7 @@ cut-good : (C : ForestCall) (ns ms : List ℕ) → T (tapesGood (forestCut ns ms
 unfolding tapesGood
 cut-good C ns ms =
     let new = forestCut ns ms C in
-    and-i (goodStarts (C .trees) (length (new .words)) (new .wordStarts)) (goodStarts (C .trees) (length (new .thresholds)) (new .thresholdStarts))
+    and-i (goodTapeStarts (C .trees) (length (new .words)) (new .wordStarts)) (goodTapeStarts (C .trees) (length (new .thresholds)) (new .thresholdStarts))
     (good-anew (C .trees) ns (wordsAt C)) (good-anew (C .trees) ms (thresholdsAt C))
 
 -- ---- other tapes are not refused before growth

@@ -161,10 +161,10 @@ within-limit W K C R r h =
 
 -- ---- a limit that is not met
 
-abbrev frameUnder : ℕ → OneTree → OneTree
-frameUnder n F = record { rows = F .rows; params = relimit n (F .params); weights = F .weights; counts = F .counts; words = F .words; thresholds = F .thresholds }
+abbrev oneTreeUnder : ℕ → OneTree → OneTree
+oneTreeUnder n F = record { rows = F .rows; params = relimit n (F .params); weights = F .weights; counts = F .counts; words = F .words; thresholds = F .thresholds }
 
-fit-unmet : (F : OneTree) (D : Data) (n b : ℕ) → 1 ≤ b → b < F .params .limit → b < n → Then (fit F D) (λ t. t .report .depth ≤ b → fit (frameUnder n F) D ≡ ok t)
+fit-unmet : (F : OneTree) (D : Data) (n b : ℕ) → 1 ≤ b → b < F .params .limit → b < n → Then (fit F D) (λ t. t .report .depth ≤ b → fit (oneTreeUnder n F) D ≡ ok t)
 unfolding fit growFrom treeOf root column listing element kept keptRows bind
 fit-unmet F D n b h u u′ =
     then-then (fromRoot P (choose P) node start) _ _ _ (root-unmet P n b u u′ (choose P) node start h)

@@ -1,5 +1,5 @@
 -- Parts laid end to end are the whole. Where the lengths are as check 2 asks, the rows' values make the values, the features' listings the listings, the trees' counts
--- the counts and, by good cut tables, the trees' parts each tape: every part has the length that is its own, and the parts in their order leave nothing out and have
+-- the counts and, by good starts in the tapes, the trees' parts each tape: every part has the length that is its own, and the parts in their order leave nothing out and have
 -- nothing twice. It holds because each begins where the one before it ends, the first at 0 and the last at the end. Assumes nothing.
 use Prim.Native.Nat.{ℕ, zero, suc, _+_, _-_, _*_, _<_, _≤_}
 use native.Mathlib.Nat.{add-zero, zero-mul, suc-mul}
@@ -13,10 +13,10 @@ use lib.Dec.{T, leb, eqb, eqb→eq}
 use Rattle.rules.specs.declared.Shape.{Shape}
 use Rattle.rules.specs.Words.{from, along, stretch}
 use Rattle.rules.specs.Lent.{Given, valuesAt, listingAt, unweighted}
-use Rattle.rules.specs.Checks.{lengths, goodStarts}
+use Rattle.rules.specs.Checks.{lengths, goodTapeStarts}
 use Rattle.rules.specs.Forest.{ForestCall, part, oneTreeAt, tapesGood}
 use Rattle.lemmas.specs.Lists.{same-default}
-use Rattle.lemmas.specs.Passed.{and3, and4, and5, cut-at}
+use Rattle.lemmas.specs.Passed.{and3, and4, and5, part-at}
 
 -- ---- the statements
 
@@ -34,14 +34,14 @@ abbrev pub DataParts : Type 0
 DataParts = (S : Shape) (trees : ℕ) (G : Given) → T (lengths S trees G) → DataDivided S G
 
 -- the places between cut t and the next
-abbrev pub cutSize : List ℕ → ℕ → ℕ
-cutSize cuts t = getD cuts (suc t) 0 - getD cuts t 0
+abbrev pub partSize : List ℕ → ℕ → ℕ
+partSize starts t = getD starts (suc t) 0 - getD starts t 0
 
 -- of what each tree of a forest grows by
 pub record TreesDivided (C : ForestCall) : Type 0 where
   pub counts : Divided (C .given .counts) (C .trees) (λ t. C .shape .rows) (λ t. oneTreeAt C t .counts)
-  pub words : Divided (C .words) (C .trees) (cutSize (C .wordStarts)) (λ t. oneTreeAt C t .words)
-  pub thresholds : Divided (C .thresholds) (C .trees) (cutSize (C .thresholdStarts)) (λ t. oneTreeAt C t .thresholds)
+  pub words : Divided (C .words) (C .trees) (partSize (C .wordStarts)) (λ t. oneTreeAt C t .words)
+  pub thresholds : Divided (C .thresholds) (C .trees) (partSize (C .thresholdStarts)) (λ t. oneTreeAt C t .thresholds)
 
 abbrev pub TreeParts : Type 0
 TreeParts = (C : ForestCall) → T (lengths (C .shape) (C .trees) (C .given) && tapesGood C) → TreesDivided C
@@ -74,15 +74,15 @@ even : {A : Type 0} (l : List A) (n width : ℕ) → length l ≡ n * width → 
 even l n width e = divided l n (λ t. t * width) (λ t. width) (zero-mul width) (λ t h. suc-mul t width) (sym e)
 
 -- of a tape
-tape-parts : {A : Type 0} (trees : ℕ) (cuts : List ℕ) (tape : List A) → T (goodStarts trees (length tape) cuts) → Divided tape trees (cutSize cuts) (part cuts tape)
-unfolding part goodStarts
-tape-parts trees cuts tape g =
-    let (long, z, rise, e) = and4 (eqb (length cuts) (suc trees)) (eqb (getD cuts 0 1) 0) (along leb cuts) (eqb (getD cuts trees (suc (length tape))) (length tape)) g in
-    let known : length cuts ≡ suc trees = eqb→eq _ _ long in
-    divided tape trees (λ t. getD cuts t 0) (cutSize cuts)
-    (same-default cuts 0 0 1 (omega arith) ∙ eqb→eq _ _ z)
-    (λ t h. back (getD cuts t 0) (getD cuts (suc t) 0) (subst (λ k. getD cuts t 0 ≤ getD cuts k 0) (plus-one t) (cut-at trees (length tape) cuts g t h .order)))
-    (same-default cuts trees 0 (suc (length tape)) (omega arith) ∙ eqb→eq _ _ e)
+tape-parts : {A : Type 0} (trees : ℕ) (starts : List ℕ) (tape : List A) → T (goodTapeStarts trees (length tape) starts) → Divided tape trees (partSize starts) (part starts tape)
+unfolding part goodTapeStarts
+tape-parts trees starts tape g =
+    let (long, z, rise, e) = and4 (eqb (length starts) (suc trees)) (eqb (getD starts 0 1) 0) (along leb starts) (eqb (getD starts trees (suc (length tape))) (length tape)) g in
+    let known : length starts ≡ suc trees = eqb→eq _ _ long in
+    divided tape trees (λ t. getD starts t 0) (partSize starts)
+    (same-default starts 0 0 1 (omega arith) ∙ eqb→eq _ _ z)
+    (λ t h. back (getD starts t 0) (getD starts (suc t) 0) (subst (λ k. getD starts t 0 ≤ getD starts k 0) (plus-one t) (part-at trees (length tape) starts g t h .order)))
+    (same-default starts trees 0 (suc (length tape)) (omega arith) ∙ eqb→eq _ _ e)
   where
     back : (a b : ℕ) → a ≤ b → b ≡ a + (b - a)
     back a b h = omega arith
@@ -110,8 +110,8 @@ data-parts S trees G g =
 pub tree-parts : TreeParts
 unfolding oneTreeAt tapesGood
 tree-parts C g =
-    let (n, w, t) = and3 (lengths (C .shape) (C .trees) (C .given)) (goodStarts (C .trees) (length (C .words)) (C .wordStarts))
-    (goodStarts (C .trees) (length (C .thresholds)) (C .thresholdStarts)) g in
+    let (n, w, t) = and3 (lengths (C .shape) (C .trees) (C .given)) (goodTapeStarts (C .trees) (length (C .words)) (C .wordStarts))
+    (goodTapeStarts (C .trees) (length (C .thresholds)) (C .thresholdStarts)) g in
     record {
       counts = even (C .given .counts) (C .trees) (C .shape .rows) (as-asked (C .shape) (C .trees) (C .given) n .1);
       words = tape-parts (C .trees) (C .wordStarts) (C .words) w;

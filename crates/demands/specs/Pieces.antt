@@ -1,4 +1,4 @@
--- Pieces laid end to end, and the cut table that tells where each begins: it is good for the whole, and the part that it gives tree t is piece t. It holds because each
+-- Pieces laid end to end, and the starts in a tape that tells where each begins: it is good for the whole, and the part that it gives tree t is piece t. It holds because each
 -- piece begins where all before it have ended. Assumes nothing.
 use Prim.Native.Nat.{ℕ, zero, suc, _+_, _-_, _<_}
 use native.Mathlib.Nat.{zero-add, not-suc-le-zero, le-of-suc-le-suc}
@@ -11,7 +11,7 @@ use lib.Seq.{take-append-seam, drop-append-seam}
 use lib.Dec.{T, leb, eqb, eqb-refl, le→leb}
 use lib.Ieee.Fits.{and-i}
 use Rattle.rules.specs.Words.{along, alongFrom}
-use Rattle.rules.specs.Checks.{goodStarts}
+use Rattle.rules.specs.Checks.{goodTapeStarts}
 use Rattle.rules.specs.Forest.{part}
 
 -- a + n₀, a + n₀ + n₁ and on
@@ -38,9 +38,9 @@ module _ {A : Type 0} where
   pub piece-at : (ps : List (List A)) (t : ℕ) → t < length ps → part (cutsOf ps) (flatten ps) t ≡ getD ps t []
   piece-at ps t h = piece-from [] ps t h
 
-  pub cuts-good : (ps : List (List A)) → T (goodStarts (length ps) (length (flatten ps)) (cutsOf ps))
-  unfolding goodStarts along alongFrom flatten
-  cuts-good ps =
+  pub tape-starts-good : (ps : List (List A)) → T (goodTapeStarts (length ps) (length (flatten ps)) (cutsOf ps))
+  unfolding goodTapeStarts along alongFrom flatten
+  tape-starts-good ps =
       let ends = eqb (getD (cutsOf ps) (length ps) (suc (length (flatten ps)))) (length (flatten ps)) in
       and-i (eqb (length (cutsOf ps)) (suc (length ps))) (along leb (cutsOf ps) && ends) (equal _ _ (ap suc (long 0 ps)))
       (and-i (along leb (cutsOf ps)) ends (rising 0 ps) (equal _ _ (last 0 ps _ ∙ zero-add (length (flatten ps)))))

@@ -12,7 +12,7 @@ use Rattle.rules.specs.Checks.{roomFor}
 use Rattle.rules.specs.Fit.{Tree, fit}
 use Rattle.rules.specs.Forest.{stopped, grownAll, growTrees, startsFrom, forestEntries}
 use Rattle.lemmas.specs.Lists.{length-from, getD-from}
-use Rattle.lemmas.specs.Passed.{CutAt}
+use Rattle.lemmas.specs.Passed.{PartAt}
 use Rattle.lemmas.specs.Outs.{Then, then-of}
 use Rattle.rooms.specs.Zero.{NodesLong}
 use Rattle.node_entries.specs.Entries.{LongAll}
@@ -22,32 +22,32 @@ use Rattle.tree_build.specs.Plant.{PlantDone, long-all}
 use Rattle.forest_build.specs.declared.Grove.{Grove}
 use Rattle.forest_build.specs.declared.Grove.the-variants as U
 use Rattle.forest_build.specs.declared.Told.{Told}
-use Rattle.forest_build.specs.Lot.{Lot, Widths, lotFrame, lotFrames, PlantIn}
+use Rattle.forest_build.specs.Lot.{Lot, Widths, lotTree, lotTrees, PlantIn}
 use Rattle.forest_build.specs.Standing.{dropAll, Standing, standing-first, standing-end, standing-stop, standing-next, room-here}
 use Rattle.forest_build.specs.Next.{NextAsks, NextDone}
 
 pub record AllAsks (trees : ℕ) (L : Lot) (c : Columns) (w : Widths) : Type 0 where
-  pub fine : (t : ℕ) → t < trees → (k : Columns) → roomFor (lotFrame L t) ≤ shortest k → PlantIn L (lotFrame L t) k w
+  pub fine : (t : ℕ) → t < trees → (k : Columns) → roomFor (lotTree L t) ≤ shortest k → PlantIn L (lotTree L t) k w
   pub small : (t : ℕ) → t < trees → t * L .rows + L .rows < 4294967296
   pub counted : (t : ℕ) → t < trees → t * L .rows + L .rows ≤ length (L .counts)
-  pub word : (t : ℕ) → t < trees → CutAt (L .wordStarts) (length (L .words)) t
-  pub threshold : (t : ℕ) → t < trees → CutAt (L .thresholdStarts) (length (L .thresholds)) t
-  pub nodes : (t : ℕ) → t < trees → Then (fit (lotFrame L t) (L .inputs)) (λ (x : Tree). length (x .nodes) ≤ roomFor (lotFrame L t))
-  pub reported : (t : ℕ) → t < trees → Then (fit (lotFrame L t) (L .inputs)) (λ (x : Tree). x .report .nodes ≡ length (x .nodes))
+  pub word : (t : ℕ) → t < trees → PartAt (L .wordStarts) (length (L .words)) t
+  pub threshold : (t : ℕ) → t < trees → PartAt (L .thresholdStarts) (length (L .thresholds)) t
+  pub nodes : (t : ℕ) → t < trees → Then (fit (lotTree L t) (L .inputs)) (λ (x : Tree). length (x .nodes) ≤ roomFor (lotTree L t))
+  pub reported : (t : ℕ) → t < trees → Then (fit (lotTree L t) (L .inputs)) (λ (x : Tree). x .report .nodes ≡ length (x .nodes))
   pub few : trees ≤ 1024
-  pub room : total roomFor (lotFrames trees L) ≤ shortest c
-  pub low : total roomFor (lotFrames trees L) < 4294967296
+  pub room : total roomFor (lotTrees trees L) ≤ shortest c
+  pub low : total roomFor (lotTrees trees L) < 4294967296
 
 -- all trees as the definition has them: their nodes at the front of the columns, their reports and starts told
 pub record AllGrown (n : ℕ) (L : Lot) (c c′ : Columns) (rs : List Report) (es : List ℕ) : Type 0 where
   pub trees : List Tree
-  pub same : growTrees 0 (lotFrames n L) (L .inputs) ≡ grownAll trees
+  pub same : growTrees 0 (lotTrees n L) (L .inputs) ≡ grownAll trees
   pub nodes : c′ ≡ writeEntries (forestEntries trees) c
   pub reports : take n rs ≡ map (λ (x : Tree). x .report) trees
   pub starts : 0 ∷ take n es ≡ startsFrom 0 trees
 
 abbrev pub Answers : ℕ → Lot → Columns → Columns → List Report → List ℕ → Grove → Type 0
-Answers n L c c′ rs es (U.Stopped d) = growTrees 0 (lotFrames n L) (L .inputs) ≡ stopped d
+Answers n L c c′ rs es (U.Stopped d) = growTrees 0 (lotTrees n L) (L .inputs) ≡ stopped d
 Answers n L c c′ rs es U.Grown = AllGrown n L c c′ rs es
 
 -- room in what is told for as many trees as there may be
@@ -100,7 +100,7 @@ left-room at n c₀ c l h =
 pub record Going (trees : ℕ) (L : Lot) (c₀ : Columns) (w₀ : Widths) (t at : ℕ) (c : Columns) (w : Widths) (rs : List Report) (es : List ℕ) : Type 0 where
   pub asks : AllAsks trees L c₀ w₀
   pub within : t ≤ trees
-  pub standing : Standing (lotFrames trees L) (L .inputs) c₀ t at c rs es
+  pub standing : Standing (lotTrees trees L) (L .inputs) c₀ t at c rs es
   pub long : ToldLong rs es
   pub nodes : NodesLong c₀ c
   pub order : w .order ≡ w₀ .order
@@ -109,18 +109,18 @@ pub record Going (trees : ℕ) (L : Lot) (c₀ : Columns) (w₀ : Widths) (t at 
   pub wholes : w .wholes ≡ w₀ .wholes
   pub reals : w .reals ≡ w₀ .reals
 
-frames-long : (n : ℕ) (L : Lot) → length (lotFrames n L) ≡ n
-frames-long n L = length-map (from 0 n) (lotFrame L) ∙ length-from 0 n
+frames-long : (n : ℕ) (L : Lot) → length (lotTrees n L) ≡ n
+frames-long n L = length-map (from 0 n) (lotTree L) ∙ length-from 0 n
 
-frame-at : (n : ℕ) (L : Lot) (t : ℕ) → t < n → getD (lotFrames n L) t (lotFrame L t) ≡ lotFrame L t
-frame-at n L t h = getD-from (lotFrame L) 0 n t (lotFrame L t) h ∙ ap (lotFrame L) (zero-add t)
+frame-at : (n : ℕ) (L : Lot) (t : ℕ) → t < n → getD (lotTrees n L) t (lotTree L t) ≡ lotTree L t
+frame-at n L t h = getD-from (lotTree L) 0 n t (lotTree L t) h ∙ ap (lotTree L) (zero-add t)
 
 pub going-first : (n : ℕ) (L : Lot) (c : Columns) (w : Widths) (rs : List Report) (es : List ℕ) → AllAsks n L c w → ToldLong rs es → Going n L c w 0 0 c w rs es
 going-first n L c w rs es h l =
     record {
       asks = h;
       within = omega arith;
-      standing = standing-first (lotFrames n L) (L .inputs) c rs es;
+      standing = standing-first (lotTrees n L) (L .inputs) c rs es;
       long = l;
       nodes = record { value = refl; feature = refl; threshold = refl; score = refl; truechild = refl; falsechild = refl };
       order = refl;
@@ -139,7 +139,7 @@ module _ (n : ℕ) (L : Lot) (c₀ : Columns) (w₀ : Widths) (t at : ℕ) (c : 
         long = g .long;
         done = record {
           trees = st .trees;
-          same = standing-end (lotFrames n L) (L .inputs) c₀ t at c rs es st (subst (λ k. k ≤ t) (sym (frames-long n L)) h);
+          same = standing-end (lotTrees n L) (L .inputs) c₀ t at c rs es st (subst (λ k. k ≤ t) (sym (frames-long n L)) h);
           nodes = st .nodes;
           reports = subst (λ k. take k rs ≡ map (λ (x : Tree). x .report) (st .trees)) all (st .reports);
           starts = subst (λ k. 0 ∷ take k es ≡ startsFrom 0 (st .trees)) all (st .starts);
@@ -150,16 +150,16 @@ module _ (n : ℕ) (L : Lot) (c₀ : Columns) (w₀ : Widths) (t at : ℕ) (c : 
       same a b x y = omega arith
 
   module _ (h : t < n) where
-    inside : t < length (lotFrames n L)
+    inside : t < length (lotTrees n L)
     inside = subst (λ k. t < k) (sym (frames-long n L)) h
 
-    here : at + roomFor (lotFrame L t) + total roomFor (drop (suc t) (lotFrames n L)) ≤ total roomFor (lotFrames n L)
-    here = room-here (lotFrames n L) (L .inputs) c₀ t at c rs es (g .standing) inside (lotFrame L t) (frame-at n L t h)
+    here : at + roomFor (lotTree L t) + total roomFor (drop (suc t) (lotTrees n L)) ≤ total roomFor (lotTrees n L)
+    here = room-here (lotTrees n L) (L .inputs) c₀ t at c rs es (g .standing) inside (lotTree L t) (frame-at n L t h)
 
-    room : LongAll at c × (roomFor (lotFrame L t) ≤ shortest (dropAll at c))
+    room : LongAll at c × (roomFor (lotTree L t) ≤ shortest (dropAll at c))
     room =
-        left-room at (roomFor (lotFrame L t)) c₀ c (g .nodes)
-        (less at (roomFor (lotFrame L t)) (total roomFor (drop (suc t) (lotFrames n L))) (total roomFor (lotFrames n L)) (shortest c₀) here (g .asks .room))
+        left-room at (roomFor (lotTree L t)) c₀ c (g .nodes)
+        (less at (roomFor (lotTree L t)) (total roomFor (drop (suc t) (lotTrees n L))) (total roomFor (lotTrees n L)) (shortest c₀) here (g .asks .room))
       where
         less : (a b c d e : ℕ) → a + b + c ≤ d → d ≤ e → a + b ≤ e
         less a b c d e h k = omega arith
@@ -170,7 +170,7 @@ module _ (n : ℕ) (L : Lot) (c₀ : Columns) (w₀ : Widths) (t at : ℕ) (c : 
     pub going-may : NextAsks L t at c w
     going-may =
         record {
-          plant = subst (PlantIn L (lotFrame L t) (dropAll at c)) widths-kept (g .asks .fine t h (dropAll at c) (room .1));
+          plant = subst (PlantIn L (lotTree L t) (dropAll at c)) widths-kept (g .asks .fine t h (dropAll at c) (room .1));
           long = room .0;
           small = g .asks .small t h;
           counted = g .asks .counted t h;
@@ -183,33 +183,33 @@ module _ (n : ℕ) (L : Lot) (c₀ : Columns) (w₀ : Widths) (t at : ℕ) (c : 
       going-stop k e em =
           record {
             long = g .long;
-            done = standing-stop (lotFrames n L) (L .inputs) c₀ t at c rs es (g .standing) inside (lotFrame L t) (frame-at n L t h) k
+            done = standing-stop (lotTrees n L) (L .inputs) c₀ t at c rs es (g .standing) inside (lotTree L t) (frame-at n L t h) k
                 (subst (λ z. NextDone L t at c c′ z) e d .done .done)
                 ∙ ap (λ m. stopped (record { tree = m; search = k })) (sym em);
           }
 
       module _ (report : Report) (e : r ≡ Grown report) where
-        grew : PlantDone (lotFrame L t) (L .inputs) (dropAll at c) (dropAll at c′) (Grown report)
+        grew : PlantDone (lotTree L t) (L .inputs) (dropAll at c) (dropAll at c′) (Grown report)
         grew = subst (λ z. NextDone L t at c c′ z) e d .done
 
         tree : Tree
         tree = grew .done .tree
 
-        tree-low : length (tree .nodes) ≤ roomFor (lotFrame L t)
+        tree-low : length (tree .nodes) ≤ roomFor (lotTree L t)
         unfolding tree
         tree-low =
-            then-of (λ (x : Tree). length (x .nodes) ≤ roomFor (lotFrame L t)) (fit (lotFrame L t) (L .inputs)) (grew .done .tree) (grew .done .same) (g .asks .nodes t h)
+            then-of (λ (x : Tree). length (x .nodes) ≤ roomFor (lotTree L t)) (fit (lotTree L t) (L .inputs)) (grew .done .tree) (grew .done .same) (g .asks .nodes t h)
 
         nodes-told : report .nodes ≡ length (tree .nodes)
         unfolding tree
         nodes-told =
             ap (λ (x : Report). x .nodes) (sym (grew .done .report))
-            ∙ then-of (λ (x : Tree). x .report .nodes ≡ length (x .nodes)) (fit (lotFrame L t) (L .inputs)) (grew .done .tree) (grew .done .same) (g .asks .reported t h)
+            ∙ then-of (λ (x : Tree). x .report .nodes ≡ length (x .nodes)) (fit (lotTree L t) (L .inputs)) (grew .done .tree) (grew .done .same) (g .asks .reported t h)
 
         -- where the tree ends fits 32 bits
         pub end-fits : at + report .nodes < 4294967296
         end-fits =
-            fits at (report .nodes) (length (tree .nodes)) (roomFor (lotFrame L t)) (total roomFor (drop (suc t) (lotFrames n L))) (total roomFor (lotFrames n L))
+            fits at (report .nodes) (length (tree .nodes)) (roomFor (lotTree L t)) (total roomFor (drop (suc t) (lotTrees n L))) (total roomFor (lotTrees n L))
             nodes-told tree-low here (g .asks .low)
           where
             fits : (a n m r x d : ℕ) → n ≡ m → m ≤ r → a + r + x ≤ d → d < 4294967296 → a + n < 4294967296
@@ -224,8 +224,8 @@ module _ (n : ℕ) (L : Lot) (c₀ : Columns) (w₀ : Widths) (t at : ℕ) (c : 
               asks = g .asks;
               within = omega arith;
               standing =
-                  subst (λ x. Standing (lotFrames n L) (L .inputs) c₀ (t + 1) at′ c′ (set rs t x) (set es t at′)) (grew .done .report)
-                  (standing-next (lotFrames n L) (L .inputs) c₀ t at c rs es (g .standing) inside (lotFrame L t) (frame-at n L t h) tree (grew .done .same) tree-low
+                  subst (λ x. Standing (lotTrees n L) (L .inputs) c₀ (t + 1) at′ c′ (set rs t x) (set es t at′)) (grew .done .report)
+                  (standing-next (lotTrees n L) (L .inputs) c₀ t at c rs es (g .standing) inside (lotTree L t) (frame-at n L t h) tree (grew .done .same) tree-low
                   at′ (ea ∙ ap (λ m. at + m) nodes-told) c′ (d .kept) (grew .done .written)
                   (omega (arith, g .long .reports, g .asks .few)) (omega (arith, g .long .ends, g .asks .few)));
               long = record { reports = length-set rs t report ∙ g .long .reports; ends = length-set es t at′ ∙ g .long .ends };

@@ -8,7 +8,7 @@ use Rattle.rules.specs.declared.Params.{Params}
 use Rattle.rules.specs.Words.{from, stretch}
 use Rattle.rules.specs.Lent.{Data, OneTree, Columns}
 use Rattle.rules.specs.Forest.{part}
-use Rattle.tree_build.specs.Plant.{frameIn, PlantAsks}
+use Rattle.tree_build.specs.Plant.{oneTreeIn, PlantAsks}
 
 -- all that the trees share, and the counts and tapes of which each has its part
 pub record Lot : Type 0 where
@@ -53,12 +53,12 @@ widthsOf order scratch flags wholes reals =
     record { order = order; scratch = length scratch; flags = length flags; wholes = length wholes; reals = length reals }
 
 -- tree t
-abbrev pub lotFrame : Lot → ℕ → OneTree
-lotFrame L t =
-    frameIn (L .rows) (L .params) (L .weights) (stretch (t * L .rows) (L .rows) (L .counts)) (part (L .wordStarts) (L .words) t) (part (L .thresholdStarts) (L .thresholds) t)
+abbrev pub lotTree : Lot → ℕ → OneTree
+lotTree L t =
+    oneTreeIn (L .rows) (L .params) (L .weights) (stretch (t * L .rows) (L .rows) (L .counts)) (part (L .wordStarts) (L .words) t) (part (L .thresholdStarts) (L .thresholds) t)
 
-abbrev pub lotFrames : ℕ → Lot → List OneTree
-lotFrames trees L = map (lotFrame L) (from 0 trees)
+abbrev pub lotTrees : ℕ → Lot → List OneTree
+lotTrees trees L = map (lotTree L) (from 0 trees)
 
 abbrev pub PlantIn : Lot → OneTree → Columns → Widths → Type 0
 PlantIn L F c w = PlantAsks (L .features) F (L .inputs) c (w .order) (w .scratch) (w .flags) (w .wholes) (w .reals)

@@ -11,26 +11,26 @@ use Rattle.rules.specs.Lent.{OneTree, Columns, kept, keptRows}
 use Rattle.rules.specs.Checks.{roomFor}
 use Rattle.rules.specs.Fit.{element, listing}
 use Rattle.rules.specs.Forest.{part}
-use Rattle.lemmas.specs.Passed.{CutAt}
+use Rattle.lemmas.specs.Passed.{PartAt}
 use Rattle.node_entries.specs.Entries.{LongAll}
 use Rattle.tree_report.specs.declared.Planted.{Planted}
-use Rattle.tree_build.specs.Plant.{frameIn, PlantDone}
+use Rattle.tree_build.specs.Plant.{oneTreeIn, PlantDone}
 use Rattle.forest_parts.specs.declared.Parts.{Parts}
 use Rattle.forest_parts.specs.Parts.{PartsAsk, partsAt}
-use Rattle.forest_build.specs.Lot.{Lot, Widths, lotFrame, PlantIn}
+use Rattle.forest_build.specs.Lot.{Lot, Widths, lotTree, PlantIn}
 use Rattle.forest_build.specs.Standing.{dropAll, takeAll}
 
 pub record NextAsks (L : Lot) (t at : ℕ) (c : Columns) (w : Widths) : Type 0 where
-  pub plant : PlantIn L (lotFrame L t) (dropAll at c) w
+  pub plant : PlantIn L (lotTree L t) (dropAll at c) w
   pub long : LongAll at c
   pub small : t * L .rows + L .rows < 4294967296
   pub counted : t * L .rows + L .rows ≤ length (L .counts)
-  pub word : CutAt (L .wordStarts) (length (L .words)) t
-  pub threshold : CutAt (L .thresholdStarts) (length (L .thresholds)) t
+  pub word : PartAt (L .wordStarts) (length (L .words)) t
+  pub threshold : PartAt (L .thresholdStarts) (length (L .thresholds)) t
 
 pub record NextDone (L : Lot) (t at : ℕ) (c c′ : Columns) (r : Planted) : Type 0 where
   pub kept : takeAll at c′ ≡ takeAll at c
-  pub done : PlantDone (lotFrame L t) (L .inputs) (dropAll at c) (dropAll at c′) r
+  pub done : PlantDone (lotTree L t) (L .inputs) (dropAll at c) (dropAll at c′) r
 
 -- ---- what is lent of each list, and how it comes back
 
@@ -116,9 +116,9 @@ columns-back at c l h = λ i.
 abbrev pub countsLent : Lot → Parts → List ℕ
 countsLent L P = take (P .countend - P .count) (drop (P .count) (L .counts))
 
-abbrev pub frameLent : Lot → Parts → OneTree
-frameLent L P =
-    frameIn (L .rows) (L .params) (L .weights) (countsLent L P) (take (P .wordend - P .word) (drop (P .word) (L .words)))
+abbrev pub oneTreeLent : Lot → Parts → OneTree
+oneTreeLent L P =
+    oneTreeIn (L .rows) (L .params) (L .weights) (countsLent L P) (take (P .wordend - P .word) (drop (P .word) (L .words)))
     (take (P .thresholdend - P .threshold) (drop (P .threshold) (L .thresholds)))
 
 module _ (L : Lot) (t at : ℕ) (c : Columns) (w : Widths) (h : NextAsks L t at c w) where
@@ -126,11 +126,11 @@ module _ (L : Lot) (t at : ℕ) (c : Columns) (w : Widths) (h : NextAsks L t at 
   parts-ask = record { small = h .small; words = h .word .known; thresholds = h .threshold .known }
 
   module _ (P : Parts) (e : P ≡ partsAt (L .rows) t (L .wordStarts) (L .thresholdStarts)) where
-    frame-lent : frameLent L P ≡ lotFrame L t
+    frame-lent : oneTreeLent L P ≡ lotTree L t
     unfolding part
     frame-lent =
-        ap (frameLent L) e
-        ∙ (λ i. frameIn (L .rows) (L .params) (L .weights) (take (wide (t * L .rows) i) (drop (t * L .rows) (L .counts)))
+        ap (oneTreeLent L) e
+        ∙ (λ i. oneTreeIn (L .rows) (L .params) (L .weights) (take (wide (t * L .rows) i) (drop (t * L .rows) (L .counts)))
         (take (getD (L .wordStarts) (add-one t i) 0 - getD (L .wordStarts) t 0) (drop (getD (L .wordStarts) t 0) (L .words)))
         (take (getD (L .thresholdStarts) (add-one t i) 0 - getD (L .thresholdStarts) t 0) (drop (getD (L .thresholdStarts) t 0) (L .thresholds))))
       where
@@ -138,10 +138,10 @@ module _ (L : Lot) (t at : ℕ) (c : Columns) (w : Widths) (h : NextAsks L t at 
         wide a = omega arith
 
     -- whatever the tapes: nothing is asked of them
-    pub next-asks : (W : List ℕ) (M : List Float) → PlantIn L (frameIn (L .rows) (L .params) (L .weights) (countsLent L P) W M) (lentAll at c) w
+    pub next-asks : (W : List ℕ) (M : List Float) → PlantIn L (oneTreeIn (L .rows) (L .params) (L .weights) (countsLent L P) W M) (lentAll at c) w
     unfolding listing element roomFor keptRows kept
     next-asks W M =
-        let k = subst (λ k. PlantIn L (lotFrame L t) k w) (sym (columns-lent at c)) (h .plant) in
+        let k = subst (λ k. PlantIn L (lotTree L t) k w) (sym (columns-lent at c)) (h .plant) in
         let q = subst (λ F. PlantIn L F (lentAll at c) w) (sym frame-lent) k in
         record {
           listed = record { once = q .listed .once; rising = q .listed .rising; values = q .listed .values };
@@ -164,12 +164,12 @@ module _ (L : Lot) (t at : ℕ) (c : Columns) (w : Widths) (h : NextAsks L t at 
           node-room = q .node-room;
         }
 
-    pub next-done : (l : Columns) (r : Planted) → PlantDone (frameLent L P) (L .inputs) (lentAll at c) l r → NextDone L t at c (backAll at c l) r
+    pub next-done : (l : Columns) (r : Planted) → PlantDone (oneTreeLent L P) (L .inputs) (lentAll at c) l r → NextDone L t at c (backAll at c l) r
     next-done l r d =
         record {
           kept = columns-kept at c l (h .long);
           done =
-              subst (λ k. PlantDone (lotFrame L t) (L .inputs) (dropAll at c) k r) (sym (columns-back at c l (h .long)))
-              (subst (λ k. PlantDone (lotFrame L t) (L .inputs) k l r) (columns-lent at c)
+              subst (λ k. PlantDone (lotTree L t) (L .inputs) (dropAll at c) k r) (sym (columns-back at c l (h .long)))
+              (subst (λ k. PlantDone (lotTree L t) (L .inputs) k l r) (columns-lent at c)
               (subst (λ F. PlantDone F (L .inputs) (lentAll at c) l r) frame-lent d));
         }

@@ -11,12 +11,12 @@ use Rattle.rules.specs.declared.Params.{Params}
 use Rattle.rules.specs.declared.Report.{Report}
 use Rattle.rules.specs.Words.{from, stretch, total}
 use Rattle.rules.specs.Lent.{OneTree, Reports, ForestRooms, WaitingRoom, waitingRoom, kept, keptRows}
-use Rattle.rules.specs.Checks.{firstFailed, goodStarts, roomFor, reportsExact}
+use Rattle.rules.specs.Checks.{firstFailed, goodTapeStarts, roomFor, reportsExact}
 use Rattle.rules.specs.Fit.{paramsOf}
 use Rattle.rules.specs.Forest.{ForestCall, oneTreeAt, eachTree, tapesGood, forestTests}
 use Rattle.lemmas.specs.Lists.{every-all, every-map, total-under, keep-short, length-from}
 use Rattle.lemmas.specs.Root.{Listed, fit-nodes, fit-reported}
-use Rattle.lemmas.specs.Passed.{ForestPassed, forest-passed, forest-framed, listed-right, Binary64, and2, and5, cut-at}
+use Rattle.lemmas.specs.Passed.{ForestPassed, forest-passed, forest-framed, listed-right, Binary64, and2, and5, part-at}
 use Rattle.rooms.specs.Enough.{WorkRoom, work-room}
 use Rattle.work_columns.specs.Setup.{counted-passed}
 use Rattle.forest_build.specs.Lot.{widthsOf}
@@ -91,7 +91,7 @@ module _ (C : ForestCall) (R : ForestRooms WaitingRoom) (e : firstFailed (forest
     trees-ask =
         let q = right .passed in
         let (w, d) =
-        and2 (goodStarts (C .trees) (length (C .words)) (C .wordStarts)) (goodStarts (C .trees) (length (C .thresholds)) (C .thresholdStarts)) (right .cuts) in
+        and2 (goodTapeStarts (C .trees) (length (C .words)) (C .wordStarts)) (goodTapeStarts (C .trees) (length (C .thresholds)) (C .thresholdStarts)) (right .tapes) in
         subst (λ p′. AllAsks (C .trees) (lot C p′) (R .nodes) (widthsOf k (R .work .scratch) (R .work .flags) (R .work .waiting .wholes) (R .work .waiting .reals)))
         (sym (m .same))
         (record {
@@ -118,8 +118,8 @@ module _ (C : ForestCall) (R : ForestRooms WaitingRoom) (e : firstFailed (forest
               };
           small = small;
           counted = counted;
-          word = cut-at (C .trees) (length (C .words)) (C .wordStarts) w;
-          threshold = cut-at (C .trees) (length (C .thresholds)) (C .thresholdStarts) d;
+          word = part-at (C .trees) (length (C .words)) (C .wordStarts) w;
+          threshold = part-at (C .trees) (length (C .thresholds)) (C .thresholdStarts) d;
           nodes = λ t b. fit-nodes (oneTreeAt C t) (C .given .inputs) (listed t) (q .someFeatures);
           reported = λ t b. fit-reported (oneTreeAt C t) (C .given .inputs);
           few = right .fewTrees;

@@ -13,7 +13,7 @@ use Rattle.rules.specs.Forest.{ForestCall, oneTreeAt, eachTree, growTrees, grow
 use Rattle.forest_build.specs.declared.Grove.{Grove}
 use Rattle.forest_build.specs.declared.Grove.the-variants as U
 use Rattle.forest_build.specs.declared.Told.{Told}
-use Rattle.forest_build.specs.Lot.{Lot, lotOf, lotFrames}
+use Rattle.forest_build.specs.Lot.{Lot, lotOf, lotTrees}
 use Rattle.forest_reports.specs.Reports.{Left, leaves}
 use Rattle.forest_grow.specs.Grown.{LeftBy, GrowDone}
 use Rattle.forest_ready.specs.Ready.{Made, Refuses}
@@ -32,9 +32,9 @@ module _ (C : ForestCall) (R : ForestRooms WaitingRoom) where
   pub fit-refused : (n : ℕ) → Refuses C R n → outcomeOf (ForestAnswer.Refused n) R ≡ fitForest waitingRoom C R
   fit-refused n r = refused-is n (r .some) (r .first)
 
-  trees-same : (p : Params) → Made C p → growTrees 0 (lotFrames (C .trees) (lot C p)) (C .given .inputs) ≡ grownForest C
+  trees-same : (p : Params) → Made C p → growTrees 0 (lotTrees (C .trees) (lot C p)) (C .given .inputs) ≡ grownForest C
   unfolding grownForest eachTree oneTreeAt
-  trees-same p m = ap (λ q. growTrees 0 (lotFrames (C .trees) (lot C q)) (C .given .inputs)) (m .same)
+  trees-same p m = ap (λ q. growTrees 0 (lotTrees (C .trees) (lot C q)) (C .given .inputs)) (m .same)
 
   module _ (p : Params) (m : Made C p) (c : Columns) (w : Work WaitingRoom) (ew : w ≡ zeroWork waitingRoom (R .work)) where
     left-is : (rs : List Report) (es : List ℕ) (g : Grove) → LeftBy (C .trees) (lot C p) (R .nodes) c rs es g

@@ -11,7 +11,7 @@ use Rattle.rooms.specs.Enough.{lent-long}
 use Rattle.forest_build.specs.declared.Grove.{Grove}
 use Rattle.forest_build.specs.declared.Grove.the-variants as U
 use Rattle.forest_build.specs.declared.Told.{Told}
-use Rattle.forest_build.specs.Lot.{Lot, Widths, lotFrames}
+use Rattle.forest_build.specs.Lot.{Lot, Widths, lotTrees}
 use Rattle.forest_build.specs.All.{AllAsks, AllGrown, Answers, ToldLong, AllDone}
 
 abbrev pub nodesLeft : Grove → Columns → Columns
@@ -31,7 +31,7 @@ grow-asks trees L c order size a b d e h =
 
 -- where a bad draw was met, with the nodes zero; or all trees
 abbrev pub LeftBy : ℕ → Lot → Columns → Columns → List Report → List ℕ → Grove → Type 0
-LeftBy trees L c c′ rs es (U.Stopped d) = (growTrees 0 (lotFrames trees L) (L .inputs) ≡ stopped d) × (c′ ≡ zeroColumns c)
+LeftBy trees L c c′ rs es (U.Stopped d) = (growTrees 0 (lotTrees trees L) (L .inputs) ≡ stopped d) × (c′ ≡ zeroColumns c)
 LeftBy trees L c c′ rs es U.Grown = AllGrown trees L c c′ rs es
 
 pub record GrowDone (trees : ℕ) (L : Lot) (c c′ : Columns) (w w′ : Work WaitingRoom) (told : Told) : Type 0 where

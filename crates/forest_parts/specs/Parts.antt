@@ -4,7 +4,7 @@ use native.Mathlib.Omega.{arith}
 use mathlib.Core.Path.{_≡_, ap}
 use mathlib.Core.List.{List}
 use lib.ListN.{length, getD}
-use Rattle.lemmas.specs.Passed.{CutAt}
+use Rattle.lemmas.specs.Passed.{PartAt}
 use Rattle.forest_parts.specs.declared.Parts.{Parts}
 
 pub record PartsAsk (rows t : ℕ) (wordStarts thresholdStarts : List ℕ) : Type 0 where
@@ -35,10 +35,10 @@ counts-within rows t n ws ts p e h =
     under : (a b c : ℕ) → a ≡ c → b ≡ c + rows → a ≤ b
     under a b c x y = omega arith
 
-pub words-within : (rows t n : ℕ) (ws ts : List ℕ) (p : Parts) → p ≡ partsAt rows t ws ts → CutAt ws n t → Within (p .word) (p .wordend) n
+pub words-within : (rows t n : ℕ) (ws ts : List ℕ) (p : Parts) → p ≡ partsAt rows t ws ts → PartAt ws n t → Within (p .word) (p .wordend) n
 words-within rows t n ws ts p e h =
     let a = ap (λ (q : Parts). q .word) e in let b = ap (λ (q : Parts). q .wordend) e in record { order = omega (arith, a, b, h .order); high = omega (arith, b, h .high) }
 
-pub thresholds-within : (rows t n : ℕ) (ws ts : List ℕ) (p : Parts) → p ≡ partsAt rows t ws ts → CutAt ts n t → Within (p .threshold) (p .thresholdend) n
+pub thresholds-within : (rows t n : ℕ) (ws ts : List ℕ) (p : Parts) → p ≡ partsAt rows t ws ts → PartAt ts n t → Within (p .threshold) (p .thresholdend) n
 thresholds-within rows t n ws ts p e h =
     let a = ap (λ (q : Parts). q .threshold) e in let b = ap (λ (q : Parts). q .thresholdend) e in record { order = omega (arith, a, b, h .order); high = omega (arith, b, h .high) }

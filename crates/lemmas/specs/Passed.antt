@@ -15,7 +15,7 @@ use Rattle.floats.specs.Order.{le-trans64}
 use Rattle.rules.specs.declared.Shape.{Shape}
 use Rattle.rules.specs.Words.{from, every, along, total, eachOnce}
 use Rattle.rules.specs.Lent.{Given, OneTree, WaitingForm, TreeRooms, ForestRooms, valuesAt, listingAt, unweighted, shortest, cell}
-use Rattle.rules.specs.Checks.{Test, test, firstFailed, within, rowsIn, featuresIn, treesIn, shapeIn, lengths, goodStarts, goodWeight, numbersGood, countsGood, countsOne, roomFor, workEnough, reportsExact}
+use Rattle.rules.specs.Checks.{Test, test, firstFailed, within, rowsIn, featuresIn, treesIn, shapeIn, lengths, goodTapeStarts, goodWeight, numbersGood, countsGood, countsOne, roomFor, workEnough, reportsExact}
 use Rattle.rules.specs.Listing.{neverFalls, goodListing, listingsGood}
 use Rattle.rules.specs.Search.{at}
 use Rattle.rules.specs.Fit.{listing, elementIn, element, paramsOf, TreeCall, oneTreeOf, treeTests}
@@ -120,7 +120,7 @@ module _ {W : Type 0} (K : WaitingForm W) where
     pub ranges : T (shapeIn (C .shape) && treesIn (C .trees))
     pub someTrees : 1 ≤ C .trees
     pub fewTrees : C .trees ≤ 1024
-    pub cuts : T (tapesGood C)
+    pub tapes : T (tapesGood C)
     pub room : total roomFor (eachTree C) ≤ shortest (R .nodes)
     pub work : T (workEnough K (C .shape) (R .work))
     pub startsRoom : suc (C .trees) ≤ length (R .starts)
@@ -139,7 +139,7 @@ module _ {W : Type 0} (K : WaitingForm W) where
         ranges = t₁;
         someTrees = leb→le 1 (C .trees) (and-l (leb 1 (C .trees)) (leb (C .trees) 1024) n);
         fewTrees = leb→le (C .trees) 1024 (and-r (leb 1 (C .trees)) (leb (C .trees) 1024) n);
-        cuts = and-r (lengths (C .shape) (C .trees) (C .given)) (tapesGood C) t₂;
+        tapes = and-r (lengths (C .shape) (C .trees) (C .given)) (tapesGood C) t₂;
         room = leb→le (total roomFor (eachTree C)) (shortest (R .nodes)) a;
         work = k;
         startsRoom = leb→le (suc (C .trees)) (length (R .starts)) b;
@@ -148,26 +148,26 @@ module _ {W : Type 0} (K : WaitingForm W) where
 
 -- ---- a tree's part of a tape lies within it
 
-pub record CutAt (cuts : List ℕ) (tape t : ℕ) : Type 0 where
-  pub known : t + 1 < length cuts
-  pub order : getD cuts t 0 ≤ getD cuts (t + 1) 0
-  pub high : getD cuts (t + 1) 0 ≤ tape
+pub record PartAt (starts : List ℕ) (tape t : ℕ) : Type 0 where
+  pub known : t + 1 < length starts
+  pub order : getD starts t 0 ≤ getD starts (t + 1) 0
+  pub high : getD starts (t + 1) 0 ≤ tape
 
-pub cut-at : (trees tape : ℕ) (cuts : List ℕ) → T (goodStarts trees tape cuts) → (t : ℕ) → t < trees → CutAt cuts tape t
-unfolding goodStarts
-cut-at trees tape cuts g t h =
-    let (l, z, a, e) = and4 (eqb (length cuts) (suc trees)) (eqb (getD cuts 0 1) 0) (along leb cuts) (eqb (getD cuts trees (suc tape)) tape) g in
-    let long = eqb→eq (length cuts) (suc trees) l in
-    let o = ordered-along (λ x y. x ≤ y) leb (λ x. Unit {0}) (λ x y p q b. leb→le x y b) (λ x y z p q. le-trans p q) cuts (every-all _ (λ x. tt) cuts) a in
+pub part-at : (trees tape : ℕ) (starts : List ℕ) → T (goodTapeStarts trees tape starts) → (t : ℕ) → t < trees → PartAt starts tape t
+unfolding goodTapeStarts
+part-at trees tape starts g t h =
+    let (l, z, a, e) = and4 (eqb (length starts) (suc trees)) (eqb (getD starts 0 1) 0) (along leb starts) (eqb (getD starts trees (suc tape)) tape) g in
+    let long = eqb→eq (length starts) (suc trees) l in
+    let o = ordered-along (λ x y. x ≤ y) leb (λ x. Unit {0}) (λ x y p q b. leb→le x y b) (λ x y z p q. le-trans p q) starts (every-all _ (λ x. tt) starts) a in
     record {
       known = omega arith;
-      order = ordered-at (λ x y. x ≤ y) cuts o 0 t (t + 1) (omega arith) (omega arith);
-      high = subst (λ n. getD cuts (t + 1) 0 ≤ n) (same-default cuts trees 0 (suc tape) (omega arith) ∙ eqb→eq (getD cuts trees (suc tape)) tape e) (last o long (ℕ-discrete (t + 1) trees));
+      order = ordered-at (λ x y. x ≤ y) starts o 0 t (t + 1) (omega arith) (omega arith);
+      high = subst (λ n. getD starts (t + 1) 0 ≤ n) (same-default starts trees 0 (suc tape) (omega arith) ∙ eqb→eq (getD starts trees (suc tape)) tape e) (last o long (ℕ-discrete (t + 1) trees));
     }
   where
-    last : Ordered (λ x y. x ≤ y) cuts → length cuts ≡ suc trees → Dec (t + 1 ≡ trees) → getD cuts (t + 1) 0 ≤ getD cuts trees 0
-    last o long (yes q) = subst (λ n. getD cuts (t + 1) 0 ≤ getD cuts n 0) q (omega arith)
-    last o long (no d) = ordered-at (λ x y. x ≤ y) cuts o 0 (t + 1) trees (omega (arith, h, d)) (omega arith)
+    last : Ordered (λ x y. x ≤ y) starts → length starts ≡ suc trees → Dec (t + 1 ≡ trees) → getD starts (t + 1) 0 ≤ getD starts trees 0
+    last o long (yes q) = subst (λ n. getD starts (t + 1) 0 ≤ getD starts n 0) q (omega arith)
+    last o long (no d) = ordered-at (λ x y. x ≤ y) starts o 0 (t + 1) trees (omega (arith, h, d)) (omega arith)
 
 -- ---- a tree's frame: its rows, features and weights are the call's, its counts some of the call's
 

@@ -20,7 +20,7 @@ use Rattle.rules.specs.Words.{float, from, putIf, keep, every, alongFrom, along
 use Rattle.rules.specs.Totals.{takeIn, less, valueOf, massless, gap, proxy, score}
 use Rattle.rules.specs.Threshold.{midpoint, thresholdBetween}
 use Rattle.rules.specs.Lent.{Given, Columns, WaitingRoom, waitingRoom, Work, TreeRooms, ForestRooms, Outcome, valuesAt, listingAt, unweighted, entriesAt, kept, keptRows, cell, countIn, massIn, keptIn}
-use Rattle.rules.specs.Checks.{firstFailed, within, lengths, goodStarts, goodWeight, numbersGood, countsGood, countsOne, roomFor, workEnough, reportsExact}
+use Rattle.rules.specs.Checks.{firstFailed, within, lengths, goodTapeStarts, goodWeight, numbersGood, countsGood, countsOne, roomFor, workEnough, reportsExact}
 use Rattle.rules.specs.Listing.{neverFalls, goodListing, listingsGood}
 use Rattle.rules.specs.Draws.{bind, takeWords, takeThreshold, nextThreshold, tape}
 use Rattle.rules.specs.Search.{at, totalsOf, goesTrue, better, judge, candidateAt, step, sweep, bestIn, final, drawn, drawIn, randomIn, tryOne, tryAll, search}
@@ -47,7 +47,7 @@ pub data Seen : Type 0 where
 
 unfoldable pub run : Call → Seen
 unfolding from putIf keep every alongFrom along total member fresh eachOnce takeIn less valueOf massless gap proxy score midpoint thresholdBetween valuesAt cell listingAt
-    unweighted entriesAt firstFailed within lengths goodStarts goodWeight numbersGood countsGood countsOne countIn massIn keptIn kept keptRows roomFor workEnough reportsExact
+    unweighted entriesAt firstFailed within lengths goodTapeStarts goodWeight numbersGood countsGood countsOne countIn massIn keptIn kept keptRows roomFor workEnough reportsExact
     neverFalls goodListing listingsGood bind takeWords takeThreshold nextThreshold tape at totalsOf goesTrue better judge candidateAt step sweep bestIn final drawn drawIn
     randomIn tryOne tryAll search child leafOf splitting splitOf withChildren searchable joins runs searchIf expand grow growAll fromRoot listing elementIn element column
     root treeOf growFrom fit entryOf entries limitOf paramsOf oneTreeOf grownTree treeTests treeDone treeEnds fitTree isLeaf goodEntry goodFrom goodTree treeIn startsGood

@@ -70,9 +70,9 @@ lengths S trees G =
     && listingsLong S (G .inputs .listings))))
 
 -- R3.8: how a tape of so many draws may be divided among the trees
-unfoldable pub goodStarts : ℕ → ℕ → List ℕ → Bool
-goodStarts trees tape cuts =
-    eqb (length cuts) (suc trees) && (eqb (getD cuts 0 1) 0 && (along leb cuts && eqb (getD cuts trees (suc tape)) tape))
+unfoldable pub goodTapeStarts : ℕ → ℕ → List ℕ → Bool
+goodTapeStarts trees tape starts =
+    eqb (length starts) (suc trees) && (eqb (getD starts 0 1) 0 && (along leb starts && eqb (getD starts trees (suc tape)) tape))
 
 -- ---- 3
 

@@ -13,7 +13,7 @@ use Rattle.rules.specs.declared.Place.{Place}
 use Rattle.rules.specs.declared.ForestAnswer.{ForestAnswer}
 use Rattle.rules.specs.Words.{from, stretch, front, filled, total}
 use Rattle.rules.specs.Lent.{Data, Given, OneTree, Entry, WaitingForm, ForestRooms, Outcome, shortest, writeEntries, writeReports, zeroColumns, zeroReports, zeroWork}
-use Rattle.rules.specs.Checks.{Test, test, firstFailed, treesIn, shapeIn, lengths, goodStarts, numbersGood, countsGood, countsOne, roomFor, workEnough, reportsExact}
+use Rattle.rules.specs.Checks.{Test, test, firstFailed, treesIn, shapeIn, lengths, goodTapeStarts, numbersGood, countsGood, countsOne, roomFor, workEnough, reportsExact}
 use Rattle.rules.specs.Listing.{listingsGood}
 use Rattle.rules.specs.Draws.{Out, bad, ok}
 use Rattle.rules.specs.Fit.{Tree, fit, entries, paramsOf}
@@ -57,7 +57,7 @@ triedOf features (Number m) = m
 
 -- R11.3: a tree's own part of a tape
 unfoldable pub part {ℓ} : {A : Type ℓ} → List ℕ → List A → ℕ → List A
-part cuts tape t = stretch (getD cuts t 0) (getD cuts (suc t) 0 - getD cuts t 0) tape
+part starts tape t = stretch (getD starts t 0) (getD starts (suc t) 0 - getD starts t 0) tape
 
 -- R11.4
 unfoldable pub oneTreeAt : ForestCall → ℕ → OneTree
@@ -115,7 +115,7 @@ forestEntries (t ∷ ts) = entries (t .nodes) ++ forestEntries ts
 
 -- R11.7
 unfoldable pub tapesGood : ForestCall → Bool
-tapesGood C = goodStarts (C .trees) (length (C .words)) (C .wordStarts) && goodStarts (C .trees) (length (C .thresholds)) (C .thresholdStarts)
+tapesGood C = goodTapeStarts (C .trees) (length (C .words)) (C .wordStarts) && goodTapeStarts (C .trees) (length (C .thresholds)) (C .thresholdStarts)
 
 module _ {W : Type 0} (K : WaitingForm W) where
   -- R11.8: all but the node room

@@ -31,8 +31,8 @@ use Rattle.tree_report.specs.declared.Planted.the-variants.{BadDraw, Grown}
 use Rattle.tree_build.specs.declared.Root.{Root}
 
 -- what is lent, as the rules have it
-abbrev pub frameIn : ℕ → Params → List Float → List ℕ → List ℕ → List Float → OneTree
-frameIn rows p weights counts words thresholds = record { rows = rows; params = p; weights = weights; counts = counts; words = words; thresholds = thresholds }
+abbrev pub oneTreeIn : ℕ → Params → List Float → List ℕ → List ℕ → List Float → OneTree
+oneTreeIn rows p weights counts words thresholds = record { rows = rows; params = p; weights = weights; counts = counts; words = words; thresholds = thresholds }
 
 abbrev pub dataIn : List Float → List Float → List ℕ → Data
 dataIn values targets listings = record { values = values; targets = targets; listings = listings }

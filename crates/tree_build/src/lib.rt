@@ -3,7 +3,7 @@ ghost use mathlib.Core.Path.{_≡_};
 ghost use Prim.Native.Nat.{_-_, _*_, _≤_, max};
 ghost use lib.ListN.{length};
 ghost use Rattle.rules.specs.Lent.{columnsOf};
-ghost use Rattle.tree_build.specs.Plant.{frameIn, dataIn, SetUpAsks, SetUp, PlantAsks, PlantDone};
+ghost use Rattle.tree_build.specs.Plant.{oneTreeIn, dataIn, SetUpAsks, SetUp, PlantAsks, PlantDone};
 use criterion::Side;
 use rules::Params;
 use tree_report::Planted;
@@ -74,10 +74,10 @@ pub fn plant(
     features: usize,
     p: Params,
 ) -> Planted
-    requires { ⌜ PlantAsks features (frameIn rows p (now weights) (now counts) (now words) (now thresholds)) (dataIn (now values) (now targets) (now listings))
+    requires { ⌜ PlantAsks features (oneTreeIn rows p (now weights) (now counts) (now words) (now thresholds)) (dataIn (now values) (now targets) (now listings))
         (columnsOf (now value) (now feature) (now threshold) (now score) (now truechild) (now falsechild))
         (length (now order)) (length (now scratch)) (length (now flags)) (length (now wholes)) (length (now reals)) ⌝ }
-    ensures { λ r. ⌜ PlantDone (frameIn rows p (now (weights .entry)) (now (counts .entry)) (now (words .entry)) (now (thresholds .entry)))
+    ensures { λ r. ⌜ PlantDone (oneTreeIn rows p (now (weights .entry)) (now (counts .entry)) (now (words .entry)) (now (thresholds .entry)))
         (dataIn (now (values .entry)) (now (targets .entry)) (now (listings .entry)))
         (columnsOf (now (value .entry)) (now (feature .entry)) (now (threshold .entry)) (now (score .entry)) (now (truechild .entry)) (now (falsechild .entry)))
         (columnsOf (now (value .exit)) (now (feature .exit)) (now (threshold .exit)) (now (score .exit)) (now (truechild .exit)) (now (falsechild .exit))) r ⌝ }

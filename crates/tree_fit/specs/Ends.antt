@@ -18,7 +18,7 @@ use Rattle.work_columns.specs.Setup.{counted-passed}
 use Rattle.tree_report.specs.declared.Planted.{Planted}
 use Rattle.tree_report.specs.declared.Planted.the-variants.{BadDraw, Grown}
 use Rattle.tree_report.specs.Report.{badDraw}
-use Rattle.tree_build.specs.Plant.{frameIn, PlantAsks, Answers, PlantDone}
+use Rattle.tree_build.specs.Plant.{oneTreeIn, PlantAsks, Answers, PlantDone}
 
 -- what a tree that was grown, or a bad draw, leaves of the rooms
 abbrev pub finished : Planted → TreeRooms WaitingRoom → Outcome TreeAnswer (TreeRooms WaitingRoom)
@@ -27,7 +27,7 @@ finished (Grown r) R = outcomeOf (TreeAnswer.Grown r) (treeRoomsOf (R .nodes) (z
 
 -- what the tree of a call grows by
 abbrev pub frame : TreeCall → Params → OneTree
-frame C p = frameIn (C .shape .rows) p (C .given .weights) (C .given .counts) (C .words) (C .thresholds)
+frame C p = oneTreeIn (C .shape .rows) p (C .given .weights) (C .given .counts) (C .words) (C .thresholds)
 
 abbrev pub Made : TreeCall → Params → Type 0
 Made C p = ParamsMade (C .settings) (C .tried) (C .shape .features) p

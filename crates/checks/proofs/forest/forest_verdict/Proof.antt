@@ -5,7 +5,7 @@ use mathlib.Core.Path.{_≡_, sym, _∙_}
 use mathlib.Core.Bool.{true, _&&_}
 use Prim.Native.Nat.{_≤_}
 use denote.Ref.{now}
-use Rattle.rules.specs.Checks.{treesIn, shapeIn, lengths, goodStarts, numbersGood, countsGood, countsOne}
+use Rattle.rules.specs.Checks.{treesIn, shapeIn, lengths, goodTapeStarts, numbersGood, countsGood, countsOne}
 use Rattle.rules.specs.Listing.{listingsGood}
 use Rattle.rules.specs.Lent.{Given, givenOf}
 use Rattle.lemmas.specs.Tests.{and-both, passes, fails, none-failed, within-top}
@@ -83,7 +83,7 @@ passed-1 : (c : tie.Else1) → let s = start c in (shapeIn (s .args .shape) && t
 passed-1 c = sym (c .before .forest-in .ensures) ∙ not-false _ (c .if1 .left)
 
 passed-2 : (c : tie.Else2) → let s = start (c .before .before) in
-    (lengths (s .args .shape) (s .args .trees) (given s) && (goodStarts (s .args .trees) (s .args .words) (now (s .args .wordstarts)) && goodStarts (s .args .trees)
+    (lengths (s .args .shape) (s .args .trees) (given s) && (goodTapeStarts (s .args .trees) (s .args .words) (now (s .args .wordstarts)) && goodTapeStarts (s .args .trees)
     (s .args .thresholds) (now (s .args .thresholdstarts)))) ≡ true
 passed-2 c = sym (c .before .forest-long .ensures) ∙ not-false _ (c .if2 .left)
 
