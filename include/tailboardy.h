@@ -8,11 +8,12 @@
  *   - no lent slice overlaps another slice, and nothing else reads or writes a lent slice during the call;
  *   - the floating-point mode is the default: round to nearest, no traps, subnormals not flushed to zero.
  *
- * Lists: `values` are stored row after row, `counts` tree after tree, `listings` feature after feature. There is one weight per row,
- * or none (length 0). The nodes of a tree are in six columns: value, feature, threshold, score, yes and no; the shortest column
- * decides how many nodes there are. `yes` is the number of the child for values at or below the threshold, `no` that of the other
- * child; a node where both are 0 is a leaf. The trees of a forest are stored one after another, each with its own node numbers
- * starting at 0; `starts` has trees + 1 positions: where each tree begins, and where the last one ends.
+ * Lists: `values` are stored row after row, `counts` tree after tree, `listings` feature after feature. There is one weight per
+ * row, or none (length 0). The nodes of a tree are in six columns: value, feature, threshold, score, true_child and false_child;
+ * the shortest column decides how many nodes there are. `true_child` is the number of the child for values at or below the
+ * threshold, `false_child` that of the other child; a node where both are 0 is a leaf. The trees of a forest are stored one after
+ * another, each with its own node numbers starting at 0; `starts` has trees + 1 positions: where each tree begins, and where the
+ * last one ends.
  *
  * Refusals: 1 sizes, 2 lengths, 3 numbers, 4 counts, 5 listing, 6 rooms, 7 draw, 8 table, 9 no counts, 10 other counts. The table in
  * docs/RULES.md says when each is given. Below, the refusals that a call can give are listed after its description, in the order of
@@ -87,8 +88,8 @@ typedef struct {
     uint32_t feature;
     double threshold;
     double score;
-    uint32_t yes;
-    uint32_t no;
+    uint32_t true_child;
+    uint32_t false_child;
 } TailboardyNodeTold;
 
 /* Grows one tree. Refusals: 1, 2, 3, 4, 5, 6, 7.
@@ -102,8 +103,8 @@ TailboardyTreeTold tailboardy_fit_tree(
     uint32_t *feature, size_t feature_length,
     double *threshold, size_t threshold_length,
     double *score, size_t score_length,
-    uint32_t *yes, size_t yes_length,
-    uint32_t *no, size_t no_length,
+    uint32_t *true_child, size_t true_child_length,
+    uint32_t *false_child, size_t false_child_length,
     uint32_t *order, size_t order_length,
     uint32_t *scratch, size_t scratch_length,
     bool *flags, size_t flags_length,
@@ -121,8 +122,8 @@ TailboardyTreeTold tailboardy_fit_tree(
     TailboardyTreeSettings plain);
 
 /* Grows a forest. Refusals: 1, 2, 3, 4, 5, 6, 7.
- * Each tree has its own counts and its own part of both tapes: `wordcuts` and `thresholdcuts` each have trees + 1 positions, from 0
- * to the length of the tape, in ascending order.
+ * Each tree has its own counts and its own part of both tapes: `word_starts` and `threshold_starts` each have trees + 1 positions,
+ * from 0 to the length of the tape, in ascending order.
  * Required lengths: for the six columns of nodes the sum over all trees of what one tree requires; at least trees + 1 for `starts`;
  * exactly trees for the six columns from `nodes` to `thresholdsused`; for the five from `order` to `reals` as for one tree.
  * Afterwards the trees are at the front of the columns and `starts` says where each begins, the entries after them are unchanged, the
@@ -132,8 +133,8 @@ TailboardyForestTold tailboardy_fit_forest(
     uint32_t *feature, size_t feature_length,
     double *threshold, size_t threshold_length,
     double *score, size_t score_length,
-    uint32_t *yes, size_t yes_length,
-    uint32_t *no, size_t no_length,
+    uint32_t *true_child, size_t true_child_length,
+    uint32_t *false_child, size_t false_child_length,
     uint32_t *starts, size_t starts_length,
     uint32_t *nodes, size_t nodes_length,
     uint32_t *depth, size_t depth_length,
@@ -153,8 +154,8 @@ TailboardyForestTold tailboardy_fit_forest(
     const uint32_t *listings, size_t listings_length,
     const uint32_t *words, size_t words_length,
     const double *thresholds, size_t thresholds_length,
-    const size_t *wordcuts, size_t wordcuts_length,
-    const size_t *thresholdcuts, size_t thresholdcuts_length,
+    const size_t *word_starts, size_t word_starts_length,
+    const size_t *threshold_starts, size_t threshold_starts_length,
     size_t rows,
     size_t features,
     size_t trees,
@@ -170,8 +171,8 @@ uint32_t tailboardy_predict_tree(
     const uint32_t *feature, size_t feature_length,
     const double *threshold, size_t threshold_length,
     const double *score, size_t score_length,
-    const uint32_t *yes, size_t yes_length,
-    const uint32_t *no, size_t no_length,
+    const uint32_t *true_child, size_t true_child_length,
+    const uint32_t *false_child, size_t false_child_length,
     double *out, size_t out_length);
 
 /* The mean of the trees' predictions for each row. Refusals: 1, 2, 6, 8. `out` has one entry per row. */
@@ -185,8 +186,8 @@ uint32_t tailboardy_forest_means(
     const uint32_t *feature, size_t feature_length,
     const double *threshold, size_t threshold_length,
     const double *score, size_t score_length,
-    const uint32_t *yes, size_t yes_length,
-    const uint32_t *no, size_t no_length,
+    const uint32_t *true_child, size_t true_child_length,
+    const uint32_t *false_child, size_t false_child_length,
     double *out, size_t out_length);
 
 /* For each row the mean over the trees in which its count is 0, or NaN if there are none. Refusals: 1, 9, 10, 2, 6, 8. `out` has one
@@ -202,8 +203,8 @@ uint32_t tailboardy_out_of_bag_means(
     const uint32_t *feature, size_t feature_length,
     const double *threshold, size_t threshold_length,
     const double *score, size_t score_length,
-    const uint32_t *yes, size_t yes_length,
-    const uint32_t *no, size_t no_length,
+    const uint32_t *true_child, size_t true_child_length,
+    const uint32_t *false_child, size_t false_child_length,
     double *out, size_t out_length);
 
 /* The scores of the splits, added up by feature and divided by `mass` if `by_mass` is true, and by their total otherwise, provided that
@@ -216,8 +217,8 @@ uint32_t tailboardy_tree_importances(
     const uint32_t *feature, size_t feature_length,
     const double *threshold, size_t threshold_length,
     const double *score, size_t score_length,
-    const uint32_t *yes, size_t yes_length,
-    const uint32_t *no, size_t no_length,
+    const uint32_t *true_child, size_t true_child_length,
+    const uint32_t *false_child, size_t false_child_length,
     double *out, size_t out_length);
 
 /* The mean of the trees' importances, each divided by its total, and then divided by the total of these means if that is above 0.
@@ -230,8 +231,8 @@ uint32_t tailboardy_forest_importances(
     const uint32_t *feature, size_t feature_length,
     const double *threshold, size_t threshold_length,
     const double *score, size_t score_length,
-    const uint32_t *yes, size_t yes_length,
-    const uint32_t *no, size_t no_length,
+    const uint32_t *true_child, size_t true_child_length,
+    const uint32_t *false_child, size_t false_child_length,
     double *out, size_t out_length);
 
 /* The sum of the squared differences between target and mean, divided by the number of rows; a mean that is NaN adds nothing.
@@ -255,8 +256,8 @@ uint32_t tailboardy_check_tree(
     const uint32_t *feature, size_t feature_length,
     const double *threshold, size_t threshold_length,
     const double *score, size_t score_length,
-    const uint32_t *yes, size_t yes_length,
-    const uint32_t *no, size_t no_length);
+    const uint32_t *true_child, size_t true_child_length,
+    const uint32_t *false_child, size_t false_child_length);
 
 /* Checks that the starts and all trees are valid. Refusals: 1, 6, 8. */
 uint32_t tailboardy_check_forest(
@@ -267,8 +268,8 @@ uint32_t tailboardy_check_forest(
     const uint32_t *feature, size_t feature_length,
     const double *threshold, size_t threshold_length,
     const double *score, size_t score_length,
-    const uint32_t *yes, size_t yes_length,
-    const uint32_t *no, size_t no_length);
+    const uint32_t *true_child, size_t true_child_length,
+    const uint32_t *false_child, size_t false_child_length);
 
 /* The node with number `k` of one tree. Refusals: 1, 8. It is not refused if a valid tree has no such node. */
 TailboardyNodeTold tailboardy_read_node(
@@ -277,8 +278,8 @@ TailboardyNodeTold tailboardy_read_node(
     const uint32_t *feature, size_t feature_length,
     const double *threshold, size_t threshold_length,
     const double *score, size_t score_length,
-    const uint32_t *yes, size_t yes_length,
-    const uint32_t *no, size_t no_length,
+    const uint32_t *true_child, size_t true_child_length,
+    const uint32_t *false_child, size_t false_child_length,
     size_t k);
 
 #ifdef __cplusplus

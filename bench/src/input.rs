@@ -23,8 +23,8 @@ pub struct Input {
     pub fresh: Vec<f64>,
     pub tapes: Vec<Tape>,
     pub words: Vec<u32>,
-    pub word_cuts: Vec<usize>,
-    pub threshold_cuts: Vec<usize>,
+    pub word_starts: Vec<usize>,
+    pub threshold_starts: Vec<usize>,
 }
 
 /// Seeds of the inputs and of the draws; any numbers would do.
@@ -82,13 +82,13 @@ impl Input {
             x,
             tapes: Vec::new(),
             words: Vec::new(),
-            word_cuts: vec![0],
-            threshold_cuts: vec![0; size.trees + 1],
+            word_starts: vec![0],
+            threshold_starts: vec![0; size.trees + 1],
         };
         let forest = input.ready().fit(&size.params(), SEED);
         for tree in forest.into_trees() {
             input.words.extend(&tree.made.words);
-            input.word_cuts.push(input.words.len());
+            input.word_starts.push(input.words.len());
             input.tapes.push(tree.made);
         }
         input

@@ -11,8 +11,8 @@ pub struct Rooms {
     feature: Vec<u32>,
     threshold: Vec<f64>,
     score: Vec<f64>,
-    yes: Vec<u32>,
-    no: Vec<u32>,
+    true_child: Vec<u32>,
+    false_child: Vec<u32>,
     starts: Vec<u32>,
     nodes: Vec<u32>,
     depth: Vec<u32>,
@@ -38,8 +38,8 @@ impl Rooms {
             feature: vec![0; places],
             threshold: vec![0.0; places],
             score: vec![0.0; places],
-            yes: vec![0; places],
-            no: vec![0; places],
+            true_child: vec![0; places],
+            false_child: vec![0; places],
             starts: vec![0; trees + 1],
             nodes: vec![0; trees],
             depth: vec![0; trees],
@@ -79,14 +79,14 @@ impl Rooms {
             &input.listings,
             &input.words,
             &[],
-            &input.word_cuts,
-            &input.threshold_cuts,
+            &input.word_starts,
+            &input.threshold_starts,
             &mut self.value,
             &mut self.feature,
             &mut self.threshold,
             &mut self.score,
-            &mut self.yes,
-            &mut self.no,
+            &mut self.true_child,
+            &mut self.false_child,
             &mut self.starts,
             &mut self.nodes,
             &mut self.depth,
@@ -114,8 +114,8 @@ impl Rooms {
             &self.feature,
             &self.threshold,
             &self.score,
-            &self.yes,
-            &self.no,
+            &self.true_child,
+            &self.false_child,
             out,
         )
     }
@@ -145,8 +145,8 @@ impl Rooms {
                     && self.feature[at] == node.feature
                     && self.threshold[at].to_bits() == node.threshold.to_bits()
                     && self.score[at].to_bits() == node.score.to_bits()
-                    && self.yes[at] == node.true_child
-                    && self.no[at] == node.false_child
+                    && self.true_child[at] == node.true_child
+                    && self.false_child[at] == node.false_child
             })
     }
 }

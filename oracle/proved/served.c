@@ -216,8 +216,8 @@ static void read_node(void) {
     tell(told.feature);
     tell_real(told.threshold);
     tell_real(told.score);
-    tell(told.yes);
-    tell(told.no);
+    tell(told.true_child);
+    tell(told.false_child);
     give_slices(taken);
 }
 

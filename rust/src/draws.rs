@@ -19,7 +19,7 @@ use crate::seed::TreeDraws;
 /// let mut draws = Draws::none();
 /// draws.push_tree(&[0, 1, 1, 0], &[]);
 /// draws.push_tree(&[1, 0], &[]);
-/// assert_eq!(draws.word_cuts, [0, 4, 6]);
+/// assert_eq!(draws.word_starts, [0, 4, 6]);
 /// ```
 #[derive(Debug, Clone, PartialEq)]
 pub struct Draws {
@@ -28,9 +28,9 @@ pub struct Draws {
     /// Thresholds, in the order in which they are used.
     pub thresholds: Vec<f64>,
     /// Where each tree's part of the words begins, and where the last part ends: trees + 1 positions.
-    pub word_cuts: Vec<usize>,
+    pub word_starts: Vec<usize>,
     /// The same for the thresholds.
-    pub threshold_cuts: Vec<usize>,
+    pub threshold_starts: Vec<usize>,
 }
 
 impl Default for Draws {
@@ -46,8 +46,8 @@ impl Draws {
         Draws {
             words: Vec::new(),
             thresholds: Vec::new(),
-            word_cuts: vec![0],
-            threshold_cuts: vec![0],
+            word_starts: vec![0],
+            threshold_starts: vec![0],
         }
     }
 
@@ -71,8 +71,8 @@ impl Draws {
     }
 
     fn cut(&mut self) {
-        self.word_cuts.push(self.words.len());
-        self.threshold_cuts.push(self.thresholds.len());
+        self.word_starts.push(self.words.len());
+        self.threshold_starts.push(self.thresholds.len());
     }
 }
 

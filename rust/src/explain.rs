@@ -21,7 +21,7 @@ pub(crate) fn fit(
     let [tree, search] = stopped.place;
     let fault = match stopped.number {
         1 => sizes::fault(rows, features, trees),
-        2 => lengths(given, trees).or_else(|| cuts(trees, draws?)),
+        2 => lengths(given, trees).or_else(|| starts(trees, draws?)),
         3 => numbers(given),
         4 => count(given),
         5 => given.listings.fault_of(5, given.x),
@@ -45,16 +45,16 @@ fn lengths(given: &Given, trees: usize) -> Option<Fault> {
         .or_else(|| given.listings.fault_of(2, given.x))
 }
 
-fn cuts(trees: usize, draws: &Draws) -> Option<Fault> {
-    let part = |cuts: &[usize], tape: usize| {
-        cuts.len() == trees + 1
-            && cuts.first() == Some(&0)
-            && cuts.last() == Some(&tape)
-            && cuts.is_sorted()
+fn starts(trees: usize, draws: &Draws) -> Option<Fault> {
+    let part = |starts: &[usize], tape: usize| {
+        starts.len() == trees + 1
+            && starts.first() == Some(&0)
+            && starts.last() == Some(&tape)
+            && starts.is_sorted()
     };
-    if !part(&draws.word_cuts, draws.words.len()) {
+    if !part(&draws.word_starts, draws.words.len()) {
         Some(Fault::Cuts("word"))
-    } else if !part(&draws.threshold_cuts, draws.thresholds.len()) {
+    } else if !part(&draws.threshold_starts, draws.thresholds.len()) {
         Some(Fault::Cuts("threshold"))
     } else {
         None

@@ -64,8 +64,8 @@ impl<'a> Tree<'a> {
                 feature: told.feature as usize,
                 threshold: told.threshold,
                 score: told.score,
-                true_child: told.yes as usize,
-                false_child: told.no as usize,
+                true_child: told.true_child as usize,
+                false_child: told.false_child as usize,
             };
             Node::new(told.value, fork)
         })
@@ -79,16 +79,18 @@ impl<'a> Tree<'a> {
         let threshold = feature.zip(columns.threshold);
         let score = threshold.zip(columns.score);
         let children = score.zip(columns.true_child).zip(columns.false_child);
-        children.map(|(((((value, feature), threshold), score), yes), no)| {
-            let fork = Split {
-                feature: *feature as usize,
-                threshold: *threshold,
-                score: *score,
-                true_child: *yes as usize,
-                false_child: *no as usize,
-            };
-            Node::new(*value, fork)
-        })
+        children.map(
+            |(((((value, feature), threshold), score), true_child), false_child)| {
+                let fork = Split {
+                    feature: *feature as usize,
+                    threshold: *threshold,
+                    score: *score,
+                    true_child: *true_child as usize,
+                    false_child: *false_child as usize,
+                };
+                Node::new(*value, fork)
+            },
+        )
     }
 
     /// This tree's prediction for each row.

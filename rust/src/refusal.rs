@@ -238,7 +238,7 @@ impl fmt::Display for Fault {
             }
             Fault::Cuts(tape) => write!(
                 f,
-                "the {tape} cuts do not divide their tape into one part per tree"
+                "the {tape} starts do not divide their tape into one part per tree"
             ),
             Fault::Value {
                 row,

@@ -147,8 +147,8 @@ fn held_to_its_draws(
     parameters: &RandomForestRegressorParameters,
 ) {
     for (tree, report) in forest.reports().iter().enumerate() {
-        let words = draws.word_cuts[tree + 1] - draws.word_cuts[tree];
-        let thresholds = draws.threshold_cuts[tree + 1] - draws.threshold_cuts[tree];
+        let words = draws.word_starts[tree + 1] - draws.word_starts[tree];
+        let thresholds = draws.threshold_starts[tree + 1] - draws.threshold_starts[tree];
         assert_eq!(report.thresholds_used as usize, thresholds);
         match parameters.splitter {
             Splitter::Random => assert_eq!(report.words_used as usize, words),

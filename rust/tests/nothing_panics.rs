@@ -81,8 +81,8 @@ impl Maker {
             draws.push_tree(&words, &thresholds);
         }
         if self.chance(10) {
-            let at = self.up_to(draws.word_cuts.len() - 1);
-            draws.word_cuts[at] = self.one_of(&[0, 1, usize::MAX]);
+            let at = self.up_to(draws.word_starts.len() - 1);
+            draws.word_starts[at] = self.one_of(&[0, 1, usize::MAX]);
         }
         draws
     }

@@ -185,13 +185,13 @@ fn lent_lengths() {
     refused(
         fit(&counts, &draws),
         2,
-        "the word cuts do not divide their tape into one part per tree",
+        "the word starts do not divide their tape into one part per tree",
     );
     draws.push_tree(&[0; 3], &[]);
     draws.push_tree(&[0; 3], &[]);
     assert!(fit(&counts, &draws).is_ok());
-    draws.threshold_cuts = vec![0, 1, 0];
-    refused(fit(&counts, &draws), 2, "the threshold cuts");
+    draws.threshold_starts = vec![0, 1, 0];
+    refused(fit(&counts, &draws), 2, "the threshold starts");
     refused(
         fit(&Counts::ones(2, 3).unwrap(), &draws),
         2,

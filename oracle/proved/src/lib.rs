@@ -201,10 +201,20 @@ impl Library for Proved {
 
     fn read_node(&self, features: usize, t: &Table, number: usize) -> [u64; 8] {
         let told = over!(read_node(features; t; number));
-        let [feature, yes, no] = [told.feature, told.yes, told.no].map(u64::from);
+        let [feature, true_child, false_child] =
+            [told.feature, told.true_child, told.false_child].map(u64::from);
         let [value, threshold, score] = [told.value, told.threshold, told.score].map(bits);
         let (number, there) = (u64::from(told.number), u64::from(told.there));
-        [number, there, value, feature, threshold, score, yes, no]
+        [
+            number,
+            there,
+            value,
+            feature,
+            threshold,
+            score,
+            true_child,
+            false_child,
+        ]
     }
 }
 

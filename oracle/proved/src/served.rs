@@ -127,7 +127,7 @@ fields! {
     ForestSettings: limited limit leaf split said tried random;
     ForestTold: number tree search;
     ErrorTold: number error;
-    NodeTold: number there value feature threshold score yes no;
+    NodeTold: number there value feature threshold score true_child false_child;
 }
 
 /// An entry of a slice, in as many bytes as it has in memory.

@@ -81,8 +81,8 @@ pub struct NodeTold {
     pub feature: u32,
     pub threshold: f64,
     pub score: f64,
-    pub yes: u32,
-    pub no: u32,
+    pub true_child: u32,
+    pub false_child: u32,
 }
 
 /// Passes the list of calls to a macro. For each call it has the kind in the list of answers (oracle/README.md), the name and the symbol;
@@ -93,32 +93,32 @@ macro_rules! calls {
     ($to:ident) => {
         $to! {
             1 fit_tree = tailboardy_fit_tree()
-                fills(value: f64, feature: u32, threshold: f64, score: f64, yes: u32, no: u32,
+                fills(value: f64, feature: u32, threshold: f64, score: f64, true_child: u32, false_child: u32,
                     order: u32, scratch: u32, flags: bool, wholes: [u32; 6], reals: [f64; 3])
                 reads(values: f64, targets: f64, weights: f64, counts: u32, listings: u32, words: u32, thresholds: f64)
                 writes() (rows: usize, features: usize, plain: TreeSettings) -> TreeTold;
             2 fit_forest = tailboardy_fit_forest()
-                fills(value: f64, feature: u32, threshold: f64, score: f64, yes: u32, no: u32, starts: u32,
+                fills(value: f64, feature: u32, threshold: f64, score: f64, true_child: u32, false_child: u32, starts: u32,
                     nodes: u32, depth: u32, mass: f64, searches: u32, wordsused: u32, thresholdsused: u32,
                     order: u32, scratch: u32, flags: bool, wholes: [u32; 6], reals: [f64; 3])
                 reads(values: f64, targets: f64, weights: f64, counts: u32, listings: u32, words: u32, thresholds: f64,
-                    wordcuts: usize, thresholdcuts: usize)
+                    word_starts: usize, threshold_starts: usize)
                 writes() (rows: usize, features: usize, trees: usize, plain: ForestSettings) -> ForestTold;
             3 predict_tree = tailboardy_predict_tree(rows: usize, features: usize)
-                fills() reads(values: f64, value: f64, feature: u32, threshold: f64, score: f64, yes: u32, no: u32)
+                fills() reads(values: f64, value: f64, feature: u32, threshold: f64, score: f64, true_child: u32, false_child: u32)
                 writes(out: f64) () -> u32;
             4 forest_means = tailboardy_forest_means(rows: usize, features: usize, trees: usize)
-                fills() reads(values: f64, starts: u32, value: f64, feature: u32, threshold: f64, score: f64, yes: u32, no: u32)
+                fills() reads(values: f64, starts: u32, value: f64, feature: u32, threshold: f64, score: f64, true_child: u32, false_child: u32)
                 writes(out: f64) () -> u32;
             5 out_of_bag_means = tailboardy_out_of_bag_means(rows: usize, features: usize, trees: usize)
                 fills() reads(values: f64, counts: u32, starts: u32,
-                    value: f64, feature: u32, threshold: f64, score: f64, yes: u32, no: u32)
+                    value: f64, feature: u32, threshold: f64, score: f64, true_child: u32, false_child: u32)
                 writes(out: f64) () -> u32;
             6 tree_importances = tailboardy_tree_importances(features: usize, by_mass: bool, mass: f64)
-                fills() reads(value: f64, feature: u32, threshold: f64, score: f64, yes: u32, no: u32)
+                fills() reads(value: f64, feature: u32, threshold: f64, score: f64, true_child: u32, false_child: u32)
                 writes(out: f64) () -> u32;
             8 forest_importances = tailboardy_forest_importances(features: usize, trees: usize)
-                fills() reads(starts: u32, value: f64, feature: u32, threshold: f64, score: f64, yes: u32, no: u32)
+                fills() reads(starts: u32, value: f64, feature: u32, threshold: f64, score: f64, true_child: u32, false_child: u32)
                 writes(out: f64) () -> u32;
             9 out_of_bag_error = tailboardy_out_of_bag_error(rows: usize)
                 fills() reads(targets: f64, means: f64)
@@ -127,13 +127,13 @@ macro_rules! calls {
                 fills() reads(values: f64, listings: u32)
                 writes() () -> u32;
             11 check_tree = tailboardy_check_tree(features: usize)
-                fills() reads(value: f64, feature: u32, threshold: f64, score: f64, yes: u32, no: u32)
+                fills() reads(value: f64, feature: u32, threshold: f64, score: f64, true_child: u32, false_child: u32)
                 writes() () -> u32;
             12 check_forest = tailboardy_check_forest(features: usize, trees: usize)
-                fills() reads(starts: u32, value: f64, feature: u32, threshold: f64, score: f64, yes: u32, no: u32)
+                fills() reads(starts: u32, value: f64, feature: u32, threshold: f64, score: f64, true_child: u32, false_child: u32)
                 writes() () -> u32;
             13 read_node = tailboardy_read_node(features: usize)
-                fills() reads(value: f64, feature: u32, threshold: f64, score: f64, yes: u32, no: u32)
+                fills() reads(value: f64, feature: u32, threshold: f64, score: f64, true_child: u32, false_child: u32)
                 writes() (k: usize) -> NodeTold;
         }
     };

@@ -20,8 +20,8 @@ pub struct Fit {
     pub listings: Vec<u32>,
     pub words: Vec<u32>,
     pub thresholds: Vec<f64>,
-    pub word_cuts: Vec<u64>,
-    pub threshold_cuts: Vec<u64>,
+    pub word_starts: Vec<u64>,
+    pub threshold_starts: Vec<u64>,
     pub rooms: Lengths,
 }
 

@@ -89,8 +89,8 @@ fn fit_fields(fit: &mut Fit, w: &mut Wire) {
     w.smalls(&mut fit.words);
     w.floats(&mut fit.thresholds);
     if fit.forest {
-        w.list(&mut fit.word_cuts, Wire::number);
-        w.list(&mut fit.threshold_cuts, Wire::number);
+        w.list(&mut fit.word_starts, Wire::number);
+        w.list(&mut fit.threshold_starts, Wire::number);
     }
     fit.rooms.nodes.iter_mut().for_each(|length| w.size(length));
     if fit.forest {

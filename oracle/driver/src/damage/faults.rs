@@ -25,7 +25,7 @@ fn good(forest: bool, weighted: bool) -> Fit {
         ..Fit::default()
     };
     if forest {
-        (fit.word_cuts, fit.threshold_cuts) = (vec![0, 9, 18], vec![0; 3]);
+        (fit.word_starts, fit.threshold_starts) = (vec![0, 9, 18], vec![0; 3]);
     }
     make_fit::rooms(&mut Chance::new(0), &mut fit);
     let asked = 3 * trees;
@@ -79,13 +79,13 @@ fn lengths(faults: &mut Faults) {
     }
     let base = good(true, false);
     for longer in [false, true] {
-        faults.add(&base, 2, |fit| off(&mut fit.word_cuts, longer));
-        faults.add(&base, 2, |fit| off(&mut fit.threshold_cuts, longer));
+        faults.add(&base, 2, |fit| off(&mut fit.word_starts, longer));
+        faults.add(&base, 2, |fit| off(&mut fit.threshold_starts, longer));
         // the last cut is no longer the length of the tape
         faults.add(&base, 2, |fit| off(&mut fit.words, longer));
     }
     faults.add(&base, 2, |fit| fit.thresholds.push(0.0));
-    faults.add(&base, 2, |fit| fit.word_cuts[0] = 1);
+    faults.add(&base, 2, |fit| fit.word_starts[0] = 1);
 }
 
 fn numbers(faults: &mut Faults) {

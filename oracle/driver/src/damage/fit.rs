@@ -75,8 +75,8 @@ fn lengths(chance: &mut Chance, fit: &mut Fit) -> bool {
 fn cut_table(chance: &mut Chance, fit: &mut Fit, words: bool) {
     let trees = fit.trees;
     let table = match words {
-        true => &mut fit.word_cuts,
-        false => &mut fit.threshold_cuts,
+        true => &mut fit.word_starts,
+        false => &mut fit.threshold_starts,
     };
     match chance.below(5) {
         0 => drop(table.pop()),
@@ -191,8 +191,8 @@ fn cut_short(chance: &mut Chance, fit: &mut Fit) {
     let tree = chance.below(fit.trees);
     let words = chance.one_in(2);
     let (length, table) = match words {
-        true => (fit.words.len(), &mut fit.word_cuts),
-        false => (fit.thresholds.len(), &mut fit.threshold_cuts),
+        true => (fit.words.len(), &mut fit.word_starts),
+        false => (fit.thresholds.len(), &mut fit.threshold_starts),
     };
     let part = match table.is_empty() {
         true => 0..length,

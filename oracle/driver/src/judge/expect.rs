@@ -43,8 +43,8 @@ fn part<T: Clone>(tape: &[T], cuts: &[u64], tree: usize) -> Vec<T> {
 /// One tree of an accepted fit, grown by the copy from its part of the tapes.
 pub fn grow(fit: &Fit, tree: usize) -> Result<Grown, usize> {
     let tape = Tape {
-        words: part(&fit.words, &fit.word_cuts, tree),
-        thresholds: part(&fit.thresholds, &fit.threshold_cuts, tree),
+        words: part(&fit.words, &fit.word_starts, tree),
+        thresholds: part(&fit.thresholds, &fit.threshold_starts, tree),
     };
     harness::grow(
         &data(fit),

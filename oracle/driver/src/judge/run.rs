@@ -184,8 +184,8 @@ fn run_forest(library: &dyn Library, fit: &Fit) -> Outcome {
         tried: fit.tried,
         draws: draws(fit),
         cuts: Cuts {
-            words: &fit.word_cuts,
-            thresholds: &fit.threshold_cuts,
+            words: &fit.word_starts,
+            thresholds: &fit.threshold_starts,
         },
     };
     let answer = library.fit_forest(&call, &mut owned.lend());

@@ -136,8 +136,8 @@ pub fn default_tried(features: usize) -> Vec<Case> {
             counts: vec![1; 2],
             listings: [0, 1].repeat(features),
             words: (0..features as u32).collect(),
-            word_cuts: vec![0, features as u64],
-            threshold_cuts: vec![0, 0],
+            word_starts: vec![0, features as u64],
+            threshold_starts: vec![0, 0],
             ..Fit::default()
         })
     };
@@ -156,8 +156,8 @@ fn own_parts() -> Vec<Case> {
             limit: Some(2),
             words: vec![0; 4],
             thresholds: vec![0.5, 0.25, 0.75],
-            word_cuts: vec![0, words, 4],
-            threshold_cuts: vec![0, thresholds, 3],
+            word_starts: vec![0, words, 4],
+            threshold_starts: vec![0, thresholds, 3],
             ..minus_zero_drawn()
         };
         make_fit::rooms(&mut Chance::new(0), &mut fit);

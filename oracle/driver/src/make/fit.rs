@@ -150,8 +150,8 @@ pub fn lay(fit: &mut Fit, tapes: &[Tape]) {
     fit.words = tapes.iter().flat_map(|t| t.words.clone()).collect();
     fit.thresholds = tapes.iter().flat_map(|t| t.thresholds.clone()).collect();
     if fit.forest {
-        fit.word_cuts = cuts(tapes.iter().map(|t| t.words.len()));
-        fit.threshold_cuts = cuts(tapes.iter().map(|t| t.thresholds.len()));
+        fit.word_starts = cuts(tapes.iter().map(|t| t.words.len()));
+        fit.threshold_starts = cuts(tapes.iter().map(|t| t.thresholds.len()));
     }
 }
 
