@@ -98,16 +98,6 @@ typedef struct {
  * Afterwards the nodes are at the front of the six columns, the entries after them are unchanged, and the other five slices are all
  * zero. */
 TailboardyTreeTold tailboardy_fit_tree(
-    size_t rows,
-    size_t features,
-    TailboardyTreeSettings plain,
-    const double *values, size_t values_length,
-    const double *targets, size_t targets_length,
-    const double *weights, size_t weights_length,
-    const uint32_t *counts, size_t counts_length,
-    const uint32_t *listings, size_t listings_length,
-    const uint32_t *words, size_t words_length,
-    const double *thresholds, size_t thresholds_length,
     double *value, size_t value_length,
     uint32_t *feature, size_t feature_length,
     double *threshold, size_t threshold_length,
@@ -118,20 +108,7 @@ TailboardyTreeTold tailboardy_fit_tree(
     uint32_t *scratch, size_t scratch_length,
     bool *flags, size_t flags_length,
     uint32_t (*wholes)[6], size_t wholes_length,
-    double (*reals)[3], size_t reals_length);
-
-/* Grows a forest. Refusals: 1, 2, 3, 4, 5, 6, 7.
- * Each tree has its own counts and its own part of both tapes: `wordcuts` and `thresholdcuts` each have trees + 1 positions, from 0
- * to the length of the tape, in ascending order.
- * Required lengths: for the six columns of nodes the sum over all trees of what one tree requires; at least trees + 1 for `starts`;
- * exactly trees for the six columns from `nodes` to `thresholdsused`; for the last five as for one tree.
- * Afterwards the trees are at the front of the columns and `starts` says where each begins, the entries after them are unchanged, the
- * columns from `nodes` to `thresholdsused` report on each tree, and the last five slices are all zero. */
-TailboardyForestTold tailboardy_fit_forest(
-    size_t rows,
-    size_t features,
-    size_t trees,
-    TailboardyForestSettings plain,
+    double (*reals)[3], size_t reals_length,
     const double *values, size_t values_length,
     const double *targets, size_t targets_length,
     const double *weights, size_t weights_length,
@@ -139,8 +116,18 @@ TailboardyForestTold tailboardy_fit_forest(
     const uint32_t *listings, size_t listings_length,
     const uint32_t *words, size_t words_length,
     const double *thresholds, size_t thresholds_length,
-    const size_t *wordcuts, size_t wordcuts_length,
-    const size_t *thresholdcuts, size_t thresholdcuts_length,
+    size_t rows,
+    size_t features,
+    TailboardyTreeSettings plain);
+
+/* Grows a forest. Refusals: 1, 2, 3, 4, 5, 6, 7.
+ * Each tree has its own counts and its own part of both tapes: `wordcuts` and `thresholdcuts` each have trees + 1 positions, from 0
+ * to the length of the tape, in ascending order.
+ * Required lengths: for the six columns of nodes the sum over all trees of what one tree requires; at least trees + 1 for `starts`;
+ * exactly trees for the six columns from `nodes` to `thresholdsused`; for the five from `order` to `reals` as for one tree.
+ * Afterwards the trees are at the front of the columns and `starts` says where each begins, the entries after them are unchanged, the
+ * columns from `nodes` to `thresholdsused` report on each tree, and the five from `order` to `reals` are all zero. */
+TailboardyForestTold tailboardy_fit_forest(
     double *value, size_t value_length,
     uint32_t *feature, size_t feature_length,
     double *threshold, size_t threshold_length,
@@ -158,7 +145,20 @@ TailboardyForestTold tailboardy_fit_forest(
     uint32_t *scratch, size_t scratch_length,
     bool *flags, size_t flags_length,
     uint32_t (*wholes)[6], size_t wholes_length,
-    double (*reals)[3], size_t reals_length);
+    double (*reals)[3], size_t reals_length,
+    const double *values, size_t values_length,
+    const double *targets, size_t targets_length,
+    const double *weights, size_t weights_length,
+    const uint32_t *counts, size_t counts_length,
+    const uint32_t *listings, size_t listings_length,
+    const uint32_t *words, size_t words_length,
+    const double *thresholds, size_t thresholds_length,
+    const size_t *wordcuts, size_t wordcuts_length,
+    const size_t *thresholdcuts, size_t thresholdcuts_length,
+    size_t rows,
+    size_t features,
+    size_t trees,
+    TailboardyForestSettings plain);
 
 /* The value of the leaf that each row reaches. Refusals: 1, 2, 6, 8. The tree is made of all entries of the columns; `out` has one
  * entry per row. */

@@ -97,6 +97,7 @@ static void give_slices(int from) {
 #define WORK_AT(i) U(i), U(i + 1), S(bool, i + 2), S(Wholes, i + 3), S(Reals, i + 4)
 
 static void fit_tree(void) {
+    take_slices(GIVEN COLUMNS WORK);
     size_t rows = number(), features = number();
     TailboardyTreeSettings plain;
     plain.limited = number();
@@ -105,8 +106,7 @@ static void fit_tree(void) {
     plain.split = number();
     plain.tried = number();
     plain.random = number();
-    take_slices(GIVEN COLUMNS WORK);
-    TailboardyTreeTold told = tailboardy_fit_tree(rows, features, plain, GIVEN_AT(0), COLUMNS_AT(7), WORK_AT(13));
+    TailboardyTreeTold told = tailboardy_fit_tree(COLUMNS_AT(7), WORK_AT(13), GIVEN_AT(0), rows, features, plain);
     tell(told.number);
     tell(told.tree);
     tell(told.search);
@@ -120,6 +120,7 @@ static void fit_tree(void) {
 }
 
 static void fit_forest(void) {
+    take_slices(GIVEN "zz" COLUMNS "u" REPORTS WORK);
     size_t rows = number(), features = number(), trees = number();
     TailboardyForestSettings plain;
     plain.limited = number();
@@ -129,9 +130,8 @@ static void fit_forest(void) {
     plain.said = number();
     plain.tried = number();
     plain.random = number();
-    take_slices(GIVEN "zz" COLUMNS "u" REPORTS WORK);
-    TailboardyForestTold told = tailboardy_fit_forest(rows, features, trees, plain,
-        GIVEN_AT(0), S(size_t, 7), S(size_t, 8), COLUMNS_AT(9), U(15), REPORTS_AT(16), WORK_AT(22));
+    TailboardyForestTold told = tailboardy_fit_forest(COLUMNS_AT(9), U(15), REPORTS_AT(16), WORK_AT(22),
+        GIVEN_AT(0), S(size_t, 7), S(size_t, 8), rows, features, trees, plain);
     tell(told.number);
     tell(told.tree);
     tell(told.search);

@@ -109,19 +109,6 @@ pub(crate) fn fit_forest(
     let mut starts = vec![0; trees.len() + 1];
     let mut reports = Reports::zeros(trees.len());
     let told = linked::fit_forest(
-        rows,
-        features,
-        trees.len(),
-        settings.of_forest(),
-        given.x.values(),
-        given.y,
-        given.weights,
-        own,
-        given.listings.numbers(given.x),
-        &draws.words,
-        &draws.thresholds,
-        &draws.word_cuts,
-        &draws.threshold_cuts,
         &mut nodes.value,
         &mut nodes.feature,
         &mut nodes.threshold,
@@ -140,6 +127,19 @@ pub(crate) fn fit_forest(
         &mut work.flags,
         &mut work.wholes,
         &mut work.reals,
+        given.x.values(),
+        given.y,
+        given.weights,
+        own,
+        given.listings.numbers(given.x),
+        &draws.words,
+        &draws.thresholds,
+        &draws.word_cuts,
+        &draws.threshold_cuts,
+        rows,
+        features,
+        trees.len(),
+        settings.of_forest(),
     );
     if told.number != 0 {
         let place = [trees.start + told.tree as usize, told.search as usize];
@@ -170,16 +170,6 @@ pub(crate) fn fit_tree(
     let mut nodes = Nodes::zeros(most_nodes(given, counts));
     let mut work = Work::new(shape);
     let told = linked::fit_tree(
-        shape.0,
-        shape.1,
-        settings.of_tree(shape.1),
-        given.x.values(),
-        given.y,
-        given.weights,
-        counts,
-        given.listings.numbers(given.x),
-        &draws.words,
-        &draws.thresholds,
         &mut nodes.value,
         &mut nodes.feature,
         &mut nodes.threshold,
@@ -191,6 +181,16 @@ pub(crate) fn fit_tree(
         &mut work.flags,
         &mut work.wholes,
         &mut work.reals,
+        given.x.values(),
+        given.y,
+        given.weights,
+        counts,
+        given.listings.numbers(given.x),
+        &draws.words,
+        &draws.thresholds,
+        shape.0,
+        shape.1,
+        settings.of_tree(shape.1),
     );
     if told.number != 0 {
         return Err(Stopped {

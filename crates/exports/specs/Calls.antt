@@ -24,7 +24,8 @@ pub answer-told : {A B R : Type 0} (f : A → B) {a : A} {b : B} {rooms : R} {o 
 answer-told f {rooms = rooms} e t = (λ i. record { answer = t i; rooms = rooms }) ∙ ap (told f) e
 
 module _ (shape : Shape) (tried : ℕ) (given : Given) (words : List ℕ) (thresholds : List Float) (R R′ : TreeRooms WaitingRoom) where
-  pub tree-linked : {S S′ : Settings} {a : TreeAnswer} {t : TreeTold} → S ≡ S′ → record { answer = a; rooms = R′ } ≡ fitTree waitingRoom (treeCall shape S tried given words thresholds) R → treeNumbers t ≡ treeTold a
+  pub tree-linked : {S S′ : Settings} {a : TreeAnswer} {t : TreeTold} → S ≡ S′
+      → record { answer = a; rooms = R′ } ≡ fitTree waitingRoom (treeCall shape S tried given words thresholds) R → treeNumbers t ≡ treeTold a
       → record { answer = treeNumbers t; rooms = R′ } ≡ told treeTold (fitTree waitingRoom (treeCall shape S′ tried given words thresholds) R)
   tree-linked es e t = answer-told treeTold (e ∙ ap (λ S. fitTree waitingRoom (treeCall shape S tried given words thresholds) R) es) t
 
@@ -32,7 +33,8 @@ module _ (shape : Shape) (trees : ℕ) (given : Given) (words : List ℕ) (thres
   abbrev forestOf : Settings → Tried → Outcome ForestAnswer (ForestRooms WaitingRoom)
   forestOf S m = fitForest waitingRoom (forestCall shape trees S m given words thresholds wordStarts thresholdStarts) R
 
-  pub forest-linked : {S S′ : Settings} {m m′ : Tried} {a : ForestAnswer} {t : ForestTold} → S ≡ S′ → m ≡ m′ → record { answer = a; rooms = R′ } ≡ forestOf S m → forestNumbers t ≡ forestTold a
+  pub forest-linked : {S S′ : Settings} {m m′ : Tried} {a : ForestAnswer} {t : ForestTold} → S ≡ S′ → m ≡ m′
+      → record { answer = a; rooms = R′ } ≡ forestOf S m → forestNumbers t ≡ forestTold a
       → record { answer = forestNumbers t; rooms = R′ } ≡ told forestTold (forestOf S′ m′)
   forest-linked es em e t = answer-told forestTold (e ∙ λ i. forestOf (es i) (em i)) t
 

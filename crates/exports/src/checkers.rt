@@ -31,7 +31,8 @@ pub extern "C" fn tailboardy_check_tree(
     truechild: &[u32],
     falsechild: &[u32],
 ) -> u32
-    ensures { λ r. ⌜ r ≡ replyTold (checkTree features (columnsOf (now (value .entry)) (now (feature .entry)) (now (threshold .entry)) (now (score .entry)) (now (truechild .entry)) (now (falsechild .entry)))) ⌝ }
+    ensures { λ r. ⌜ r ≡ replyTold (checkTree features
+        (columnsOf (now (value .entry)) (now (feature .entry)) (now (threshold .entry)) (now (score .entry)) (now (truechild .entry)) (now (falsechild .entry)))) ⌝ }
 {
     let reply = tables::check_tree(
         features,
@@ -57,7 +58,8 @@ pub extern "C" fn tailboardy_check_forest(
     truechild: &[u32],
     falsechild: &[u32],
 ) -> u32
-    ensures { λ r. ⌜ r ≡ replyTold (checkForest features (tableOf trees (now (starts .entry)) (columnsOf (now (value .entry)) (now (feature .entry)) (now (threshold .entry)) (now (score .entry)) (now (truechild .entry)) (now (falsechild .entry))))) ⌝ }
+    ensures { λ r. ⌜ r ≡ replyTold (checkForest features (tableOf trees (now (starts .entry))
+        (columnsOf (now (value .entry)) (now (feature .entry)) (now (threshold .entry)) (now (score .entry)) (now (truechild .entry)) (now (falsechild .entry))))) ⌝ }
 {
     let reply = tables::check_forest(
         features,
@@ -84,7 +86,8 @@ pub extern "C" fn tailboardy_read_node(
     falsechild: &[u32],
     k: usize,
 ) -> NodeTold
-    ensures { λ r. ⌜ nodeNumbers r ≡ nodeTold (readNode features (columnsOf (now (value .entry)) (now (feature .entry)) (now (threshold .entry)) (now (score .entry)) (now (truechild .entry)) (now (falsechild .entry))) k) ⌝ }
+    ensures { λ r. ⌜ nodeNumbers r ≡ nodeTold (readNode features
+        (columnsOf (now (value .entry)) (now (feature .entry)) (now (threshold .entry)) (now (score .entry)) (now (truechild .entry)) (now (falsechild .entry))) k) ⌝ }
 {
     let reply = tables::read_node(
         features,

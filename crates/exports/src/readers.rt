@@ -26,7 +26,8 @@ pub extern "C" fn tailboardy_predict_tree(
     out: &mut [f64],
 ) -> u32
     ensures { λ r. ⌜ _≡_ {A = Outcome ℕ (List Float)} (record { answer = r; rooms = now (out .exit) })
-        (told replyTold (predictTree (record { rows = rows; features = features }) (now (values .entry)) (columnsOf (now (value .entry)) (now (feature .entry)) (now (threshold .entry)) (now (score .entry)) (now (truechild .entry)) (now (falsechild .entry))) (now (out .entry)))) ⌝ }
+        (told replyTold (predictTree (record { rows = rows; features = features }) (now (values .entry))
+        (columnsOf (now (value .entry)) (now (feature .entry)) (now (threshold .entry)) (now (score .entry)) (now (truechild .entry)) (now (falsechild .entry))) (now (out .entry)))) ⌝ }
 {
     let reply = predict::predict_tree(
         Shape { rows, features },
@@ -58,7 +59,8 @@ pub extern "C" fn tailboardy_forest_means(
     out: &mut [f64],
 ) -> u32
     ensures { λ r. ⌜ _≡_ {A = Outcome ℕ (List Float)} (record { answer = r; rooms = now (out .exit) })
-        (told replyTold (forestMeans (record { rows = rows; features = features }) (now (values .entry)) (tableOf trees (now (starts .entry)) (columnsOf (now (value .entry)) (now (feature .entry)) (now (threshold .entry)) (now (score .entry)) (now (truechild .entry)) (now (falsechild .entry)))) (now (out .entry)))) ⌝ }
+        (told replyTold (forestMeans (record { rows = rows; features = features }) (now (values .entry)) (tableOf trees (now (starts .entry))
+        (columnsOf (now (value .entry)) (now (feature .entry)) (now (threshold .entry)) (now (score .entry)) (now (truechild .entry)) (now (falsechild .entry)))) (now (out .entry)))) ⌝ }
 {
     let reply = means::forest_means(
         Shape { rows, features },
@@ -93,7 +95,8 @@ pub extern "C" fn tailboardy_out_of_bag_means(
     out: &mut [f64],
 ) -> u32
     ensures { λ r. ⌜ _≡_ {A = Outcome ℕ (List Float)} (record { answer = r; rooms = now (out .exit) })
-        (told replyTold (outOfBagMeans (record { rows = rows; features = features }) (now (values .entry)) (now (counts .entry)) (tableOf trees (now (starts .entry)) (columnsOf (now (value .entry)) (now (feature .entry)) (now (threshold .entry)) (now (score .entry)) (now (truechild .entry)) (now (falsechild .entry)))) (now (out .entry)))) ⌝ }
+        (told replyTold (outOfBagMeans (record { rows = rows; features = features }) (now (values .entry)) (now (counts .entry)) (tableOf trees (now (starts .entry))
+        (columnsOf (now (value .entry)) (now (feature .entry)) (now (threshold .entry)) (now (score .entry)) (now (truechild .entry)) (now (falsechild .entry)))) (now (out .entry)))) ⌝ }
 {
     let reply = means::out_of_bag_means(
         Shape { rows, features },
@@ -138,7 +141,8 @@ pub extern "C" fn tailboardy_tree_importances(
     out: &mut [f64],
 ) -> u32
     ensures { λ r. ⌜ _≡_ {A = Outcome ℕ (List Float)} (record { answer = r; rooms = now (out .exit) })
-        (told replyTold (treeImportances features (scaleOf bymass mass) (columnsOf (now (value .entry)) (now (feature .entry)) (now (threshold .entry)) (now (score .entry)) (now (truechild .entry)) (now (falsechild .entry))) (now (out .entry)))) ⌝ }
+        (told replyTold (treeImportances features (scaleOf bymass mass)
+        (columnsOf (now (value .entry)) (now (feature .entry)) (now (threshold .entry)) (now (score .entry)) (now (truechild .entry)) (now (falsechild .entry))) (now (out .entry)))) ⌝ }
 {
     let by = c_types::scale_of(bymass, mass);
     let reply = importances::tree_importances(
@@ -169,7 +173,8 @@ pub extern "C" fn tailboardy_forest_importances(
     out: &mut [f64],
 ) -> u32
     ensures { λ r. ⌜ _≡_ {A = Outcome ℕ (List Float)} (record { answer = r; rooms = now (out .exit) })
-        (told replyTold (forestImportances features (tableOf trees (now (starts .entry)) (columnsOf (now (value .entry)) (now (feature .entry)) (now (threshold .entry)) (now (score .entry)) (now (truechild .entry)) (now (falsechild .entry)))) (now (out .entry)))) ⌝ }
+        (told replyTold (forestImportances features (tableOf trees (now (starts .entry))
+        (columnsOf (now (value .entry)) (now (feature .entry)) (now (threshold .entry)) (now (score .entry)) (now (truechild .entry)) (now (falsechild .entry)))) (now (out .entry)))) ⌝ }
 {
     let reply = importances::forest_importances(
         features,

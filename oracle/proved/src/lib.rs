@@ -41,16 +41,6 @@ impl Library for Proved {
         let (given, draws) = (&call.given, &call.draws);
         let mut stack = Stack::new(work.waiting.len(), lot(given, draws.words));
         let told = either::fit_tree(
-            given.rows,
-            given.features,
-            tree_settings(call),
-            given.x,
-            given.y,
-            given.weights,
-            given.counts,
-            given.listings,
-            draws.words,
-            draws.thresholds,
             nodes.value,
             nodes.feature,
             nodes.threshold,
@@ -62,6 +52,16 @@ impl Library for Proved {
             work.flags,
             &mut stack.wholes,
             &mut stack.reals,
+            given.x,
+            given.y,
+            given.weights,
+            given.counts,
+            given.listings,
+            draws.words,
+            draws.thresholds,
+            given.rows,
+            given.features,
+            tree_settings(call),
         );
         stack.told(work.waiting);
         TreeAnswer {
@@ -89,19 +89,6 @@ impl Library for Proved {
         let (given, draws) = (&call.given, &call.draws);
         let mut stack = Stack::new(work.waiting.len(), lot(given, draws.words));
         let told = either::fit_forest(
-            given.rows,
-            given.features,
-            call.trees,
-            forest_settings(call),
-            given.x,
-            given.y,
-            given.weights,
-            given.counts,
-            given.listings,
-            draws.words,
-            draws.thresholds,
-            &places(call.cuts.words),
-            &places(call.cuts.thresholds),
             nodes.value,
             nodes.feature,
             nodes.threshold,
@@ -120,6 +107,19 @@ impl Library for Proved {
             work.flags,
             &mut stack.wholes,
             &mut stack.reals,
+            given.x,
+            given.y,
+            given.weights,
+            given.counts,
+            given.listings,
+            draws.words,
+            draws.thresholds,
+            &places(call.cuts.words),
+            &places(call.cuts.thresholds),
+            given.rows,
+            given.features,
+            call.trees,
+            forest_settings(call),
         );
         stack.told(work.waiting);
         ForestAnswer {

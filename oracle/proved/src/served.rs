@@ -179,13 +179,15 @@ fn take_back<T: Entry>(slice: &mut [T], from: &mut Pipe) {
     slice.iter_mut().for_each(|entry| *entry = T::take(from));
 }
 
-/// Sends the kind and then everything in order; receives the result and the entries of the slices that were written.
+/// Sends the kind and then everything in order, but the slices that are read before those that are written; receives the result and
+/// the entries of the slices that were written.
 macro_rules! serve {
     ($($kind:literal $name:ident = $symbol:ident($($given:ident: $number:ty),*)
-        reads($($shared:ident: $read:ty),*) writes($($lent:ident: $written:ty),*)
+        fills($($room:ident: $filled:ty),*) reads($($shared:ident: $read:ty),*) writes($($lent:ident: $written:ty),*)
         ($($last:ident: $after:ty),*) -> $told:ty;)*) => {$(
         pub fn $name(
             $($given: $number,)*
+            $($room: &mut [$filled],)*
             $($shared: &[$read],)*
             $($lent: &mut [$written],)*
             $($last: $after,)*
@@ -196,10 +198,12 @@ macro_rules! serve {
             Plain::put($kind as u64, &mut sent);
             $(Plain::put($given, &mut sent);)*
             $(put($shared, &mut sent);)*
+            $(put($room, &mut sent);)*
             $(put($lent, &mut sent);)*
             $(Plain::put($last, &mut sent);)*
             pipe.send(&sent);
             let told = Plain::take(pipe);
+            $(take_back($room, pipe);)*
             $(take_back($lent, pipe);)*
             told
         }

@@ -86,54 +86,54 @@ pub struct NodeTold {
 }
 
 /// Passes the list of calls to a macro. For each call it has the kind in the list of answers (oracle/README.md), the name and the symbol;
-/// the parameters passed by value; the slices that are read and those that are written, with the types of their entries; the
-/// parameters that follow them; and the result. The structs above must be in scope where it is used.
+/// the parameters passed by value; the slices that are written before the ones that are read, those that are read, and those that
+/// are written after them, with the types of their entries; the parameters that follow them; and the result. The structs above must be in scope where it is used.
 #[macro_export]
 macro_rules! calls {
     ($to:ident) => {
         $to! {
-            1 fit_tree = tailboardy_fit_tree(rows: usize, features: usize, plain: TreeSettings)
-                reads(values: f64, targets: f64, weights: f64, counts: u32, listings: u32, words: u32, thresholds: f64)
-                writes(value: f64, feature: u32, threshold: f64, score: f64, yes: u32, no: u32,
+            1 fit_tree = tailboardy_fit_tree()
+                fills(value: f64, feature: u32, threshold: f64, score: f64, yes: u32, no: u32,
                     order: u32, scratch: u32, flags: bool, wholes: [u32; 6], reals: [f64; 3])
-                () -> TreeTold;
-            2 fit_forest = tailboardy_fit_forest(rows: usize, features: usize, trees: usize, plain: ForestSettings)
-                reads(values: f64, targets: f64, weights: f64, counts: u32, listings: u32, words: u32, thresholds: f64,
-                    wordcuts: usize, thresholdcuts: usize)
-                writes(value: f64, feature: u32, threshold: f64, score: f64, yes: u32, no: u32, starts: u32,
+                reads(values: f64, targets: f64, weights: f64, counts: u32, listings: u32, words: u32, thresholds: f64)
+                writes() (rows: usize, features: usize, plain: TreeSettings) -> TreeTold;
+            2 fit_forest = tailboardy_fit_forest()
+                fills(value: f64, feature: u32, threshold: f64, score: f64, yes: u32, no: u32, starts: u32,
                     nodes: u32, depth: u32, mass: f64, searches: u32, wordsused: u32, thresholdsused: u32,
                     order: u32, scratch: u32, flags: bool, wholes: [u32; 6], reals: [f64; 3])
-                () -> ForestTold;
+                reads(values: f64, targets: f64, weights: f64, counts: u32, listings: u32, words: u32, thresholds: f64,
+                    wordcuts: usize, thresholdcuts: usize)
+                writes() (rows: usize, features: usize, trees: usize, plain: ForestSettings) -> ForestTold;
             3 predict_tree = tailboardy_predict_tree(rows: usize, features: usize)
-                reads(values: f64, value: f64, feature: u32, threshold: f64, score: f64, yes: u32, no: u32)
+                fills() reads(values: f64, value: f64, feature: u32, threshold: f64, score: f64, yes: u32, no: u32)
                 writes(out: f64) () -> u32;
             4 forest_means = tailboardy_forest_means(rows: usize, features: usize, trees: usize)
-                reads(values: f64, starts: u32, value: f64, feature: u32, threshold: f64, score: f64, yes: u32, no: u32)
+                fills() reads(values: f64, starts: u32, value: f64, feature: u32, threshold: f64, score: f64, yes: u32, no: u32)
                 writes(out: f64) () -> u32;
             5 out_of_bag_means = tailboardy_out_of_bag_means(rows: usize, features: usize, trees: usize)
-                reads(values: f64, counts: u32, starts: u32,
+                fills() reads(values: f64, counts: u32, starts: u32,
                     value: f64, feature: u32, threshold: f64, score: f64, yes: u32, no: u32)
                 writes(out: f64) () -> u32;
             6 tree_importances = tailboardy_tree_importances(features: usize, by_mass: bool, mass: f64)
-                reads(value: f64, feature: u32, threshold: f64, score: f64, yes: u32, no: u32)
+                fills() reads(value: f64, feature: u32, threshold: f64, score: f64, yes: u32, no: u32)
                 writes(out: f64) () -> u32;
             8 forest_importances = tailboardy_forest_importances(features: usize, trees: usize)
-                reads(starts: u32, value: f64, feature: u32, threshold: f64, score: f64, yes: u32, no: u32)
+                fills() reads(starts: u32, value: f64, feature: u32, threshold: f64, score: f64, yes: u32, no: u32)
                 writes(out: f64) () -> u32;
             9 out_of_bag_error = tailboardy_out_of_bag_error(rows: usize)
-                reads(targets: f64, means: f64)
+                fills() reads(targets: f64, means: f64)
                 writes() () -> ErrorTold;
             10 check_listings = tailboardy_check_listings(rows: usize, features: usize)
-                reads(values: f64, listings: u32)
+                fills() reads(values: f64, listings: u32)
                 writes() () -> u32;
             11 check_tree = tailboardy_check_tree(features: usize)
-                reads(value: f64, feature: u32, threshold: f64, score: f64, yes: u32, no: u32)
+                fills() reads(value: f64, feature: u32, threshold: f64, score: f64, yes: u32, no: u32)
                 writes() () -> u32;
             12 check_forest = tailboardy_check_forest(features: usize, trees: usize)
-                reads(starts: u32, value: f64, feature: u32, threshold: f64, score: f64, yes: u32, no: u32)
+                fills() reads(starts: u32, value: f64, feature: u32, threshold: f64, score: f64, yes: u32, no: u32)
                 writes() () -> u32;
             13 read_node = tailboardy_read_node(features: usize)
-                reads(value: f64, feature: u32, threshold: f64, score: f64, yes: u32, no: u32)
+                fills() reads(value: f64, feature: u32, threshold: f64, score: f64, yes: u32, no: u32)
                 writes() (k: usize) -> NodeTold;
         }
     };

@@ -29,11 +29,12 @@ fn plain_floats() {
 
 macro_rules! link {
     ($($kind:literal $name:ident = $symbol:ident($($given:ident: $number:ty),*)
-        reads($($shared:ident: $read:ty),*) writes($($lent:ident: $written:ty),*)
+        fills($($room:ident: $filled:ty),*) reads($($shared:ident: $read:ty),*) writes($($lent:ident: $written:ty),*)
         ($($last:ident: $after:ty),*) -> $told:ty;)*) => {
         unsafe extern "C" {$(
             fn $symbol(
                 $($given: $number,)*
+                $($room: *mut $filled, _: usize,)*
                 $($shared: *const $read, _: usize,)*
                 $($lent: *mut $written, _: usize,)*
                 $($last: $after,)*
@@ -44,6 +45,7 @@ macro_rules! link {
             #[must_use]
             pub fn $name(
                 $($given: $number,)*
+                $($room: &mut [$filled],)*
                 $($shared: &[$read],)*
                 $($lent: &mut [$written],)*
                 $($last: $after,)*
@@ -53,6 +55,7 @@ macro_rules! link {
                 unsafe {
                     $symbol(
                         $($given,)*
+                        $($room.as_mut_ptr(), $room.len(),)*
                         $($shared.as_ptr(), $shared.len(),)*
                         $($lent.as_mut_ptr(), $lent.len(),)*
                         $($last,)*

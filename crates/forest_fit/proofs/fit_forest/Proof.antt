@@ -1,14 +1,13 @@
 -- `forest_fit::fit_forest` meets its contract: the checks decide, and a forest that passes is grown and told of. Assumes nothing.
-use mathlib.Core.Path.{_≡_, refl, sym, ap, _∙_, subst}
+use mathlib.Core.Path.{refl, sym, subst}
 use denote.Ref.{now}
 use borrow.Author.Needs.{needs}
 use lib.Dec.{T}
 use lib.Ieee.{nan, binary64, fits}
-use Rattle.rules.specs.declared.ForestAnswer.{ForestAnswer}
 use Rattle.rules.specs.Lent.{ForestRooms, WaitingRoom, givenOf, columnsOf, reportsOf, workOf, forestRoomsOf}
 use Rattle.rules.specs.Forest.{ForestCall, forestCall}
 use Rattle.rooms.specs.Enough.{every-each}
-use Rattle.forest_ready.specs.Ready.{Refuses, Grows, Ready}
+use Rattle.forest_ready.specs.Ready.{Grows, Ready}
 use Rattle.forest_fit.specs.Ends.{fit-refused, fit-finished}
 use Rattle.forest_fit.specs.Asks.{all-asks, tell-asks}
 use Rattle.forest_fit.proofs.fit_forest.Statement.{statement}
@@ -27,8 +26,48 @@ rooms s =
     (now (a .starts)) (reportsOf (now (a .nodes)) (now (a .depth)) (now (a .mass)) (now (a .searches)) (now (a .wordsused)) (now (a .thresholdsused)))
     (workOf (now (a .order)) (now (a .scratch)) (now (a .flags)) (now (a .wholes)) (now (a .reals)))
 
+abbrev start-of-ready : tie.After-ready → tie.Start
+start-of-ready c =
+    c .before .before .before .before .before .before .before .before .before .before .before .before .before .before .before .before .before .before .before .before .before
+    .before .before .before .before .before .before .before
+
+abbrev plan2-of-grow-arg11 : tie.After-grow-arg11 → tie.After-plan2
+plan2-of-grow-arg11 c = c .before .before .before .before .before .before .before .before .before .before .before .before
+
+abbrev ready-of-grow-arg11 : tie.After-grow-arg11 → tie.After-ready
+ready-of-grow-arg11 c = plan2-of-grow-arg11 c .before .before
+
+abbrev shared-slice-known-place : tie.After-grow-arg11 → tie.After-shared-slice-known
+shared-slice-known-place c = ready-of-grow-arg11 c .before .before .before .before .before .before .before .before .before .before .before
+
+abbrev start-of-grow-arg11 : tie.After-grow-arg11 → tie.Start
+start-of-grow-arg11 c = start-of-ready (ready-of-grow-arg11 c)
+
+abbrev grow-of-tell-arg7 : tie.After-tell-arg7 → tie.After-grow
+grow-of-tell-arg7 c =
+    c .before .before .before .before .before .before .before .before .before .before .before .before .before .before .before .before .before .before .before .before .before
+    .before .before .before .before .before .before
+
+abbrev plan2-of-tell-arg7 : tie.After-tell-arg7 → tie.After-plan2
+plan2-of-tell-arg7 c = plan2-of-grow-arg11 (grow-of-tell-arg7 c .before)
+
+abbrev ready-of-tell-arg7 : tie.After-tell-arg7 → tie.After-ready
+ready-of-tell-arg7 c = ready-of-grow-arg11 (grow-of-tell-arg7 c .before)
+
+abbrev tell-place : tie.After-slice-known32 → tie.After-tell
+tell-place c = c .before .before .before .before .before .before .before .before .before .before .before .before .before .before
+
+abbrev grow-of-slice-known32 : tie.After-slice-known32 → tie.After-grow
+grow-of-slice-known32 c = grow-of-tell-arg7 (tell-place c .before)
+
+abbrev plan2-of-slice-known32 : tie.After-slice-known32 → tie.After-plan2
+plan2-of-slice-known32 c = plan2-of-tell-arg7 (tell-place c .before)
+
+abbrev ready-of-slice-known32 : tie.After-slice-known32 → tie.After-ready
+ready-of-slice-known32 c = ready-of-tell-arg7 (tell-place c .before)
+
 abbrev begun : tie.After-ready → tie.Start
-begun b = b .before .before .before .before .before .before .before .before .before .before .before .before .before .before .before .before .before .before .before .before .before .before .before .before .before .before .before .before
+begun b = start-of-ready b
 
 plan : (b : tie.After-ready) → Ready (call (begun b)) (rooms (begun b)) (b .ready .result)
 plan b =
@@ -68,73 +107,77 @@ grows b = subst (Ready (call (begun (b .before .before))) (rooms (begun (b .befo
 
 grow-requires : tie.Need-grow-requires
 grow-requires c κs =
-    all-asks (call (begun (c .before .before .before .before .before .before .before .before .before .before .before .before .before .before))) (rooms (begun (c .before .before .before .before .before .before .before .before .before .before .before .before .before .before))) (grows (c .before .before .before .before .before .before .before .before .before .before .before .before) .passed)
-    (every-each (λ x. T (fits binary64 x)) (now (c .before .before .before .before .before .before .before .before .before .before .before .before .before .before .before .before .before .before .before .before .before .before .before .before .before .before .before .before .before .before .before .before .before .before .before .before .before .before .before .before .before .before .args .values)) nan (λ i. c .before .before .before .before .before .before .before .before .before .before .before .before .before .before .before .before .before .before .before .before .before .before .before .before .before .shared-slice-known .given i))
-    _ (grows (c .before .before .before .before .before .before .before .before .before .before .before .before) .made) _ (grows (c .before .before .before .before .before .before .before .before .before .before .before .before) .size)
+    all-asks (call (begun (ready-of-grow-arg11 c))) (rooms (begun (ready-of-grow-arg11 c))) (grows (plan2-of-grow-arg11 c) .passed)
+    (every-each (λ x. T (fits binary64 x)) (now (start-of-grow-arg11 c .args .values)) nan (λ i. shared-slice-known-place c .shared-slice-known .given i))
+    _ (grows (plan2-of-grow-arg11 c) .made) _ (grows (plan2-of-grow-arg11 c) .size)
 
 tell-requires : tie.Need-tell-requires
-tell-requires c κs = tell-asks (call (begun (c .before .before .before .before .before .before .before .before .before .before .before .before .before .before .before .before .before .before .before .before .before .before .before .before .before .before .before .before .before .before .before .before .before .before .before .before .before .before .before .before .before .before))) (rooms (begun (c .before .before .before .before .before .before .before .before .before .before .before .before .before .before .before .before .before .before .before .before .before .before .before .before .before .before .before .before .before .before .before .before .before .before .before .before .before .before .before .before .before .before))) (grows (c .before .before .before .before .before .before .before .before .before .before .before .before .before .before .before .before .before .before .before .before .before .before .before .before .before .before .before .before .before .before .before .before .before .before .before .before .before .before .before .before) .passed) _ _ (c .before .before .before .before .before .before .before .before .before .before .before .before .before .before .before .before .before .before .before .before .before .before .before .before .before .before .before .grow .ensures .long)
+tell-requires c κs =
+    tell-asks (call (begun (ready-of-tell-arg7 c))) (rooms (begun (ready-of-tell-arg7 c))) (grows (plan2-of-tell-arg7 c) .passed) _ _ (grow-of-tell-arg7 c .grow .ensures .long)
 
 returns : tie.Need-returns
-returns c = fit-refused _ _ _ (subst (Ready (call (begun (c .before .before .before))) (rooms (begun (c .before .before .before)))) (c .before .plan .given .1) (plan (c .before .before .before)))
+returns c =
+    fit-refused _ _ _ (subst (Ready (call (begun (c .before .before .before))) (rooms (begun (c .before .before .before)))) (c .before .plan .given .1)
+    (plan (c .before .before .before)))
 
 same-length : tie.Need-same-length
-same-length c = c .before .before .before .before .before .before .before .before .before .before .before .before .before .before .before .before .before .before .before .before .before .before .before .before .before .before .before .before .before .before .before .before .before .before .before .before .before .before .before .before .before .before .grow .kept .0
+same-length c = grow-of-slice-known32 c .grow .kept .0
 
 same-length-2 : tie.Need-same-length-2
-same-length-2 c = c .before .before .before .before .before .before .before .before .before .before .before .before .before .before .before .before .before .before .before .before .before .before .before .before .before .before .before .before .before .before .before .before .before .before .before .before .before .before .before .before .before .before .grow .kept .1 .0
+same-length-2 c = grow-of-slice-known32 c .grow .kept .1 .0
 
 same-length-3 : tie.Need-same-length-3
-same-length-3 c = c .before .before .before .before .before .before .before .before .before .before .before .before .before .before .before .before .before .before .before .before .before .before .before .before .before .before .before .before .before .before .before .before .before .before .before .before .before .before .before .before .before .before .grow .kept .1 .1 .0
+same-length-3 c = grow-of-slice-known32 c .grow .kept .1 .1 .0
 
 same-length-4 : tie.Need-same-length-4
-same-length-4 c = c .before .before .before .before .before .before .before .before .before .before .before .before .before .before .before .before .before .before .before .before .before .before .before .before .before .before .before .before .before .before .before .before .before .before .before .before .before .before .before .before .before .before .grow .kept .1 .1 .1 .0
+same-length-4 c = grow-of-slice-known32 c .grow .kept .1 .1 .1 .0
 
 same-length-5 : tie.Need-same-length-5
-same-length-5 c = c .before .before .before .before .before .before .before .before .before .before .before .before .before .before .before .before .before .before .before .before .before .before .before .before .before .before .before .before .before .before .before .before .before .before .before .before .before .before .before .before .before .before .grow .kept .1 .1 .1 .1 .0
+same-length-5 c = grow-of-slice-known32 c .grow .kept .1 .1 .1 .1 .0
 
 same-length-6 : tie.Need-same-length-6
-same-length-6 c = c .before .before .before .before .before .before .before .before .before .before .before .before .before .before .before .before .before .before .before .before .before .before .before .before .before .before .before .before .before .before .before .before .before .before .before .before .before .before .before .before .before .before .grow .kept .1 .1 .1 .1 .1 .0
+same-length-6 c = grow-of-slice-known32 c .grow .kept .1 .1 .1 .1 .1 .0
 
 same-length-7 : tie.Need-same-length-7
-same-length-7 c = c .before .before .before .before .before .before .before .before .before .before .before .before .before .before .tell .kept .0
+same-length-7 c = tell-place c .tell .kept .0
 
 same-length-8 : tie.Need-same-length-8
-same-length-8 c = c .before .before .before .before .before .before .before .before .before .before .before .before .before .before .tell .kept .1 .0
+same-length-8 c = tell-place c .tell .kept .1 .0
 
 same-length-9 : tie.Need-same-length-9
-same-length-9 c = c .before .before .before .before .before .before .before .before .before .before .before .before .before .before .tell .kept .1 .1 .0
+same-length-9 c = tell-place c .tell .kept .1 .1 .0
 
 same-length-10 : tie.Need-same-length-10
-same-length-10 c = c .before .before .before .before .before .before .before .before .before .before .before .before .before .before .tell .kept .1 .1 .1 .0
+same-length-10 c = tell-place c .tell .kept .1 .1 .1 .0
 
 same-length-11 : tie.Need-same-length-11
-same-length-11 c = c .before .before .before .before .before .before .before .before .before .before .before .before .before .before .tell .kept .1 .1 .1 .1 .0
+same-length-11 c = tell-place c .tell .kept .1 .1 .1 .1 .0
 
 same-length-12 : tie.Need-same-length-12
-same-length-12 c = c .before .before .before .before .before .before .before .before .before .before .before .before .before .before .tell .kept .1 .1 .1 .1 .1 .0
+same-length-12 c = tell-place c .tell .kept .1 .1 .1 .1 .1 .0
 
 same-length-13 : tie.Need-same-length-13
-same-length-13 c = c .before .before .before .before .before .before .before .before .before .before .before .before .before .before .tell .kept .1 .1 .1 .1 .1 .1 .0
+same-length-13 c = tell-place c .tell .kept .1 .1 .1 .1 .1 .1 .0
 
 same-length-14 : tie.Need-same-length-14
-same-length-14 c = c .before .before .before .before .before .before .before .before .before .before .before .before .before .before .before .before .before .before .before .before .before .before .before .before .before .before .before .before .before .before .before .before .before .before .before .before .before .before .before .before .before .before .grow .kept .1 .1 .1 .1 .1 .1 .0
+same-length-14 c = grow-of-slice-known32 c .grow .kept .1 .1 .1 .1 .1 .1 .0
 
 same-length-15 : tie.Need-same-length-15
-same-length-15 c = c .before .before .before .before .before .before .before .before .before .before .before .before .before .before .before .before .before .before .before .before .before .before .before .before .before .before .before .before .before .before .before .before .before .before .before .before .before .before .before .before .before .before .grow .kept .1 .1 .1 .1 .1 .1 .1 .0
+same-length-15 c = grow-of-slice-known32 c .grow .kept .1 .1 .1 .1 .1 .1 .1 .0
 
 same-length-16 : tie.Need-same-length-16
-same-length-16 c = c .before .before .before .before .before .before .before .before .before .before .before .before .before .before .before .before .before .before .before .before .before .before .before .before .before .before .before .before .before .before .before .before .before .before .before .before .before .before .before .before .before .before .grow .kept .1 .1 .1 .1 .1 .1 .1 .1 .0
+same-length-16 c = grow-of-slice-known32 c .grow .kept .1 .1 .1 .1 .1 .1 .1 .1 .0
 
 same-length-17 : tie.Need-same-length-17
-same-length-17 c = c .before .before .before .before .before .before .before .before .before .before .before .before .before .before .before .before .before .before .before .before .before .before .before .before .before .before .before .before .before .before .before .before .before .before .before .before .before .before .before .before .before .before .grow .kept .1 .1 .1 .1 .1 .1 .1 .1 .1 .0
+same-length-17 c = grow-of-slice-known32 c .grow .kept .1 .1 .1 .1 .1 .1 .1 .1 .1 .0
 
 same-length-18 : tie.Need-same-length-18
-same-length-18 c = c .before .before .before .before .before .before .before .before .before .before .before .before .before .before .before .before .before .before .before .before .before .before .before .before .before .before .before .before .before .before .before .before .before .before .before .before .before .before .before .before .before .before .grow .kept .1 .1 .1 .1 .1 .1 .1 .1 .1 .1 .0
+same-length-18 c = grow-of-slice-known32 c .grow .kept .1 .1 .1 .1 .1 .1 .1 .1 .1 .1 .0
 
 returns-2 : tie.Need-returns-2
 returns-2 c =
-    fit-finished (call (begun (c .before .before .before .before .before .before .before .before .before .before .before .before .before .before .before .before .before .before .before .before .before .before .before .before .before .before .before .before .before .before .before .before .before .before .before .before .before .before .before .before .before .before .before .before .before .before .before .before .before .before .before .before .before .before .before .before .before))) (rooms (begun (c .before .before .before .before .before .before .before .before .before .before .before .before .before .before .before .before .before .before .before .before .before .before .before .before .before .before .before .before .before .before .before .before .before .before .before .before .before .before .before .before .before .before .before .before .before .before .before .before .before .before .before .before .before .before .before .before .before))) (grows (c .before .before .before .before .before .before .before .before .before .before .before .before .before .before .before .before .before .before .before .before .before .before .before .before .before .before .before .before .before .before .before .before .before .before .before .before .before .before .before .before .before .before .before .before .before .before .before .before .before .before .before .before .before .before .before) .passed) _ (grows (c .before .before .before .before .before .before .before .before .before .before .before .before .before .before .before .before .before .before .before .before .before .before .before .before .before .before .before .before .before .before .before .before .before .before .before .before .before .before .before .before .before .before .before .before .before .before .before .before .before .before .before .before .before .before .before) .made) _ _ _ (c .before .before .before .before .before .before .before .before .before .before .before .before .before .before .before .before .before .before .before .before .before .before .before .before .before .before .before .before .before .before .before .before .before .before .before .before .before .before .before .before .before .before .grow .ensures) _ (c .before .before .before .before .before .before .before .before .before .before .before .before .before .before .tell .ensures)
+    fit-finished (call (begun (ready-of-slice-known32 c))) (rooms (begun (ready-of-slice-known32 c))) (grows (plan2-of-slice-known32 c) .passed) _
+    (grows (plan2-of-slice-known32 c) .made) _ _ _ (grow-of-slice-known32 c .grow .ensures) _ (tell-place c .tell .ensures)
 
 pub fit-forest-spec : {M : Type 1} → statement M
 fit-forest-spec =

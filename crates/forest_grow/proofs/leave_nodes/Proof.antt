@@ -20,29 +20,41 @@ zero-nodes-requires c κs = tt
 enum-told-2 : tie.Need-enum-told-2
 enum-told-2 c = search needs
 
+abbrev start-of-enum-told2 : tie.After-enum-told2 → tie.Start
+start-of-enum-told2 c = c .before .before .before .before .before .before .before .before
+
+abbrev zero-nodes-place : tie.After-slice-known12 → tie.After-zero-nodes
+zero-nodes-place c = c .before .before .before .before .before .before .before .before .before .before .before .before
+
+abbrev enum-told-place : tie.After-slice-known12 → tie.After-enum-told
+enum-told-place c = zero-nodes-place c .before .before .before .before .before .before .before
+
+abbrev start-of-slice-known12 : tie.After-slice-known12 → tie.Start
+start-of-slice-known12 c = enum-told-place c .before .before .before .before .before .before .before .before
+
 same-length : tie.Need-same-length
-same-length c = c .before .before .before .before .before .before .before .before .before .before .before .before .zero-nodes .kept .0
+same-length c = zero-nodes-place c .zero-nodes .kept .0
 
 same-length-2 : tie.Need-same-length-2
-same-length-2 c = c .before .before .before .before .before .before .before .before .before .before .before .before .zero-nodes .kept .1 .0
+same-length-2 c = zero-nodes-place c .zero-nodes .kept .1 .0
 
 same-length-3 : tie.Need-same-length-3
-same-length-3 c = c .before .before .before .before .before .before .before .before .before .before .before .before .zero-nodes .kept .1 .1 .0
+same-length-3 c = zero-nodes-place c .zero-nodes .kept .1 .1 .0
 
 same-length-4 : tie.Need-same-length-4
-same-length-4 c = c .before .before .before .before .before .before .before .before .before .before .before .before .zero-nodes .kept .1 .1 .1 .0
+same-length-4 c = zero-nodes-place c .zero-nodes .kept .1 .1 .1 .0
 
 same-length-5 : tie.Need-same-length-5
-same-length-5 c = c .before .before .before .before .before .before .before .before .before .before .before .before .zero-nodes .kept .1 .1 .1 .1 .0
+same-length-5 c = zero-nodes-place c .zero-nodes .kept .1 .1 .1 .1 .0
 
 same-length-6 : tie.Need-same-length-6
-same-length-6 c = c .before .before .before .before .before .before .before .before .before .before .before .before .zero-nodes .kept .1 .1 .1 .1 .1 .0
+same-length-6 c = zero-nodes-place c .zero-nodes .kept .1 .1 .1 .1 .1 .0
 
 returns : tie.Need-returns
-returns c = c .before .before .before .before .before .before .before .before .before .before .before .before .zero-nodes .ensures ∙ sym (ap (λ g. nodesLeft g (nodes (c .before .before .before .before .before .before .before .before .before .before .before .before .before .before .before .before .before .before .before .before .before .before .before .before .before .before .before))) (c .before .before .before .before .before .before .before .before .before .before .before .before .before .before .before .before .before .before .before .enum-told .given .1))
+returns c = zero-nodes-place c .zero-nodes .ensures ∙ sym (ap (λ g. nodesLeft g (nodes (start-of-slice-known12 c))) (enum-told-place c .enum-told .given .1))
 
 returns-2 : tie.Need-returns-2
-returns-2 c = sym (ap (λ g. nodesLeft g (nodes (c .before .before .before .before .before .before .before .before))) (c .enum-told2 .given .1))
+returns-2 c = sym (ap (λ g. nodesLeft g (nodes (start-of-enum-told2 c))) (c .enum-told2 .given .1))
 
 pub leave-nodes-spec : {M : Type 1} → statement M
 leave-nodes-spec =

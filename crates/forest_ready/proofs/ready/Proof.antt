@@ -2,7 +2,6 @@
 use native.Mathlib.Omega.{arith}
 use Prim.Native.Nat.{_≤_, _*_}
 use mathlib.Core.Path.{sym, _∙_}
-use borrow.Author.Needs.{needs}
 use Rattle.rooms.specs.Enough.{none}
 use Rattle.forest_ready.specs.Ready.{few-features, size-low, made-of}
 use Rattle.forest_ready.proofs.ready.Statement.{statement}
@@ -11,8 +10,11 @@ use Rattle.forest_ready.proofs.ready.Tie as tie
 passed : (e : tie.Else1) → e .before .forest-verdict .result ≤ 0
 passed e = omega (arith, e .if1 .left)
 
+abbrev start-place : tie.Else1 → tie.Start
+start-place c = c .before .before .before .before .before .before .before .before .before
+
 few : (e : tie.Else1) → e .before .before .before .before .before .before .before .before .before .args .shape .features ≤ 1024
-few e = few-features _ _ _ _ _ _ _ _ _ _ _ (e .before .forest-verdict .ensures) (passed e) (e .before .before .before .before .before .before .before .before .before .args .settings) (e .before .before .before .before .before .before .before .before .before .args .tried)
+few e = few-features _ _ _ _ _ _ _ _ _ _ _ (e .before .forest-verdict .ensures) (passed e) (start-place e .args .settings) (start-place e .args .tried)
 
 forest-verdict-requires : tie.Need-forest-verdict-requires
 forest-verdict-requires c κs = tt
@@ -21,7 +23,7 @@ returns : tie.Need-returns
 returns c = λ C R h es et. record { some = c .if1 .taken; first = c .before .forest-verdict .ensures C R h }
 
 mul-size : tie.Need-mul-size
-mul-size c = omega (arith, size-low _ _ _ _ _ _ _ _ _ _ _ (c .before .forest-verdict .ensures) (passed c) (c .before .before .before .before .before .before .before .before .before .args .settings) (c .before .before .before .before .before .before .before .before .before .args .tried))
+mul-size c = omega (arith, size-low _ _ _ _ _ _ _ _ _ _ _ (c .before .forest-verdict .ensures) (passed c) (start-place c .args .settings) (start-place c .args .tried))
 
 cast-tried-of : tie.Need-cast-tried-of
 cast-tried-of c = omega (arith, few c)

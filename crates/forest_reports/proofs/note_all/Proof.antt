@@ -4,7 +4,6 @@ use native.Mathlib.Omega.{arith}
 use mathlib.Core.Path.{refl, sym, _∙_}
 use lib.ListN.{length-set}
 use denote.Ref.{now}
-use borrow.Author.Needs.{needs}
 use Rattle.rules.specs.Lent.{reportsOf}
 use Rattle.forest_reports.specs.Reports.{Noting, noting-first, noting-may, noting-on, noting-end}
 use Rattle.forest_reports.proofs.note_all.Statement.{statement}
@@ -17,11 +16,32 @@ Inv-loop starts₀ nodes₀ depth₀ mass₀ searches₀ words₀ thresholds₀ 
 abbrev μ-loop : tie.MeasureT-loop
 μ-loop starts₀ nodes₀ depth₀ mass₀ searches₀ words₀ thresholds₀ trees reports ends t₀ starts nodes depth mass searches words thresholds t = trees - t
 
+abbrev start-of-slice-known7 : tie.After-slice-known7 Inv-loop μ-loop → tie.Start Inv-loop μ-loop
+start-of-slice-known7 c = c .before .before .before .before .before .before .before
+
+abbrev start-of-loop : tie.After-loop Inv-loop μ-loop → tie.Start Inv-loop μ-loop
+start-of-loop c = start-of-slice-known7 (c .before .before)
+
+abbrev in-loop-of-after-note-next-arg7 : tie.After-note-next-arg7 Inv-loop μ-loop → tie.In-loop Inv-loop μ-loop
+in-loop-of-after-note-next-arg7 c = c .before .before .before .before .before .before .before .before
+
+abbrev at-loop-of-after-note-next-arg7 : tie.After-note-next-arg7 Inv-loop μ-loop → tie.At-loop Inv-loop μ-loop
+at-loop-of-after-note-next-arg7 c = in-loop-of-after-note-next-arg7 c .before
+
+abbrev note-next-place : tie.After-slice-known14 Inv-loop μ-loop → tie.After-note-next Inv-loop μ-loop
+note-next-place c = c .before .before .before .before .before .before .before .before .before .before .before .before .before .before
+
+abbrev in-loop-of-after-slice-known14 : tie.After-slice-known14 Inv-loop μ-loop → tie.In-loop Inv-loop μ-loop
+in-loop-of-after-slice-known14 c = in-loop-of-after-note-next-arg7 (note-next-place c .before)
+
+abbrev at-loop-of-after-slice-known14 : tie.After-slice-known14 Inv-loop μ-loop → tie.At-loop Inv-loop μ-loop
+at-loop-of-after-slice-known14 c = at-loop-of-after-note-next-arg7 (note-next-place c .before)
+
 slice-write-starts : tie.Need-slice-write-starts Inv-loop μ-loop
-slice-write-starts c = omega (arith, c .before .before .before .before .before .before .before .pre .starts)
+slice-write-starts c = omega (arith, start-of-slice-known7 c .pre .starts)
 
 loop-holds : tie.Need-loop-holds Inv-loop μ-loop
-loop-holds c = noting-first _ _ _ _ _ (c .before .before .before .before .before .before .before .pre)
+loop-holds c = noting-first _ _ _ _ _ (start-of-slice-known7 c .pre)
 
 mul-r : tie.Need-mul-r Inv-loop μ-loop
 mul-r c = omega (arith, c .loop-test .taken, c .before .loop .inv .asks .few)
@@ -36,28 +56,29 @@ array-read-end : tie.Need-array-read-end Inv-loop μ-loop
 array-read-end c = omega (arith, c .before .loop-test .taken, c .before .before .loop .inv .asks .few)
 
 note-next-requires : tie.Need-note-next-requires Inv-loop μ-loop
-note-next-requires c κs = noting-may _ _ _ _ _ _ _ _ (c .before .before .before .before .before .before .before .before .before .loop .inv) (c .before .before .before .before .before .before .before .before .loop-test .taken)
+note-next-requires c κs = noting-may _ _ _ _ _ _ _ _ (at-loop-of-after-note-next-arg7 c .loop .inv) (in-loop-of-after-note-next-arg7 c .loop-test .taken)
 
 add-t : tie.Need-add-t Inv-loop μ-loop
-add-t c = omega (arith, c .before .before .before .before .before .before .before .before .before .before .before .before .before .before .before .before .before .before .before .before .before .before .before .loop-test .taken, c .before .before .before .before .before .before .before .before .before .before .before .before .before .before .before .before .before .before .before .before .before .before .before .before .loop .inv .asks .few)
+add-t c = omega (arith, in-loop-of-after-slice-known14 c .loop-test .taken, at-loop-of-after-slice-known14 c .loop .inv .asks .few)
 
 loop-less : tie.Need-loop-less Inv-loop μ-loop
-loop-less c = omega (arith, c .before .before .before .before .before .before .before .before .before .before .before .before .before .before .before .before .before .before .before .before .before .before .before .loop-test .taken)
+loop-less c = omega (arith, in-loop-of-after-slice-known14 c .loop-test .taken)
 
 loop-again : tie.Need-loop-again Inv-loop μ-loop
 loop-again c =
-    noting-on _ _ _ _ _ _ _ _ (c .before .before .before .before .before .before .before .before .before .before .before .before .before .before .before .before .before .before .before .before .before .before .before .before .loop .inv) (c .before .before .before .before .before .before .before .before .before .before .before .before .before .before .before .before .before .before .before .before .before .before .before .loop-test .taken) _ _ refl _ refl _ (c .before .before .before .before .before .before .before .before .before .before .before .before .before .before .note-next .ensures .0) _ (c .before .before .before .before .before .before .before .before .before .before .before .before .before .before .note-next .ensures .1) (c .before .before .before .before .before .before .before .before .before .before .before .before .before .before .note-next .kept .0)
+    noting-on _ _ _ _ _ _ _ _ (at-loop-of-after-slice-known14 c .loop .inv) (in-loop-of-after-slice-known14 c .loop-test .taken) _ _ refl _ refl _
+    (note-next-place c .note-next .ensures .0) _ (note-next-place c .note-next .ensures .1) (note-next-place c .note-next .kept .0)
     (record {
-      nodes = c .before .before .before .before .before .before .before .before .before .before .before .before .before .before .note-next .kept .1 .0 ∙ c .before .before .before .before .before .before .before .before .before .before .before .before .before .before .before .before .before .before .before .before .before .before .before .before .loop .inv .reports-long .nodes;
-      depth = c .before .before .before .before .before .before .before .before .before .before .before .before .before .before .note-next .kept .1 .1 .0 ∙ c .before .before .before .before .before .before .before .before .before .before .before .before .before .before .before .before .before .before .before .before .before .before .before .before .loop .inv .reports-long .depth;
-      mass = c .before .before .before .before .before .before .before .before .before .before .before .before .before .before .note-next .kept .1 .1 .1 .0 ∙ c .before .before .before .before .before .before .before .before .before .before .before .before .before .before .before .before .before .before .before .before .before .before .before .before .loop .inv .reports-long .mass;
-      searches = c .before .before .before .before .before .before .before .before .before .before .before .before .before .before .note-next .kept .1 .1 .1 .1 .0 ∙ c .before .before .before .before .before .before .before .before .before .before .before .before .before .before .before .before .before .before .before .before .before .before .before .before .loop .inv .reports-long .searches;
-      words = c .before .before .before .before .before .before .before .before .before .before .before .before .before .before .note-next .kept .1 .1 .1 .1 .1 .0 ∙ c .before .before .before .before .before .before .before .before .before .before .before .before .before .before .before .before .before .before .before .before .before .before .before .before .loop .inv .reports-long .words;
-      thresholds = c .before .before .before .before .before .before .before .before .before .before .before .before .before .before .note-next .kept .1 .1 .1 .1 .1 .1 .0 ∙ c .before .before .before .before .before .before .before .before .before .before .before .before .before .before .before .before .before .before .before .before .before .before .before .before .loop .inv .reports-long .thresholds;
+      nodes = note-next-place c .note-next .kept .1 .0 ∙ at-loop-of-after-slice-known14 c .loop .inv .reports-long .nodes;
+      depth = note-next-place c .note-next .kept .1 .1 .0 ∙ at-loop-of-after-slice-known14 c .loop .inv .reports-long .depth;
+      mass = note-next-place c .note-next .kept .1 .1 .1 .0 ∙ at-loop-of-after-slice-known14 c .loop .inv .reports-long .mass;
+      searches = note-next-place c .note-next .kept .1 .1 .1 .1 .0 ∙ at-loop-of-after-slice-known14 c .loop .inv .reports-long .searches;
+      words = note-next-place c .note-next .kept .1 .1 .1 .1 .1 .0 ∙ at-loop-of-after-slice-known14 c .loop .inv .reports-long .words;
+      thresholds = note-next-place c .note-next .kept .1 .1 .1 .1 .1 .1 .0 ∙ at-loop-of-after-slice-known14 c .loop .inv .reports-long .thresholds;
     })
 
 same-length : tie.Need-same-length Inv-loop μ-loop
-same-length c = c .before .loop .inv .starts-long ∙ length-set (now (c .before .before .before .before .before .before .before .before .before .args .starts)) 0 0
+same-length c = c .before .loop .inv .starts-long ∙ length-set (now (start-of-loop c .args .starts)) 0 0
 
 same-length-2 : tie.Need-same-length-2 Inv-loop μ-loop
 same-length-2 c = c .before .loop .inv .reports-long .nodes ∙ sym (c .before .loop .inv .asks .reports .nodes)
@@ -78,7 +99,7 @@ same-length-7 : tie.Need-same-length-7 Inv-loop μ-loop
 same-length-7 c = c .before .loop .inv .reports-long .thresholds ∙ sym (c .before .loop .inv .asks .reports .thresholds)
 
 returns : tie.Need-returns Inv-loop μ-loop
-returns c = noting-end _ _ _ _ _ _ _ _ (c .before .loop .inv) (now (c .before .before .before .before .before .before .before .before .before .args .starts)) refl (omega (arith, c .loop-test .left))
+returns c = noting-end _ _ _ _ _ _ _ _ (c .before .loop .inv) (now (start-of-loop c .args .starts)) refl (omega (arith, c .loop-test .left))
 
 pub note-all-spec : {M : Type 1} → statement M
 note-all-spec =

@@ -23,7 +23,9 @@ same-length : tie.Need-same-length
 same-length c = search needs
 
 returns : tie.Need-returns
-returns c = set-up-made (c .before .before .before .before .before .kept-columns .ensures) (c .before .before .root-totals .ensures) (c .before .kept-count .ensures) (c .most-nodes .ensures)
+returns c =
+    set-up-made (c .before .before .before .before .before .kept-columns .ensures) (c .before .before .root-totals .ensures) (c .before .kept-count .ensures)
+    (c .most-nodes .ensures)
 
 pub set-up-spec : {M : Type 1} → statement M
 set-up-spec =

@@ -18,7 +18,8 @@ use Rattle.tree_fit.proofs.fit_tree.Tie as tie
 abbrev call : tie.Start → TreeCall
 call s =
     let a = s .args in
-    treeCall (a .shape) (a .settings) (a .tried) (givenOf (now (a .values)) (now (a .targets)) (now (a .weights)) (now (a .counts)) (now (a .listings))) (now (a .words)) (now (a .thresholds))
+    treeCall (a .shape) (a .settings) (a .tried) (givenOf (now (a .values)) (now (a .targets)) (now (a .weights)) (now (a .counts)) (now (a .listings))) (now (a .words))
+    (now (a .thresholds))
 
 abbrev rooms : tie.Start → TreeRooms WaitingRoom
 rooms s =
@@ -29,13 +30,63 @@ rooms s =
 abbrev size : tie.Start → ℕ
 size s = s .args .shape .features * s .args .shape .rows - 0
 
+abbrev start-of-tree-verdict : tie.After-tree-verdict → tie.Start
+start-of-tree-verdict c = c .before .before .before .before .before .before .before .before .before .before .before .before .before .before .before .before .before .before .before
+
+abbrev else1-of-plant-arg6 : tie.After-plant-arg6 → tie.Else1
+else1-of-plant-arg6 c = c .before .before .before .before .before .before .before
+
+abbrev tree-verdict-of-plant-arg6 : tie.After-plant-arg6 → tie.After-tree-verdict
+tree-verdict-of-plant-arg6 c = else1-of-plant-arg6 c .before
+
+abbrev params-of-of-plant-arg11 : tie.After-plant-arg11 → tie.After-params-of
+params-of-of-plant-arg11 c = c .before .before .before .before .before .before .before .before .before .before .before
+
+abbrev else1-of-plant-arg11 : tie.After-plant-arg11 → tie.Else1
+else1-of-plant-arg11 c = params-of-of-plant-arg11 c .before
+
+abbrev tree-verdict-of-plant-arg11 : tie.After-plant-arg11 → tie.After-tree-verdict
+tree-verdict-of-plant-arg11 c = else1-of-plant-arg11 c .before
+
+abbrev shared-slice-known-place : tie.After-plant-arg11 → tie.After-shared-slice-known
+shared-slice-known-place c = tree-verdict-of-plant-arg11 c .before .before .before .before .before .before .before .before .before
+
+abbrev start-of-plant-arg11 : tie.After-plant-arg11 → tie.Start
+start-of-plant-arg11 c = start-of-tree-verdict (tree-verdict-of-plant-arg11 c)
+
+abbrev finish-place : tie.After-reals2 → tie.After-finish
+finish-place c = c .before .before .before .before .before .before .before .before .before .before .before .before .before .before .before .before .before .before .before .before
+
+abbrev plant-place : tie.After-reals2 → tie.After-plant
+plant-place c =
+    finish-place c .before .before .before .before .before .before .before .before .before .before .before .before .before .before .before .before .before .before .before .before
+    .before .before .before .before .before .before .before .before .before .before .before .before
+
+abbrev params-of-of-reals2 : tie.After-reals2 → tie.After-params-of
+params-of-of-reals2 c = params-of-of-plant-arg11 (plant-place c .before)
+
+abbrev else1-of-reals2 : tie.After-reals2 → tie.Else1
+else1-of-reals2 c = else1-of-plant-arg11 (plant-place c .before)
+
+abbrev tree-verdict-of-reals2 : tie.After-reals2 → tie.After-tree-verdict
+tree-verdict-of-reals2 c = tree-verdict-of-plant-arg11 (plant-place c .before)
+
+abbrev start-of-reals2 : tie.After-reals2 → tie.Start
+start-of-reals2 c = start-of-tree-verdict (tree-verdict-of-reals2 c)
+
 abbrev begun : tie.After-tree-verdict → tie.Start
-begun b = b .before .before .before .before .before .before .before .before .before .before .before .before .before .before .before .before .before .before .before
+begun b = start-of-tree-verdict b
 
 verdict : (b : tie.After-tree-verdict) → b .tree-verdict .result ≡ firstFailed (treeTests waitingRoom (call (begun b)) (rooms (begun b)))
 verdict b =
     b .tree-verdict .ensures (call (begun b)) (rooms (begun b))
-    (record { shape = refl; given = refl; nodes = b .before .before .shortest-of .ensures; work = record { order = refl; scratch = refl; flags = refl; waiting = sym (b .before .least .ensures) } })
+    (record {
+      shape = refl;
+      given = refl;
+      nodes = b .before .before .shortest-of .ensures;
+      work = record
+          { order = refl; scratch = refl; flags = refl; waiting = sym (b .before .least .ensures) };
+    })
 
 passed : (e : tie.Else1) → e .before .tree-verdict .result ≤ 0
 passed e = omega (arith, e .if1 .left)
@@ -65,70 +116,79 @@ part-plant-start : tie.Need-part-plant-start
 part-plant-start c = search needs
 
 part-plant-end : tie.Need-part-plant-end
-part-plant-end c = size-room (call (begun (c .before .before .before .before .before .before .before .before))) (rooms (begun (c .before .before .before .before .before .before .before .before))) _ (verdict (c .before .before .before .before .before .before .before .before)) (passed (c .before .before .before .before .before .before .before))
+part-plant-end c =
+    size-room (call (begun (tree-verdict-of-plant-arg6 c))) (rooms (begun (tree-verdict-of-plant-arg6 c))) _ (verdict (tree-verdict-of-plant-arg6 c))
+    (passed (else1-of-plant-arg6 c))
 
 plant-requires : tie.Need-plant-requires
 plant-requires c κs =
-    plant-asks (call (begun (c .before .before .before .before .before .before .before .before .before .before .before .before .before))) (rooms (begun (c .before .before .before .before .before .before .before .before .before .before .before .before .before))) _ (verdict (c .before .before .before .before .before .before .before .before .before .before .before .before .before)) (passed (c .before .before .before .before .before .before .before .before .before .before .before .before))
-    (every-each (λ x. T (fits binary64 x)) (now (c .before .before .before .before .before .before .before .before .before .before .before .before .before .before .before .before .before .before .before .before .before .before .before .before .before .before .before .before .before .before .before .before .args .values)) nan (λ i. c .before .before .before .before .before .before .before .before .before .before .before .before .before .before .before .before .before .before .before .before .before .before .shared-slice-known .given i)) _ (c .before .before .before .before .before .before .before .before .before .before .before .params-of .ensures) _
-    (lent-long _ _ (size-room (call (begun (c .before .before .before .before .before .before .before .before .before .before .before .before .before))) (rooms (begun (c .before .before .before .before .before .before .before .before .before .before .before .before .before))) _ (verdict (c .before .before .before .before .before .before .before .before .before .before .before .before .before)) (passed (c .before .before .before .before .before .before .before .before .before .before .before .before))))
+    plant-asks (call (begun (tree-verdict-of-plant-arg11 c))) (rooms (begun (tree-verdict-of-plant-arg11 c))) _ (verdict (tree-verdict-of-plant-arg11 c))
+    (passed (else1-of-plant-arg11 c))
+    (every-each (λ x. T (fits binary64 x)) (now (start-of-plant-arg11 c .args .values)) nan (λ i. shared-slice-known-place c .shared-slice-known .given i)) _
+    (params-of-of-plant-arg11 c .params-of .ensures) _
+    (lent-long _ _ (size-room (call (begun (tree-verdict-of-plant-arg11 c))) (rooms (begun (tree-verdict-of-plant-arg11 c))) _ (verdict (tree-verdict-of-plant-arg11 c))
+    (passed (else1-of-plant-arg11 c))))
 
 finish-requires : tie.Need-finish-requires
 finish-requires c κs = tt
 
 same-length : tie.Need-same-length
-same-length c = c .before .before .before .before .before .before .before .before .before .before .before .before .before .before .before .before .before .before .before .before .finish .kept .0 ∙ c .before .before .before .before .before .before .before .before .before .before .before .before .before .before .before .before .before .before .before .before .before .before .before .before .before .before .before .before .before .before .before .before .before .before .before .before .before .before .before .before .before .before .before .before .before .before .before .before .before .before .before .before .plant .kept .0
+same-length c = finish-place c .finish .kept .0 ∙ plant-place c .plant .kept .0
 
 same-length-2 : tie.Need-same-length-2
-same-length-2 c = c .before .before .before .before .before .before .before .before .before .before .before .before .before .before .before .before .before .before .before .before .finish .kept .1 .0 ∙ c .before .before .before .before .before .before .before .before .before .before .before .before .before .before .before .before .before .before .before .before .before .before .before .before .before .before .before .before .before .before .before .before .before .before .before .before .before .before .before .before .before .before .before .before .before .before .before .before .before .before .before .before .plant .kept .1 .0
+same-length-2 c = finish-place c .finish .kept .1 .0 ∙ plant-place c .plant .kept .1 .0
 
 same-length-3 : tie.Need-same-length-3
-same-length-3 c = c .before .before .before .before .before .before .before .before .before .before .before .before .before .before .before .before .before .before .before .before .finish .kept .1 .1 .0 ∙ c .before .before .before .before .before .before .before .before .before .before .before .before .before .before .before .before .before .before .before .before .before .before .before .before .before .before .before .before .before .before .before .before .before .before .before .before .before .before .before .before .before .before .before .before .before .before .before .before .before .before .before .before .plant .kept .1 .1 .0
+same-length-3 c = finish-place c .finish .kept .1 .1 .0 ∙ plant-place c .plant .kept .1 .1 .0
 
 same-length-4 : tie.Need-same-length-4
-same-length-4 c = c .before .before .before .before .before .before .before .before .before .before .before .before .before .before .before .before .before .before .before .before .finish .kept .1 .1 .1 .0 ∙ c .before .before .before .before .before .before .before .before .before .before .before .before .before .before .before .before .before .before .before .before .before .before .before .before .before .before .before .before .before .before .before .before .before .before .before .before .before .before .before .before .before .before .before .before .before .before .before .before .before .before .before .before .plant .kept .1 .1 .1 .0
+same-length-4 c = finish-place c .finish .kept .1 .1 .1 .0 ∙ plant-place c .plant .kept .1 .1 .1 .0
 
 same-length-5 : tie.Need-same-length-5
-same-length-5 c = c .before .before .before .before .before .before .before .before .before .before .before .before .before .before .before .before .before .before .before .before .finish .kept .1 .1 .1 .1 .0 ∙ c .before .before .before .before .before .before .before .before .before .before .before .before .before .before .before .before .before .before .before .before .before .before .before .before .before .before .before .before .before .before .before .before .before .before .before .before .before .before .before .before .before .before .before .before .before .before .before .before .before .before .before .before .plant .kept .1 .1 .1 .1 .0
+same-length-5 c = finish-place c .finish .kept .1 .1 .1 .1 .0 ∙ plant-place c .plant .kept .1 .1 .1 .1 .0
 
 same-length-6 : tie.Need-same-length-6
-same-length-6 c = c .before .before .before .before .before .before .before .before .before .before .before .before .before .before .before .before .before .before .before .before .finish .kept .1 .1 .1 .1 .1 .0 ∙ c .before .before .before .before .before .before .before .before .before .before .before .before .before .before .before .before .before .before .before .before .before .before .before .before .before .before .before .before .before .before .before .before .before .before .before .before .before .before .before .before .before .before .before .before .before .before .before .before .before .before .before .before .plant .kept .1 .1 .1 .1 .1 .0
+same-length-6 c = finish-place c .finish .kept .1 .1 .1 .1 .1 .0 ∙ plant-place c .plant .kept .1 .1 .1 .1 .1 .0
 
 same-length-7 : tie.Need-same-length-7
-same-length-7 c = c .before .before .before .before .before .before .before .before .before .before .before .before .before .before .before .before .before .before .before .before .finish .kept .1 .1 .1 .1 .1 .1 .0 ∙ length-front (now (c .before .before .before .before .before .before .before .before .before .before .before .before .before .before .before .before .before .before .before .before .before .before .before .before .before .before .before .before .before .before .before .before .before .before .before .before .before .before .before .before .before .before .before .before .before .before .before .before .before .before .before .before .before .before .before .before .before .before .before .before .before .before .before .before .before .before .before .before .before .before .before .before .before .before .before .before .before .before .before .before .before .before .before .before .before .args .order)) (c .before .before .before .before .before .before .before .before .before .before .before .before .before .before .before .before .before .before .before .before .before .before .before .before .before .before .before .before .before .before .before .before .before .before .before .before .before .before .before .before .before .before .before .before .before .before .before .before .before .before .before .before .plant .last .1 .1 .1 .1 .1 .1 .0) (size (c .before .before .before .before .before .before .before .before .before .before .before .before .before .before .before .before .before .before .before .before .before .before .before .before .before .before .before .before .before .before .before .before .before .before .before .before .before .before .before .before .before .before .before .before .before .before .before .before .before .before .before .before .before .before .before .before .before .before .before .before .before .before .before .before .before .before .before .before .before .before .before .before .before .before .before .before .before .before .before .before .before .before .before .before .before)) (c .before .before .before .before .before .before .before .before .before .before .before .before .before .before .before .before .before .before .before .before .before .before .before .before .before .before .before .before .before .before .before .before .before .before .before .before .before .before .before .before .before .before .before .before .before .before .before .before .before .before .before .before .plant .kept .1 .1 .1 .1 .1 .1 .0)
+same-length-7 c =
+    finish-place c .finish .kept .1 .1 .1 .1 .1 .1 .0 ∙ length-front (now (start-of-reals2 c .args .order)) (plant-place c .plant .last .1 .1 .1 .1 .1 .1 .0)
+    (size (start-of-reals2 c)) (plant-place c .plant .kept .1 .1 .1 .1 .1 .1 .0)
 
 same-length-8 : tie.Need-same-length-8
-same-length-8 c = c .before .before .before .before .before .before .before .before .before .before .before .before .before .before .before .before .before .before .before .before .finish .kept .1 .1 .1 .1 .1 .1 .1 .0 ∙ c .before .before .before .before .before .before .before .before .before .before .before .before .before .before .before .before .before .before .before .before .before .before .before .before .before .before .before .before .before .before .before .before .before .before .before .before .before .before .before .before .before .before .before .before .before .before .before .before .before .before .before .before .plant .kept .1 .1 .1 .1 .1 .1 .1 .0
+same-length-8 c = finish-place c .finish .kept .1 .1 .1 .1 .1 .1 .1 .0 ∙ plant-place c .plant .kept .1 .1 .1 .1 .1 .1 .1 .0
 
 same-length-9 : tie.Need-same-length-9
-same-length-9 c = c .before .before .before .before .before .before .before .before .before .before .before .before .before .before .before .before .before .before .before .before .finish .kept .1 .1 .1 .1 .1 .1 .1 .1 .0 ∙ c .before .before .before .before .before .before .before .before .before .before .before .before .before .before .before .before .before .before .before .before .before .before .before .before .before .before .before .before .before .before .before .before .before .before .before .before .before .before .before .before .before .before .before .before .before .before .before .before .before .before .before .before .plant .kept .1 .1 .1 .1 .1 .1 .1 .1 .0
+same-length-9 c = finish-place c .finish .kept .1 .1 .1 .1 .1 .1 .1 .1 .0 ∙ plant-place c .plant .kept .1 .1 .1 .1 .1 .1 .1 .1 .0
 
 same-length-10 : tie.Need-same-length-10
-same-length-10 c = c .before .before .before .before .before .before .before .before .before .before .before .before .before .before .before .before .before .before .before .before .finish .kept .1 .1 .1 .1 .1 .1 .1 .1 .1 .0 ∙ c .before .before .before .before .before .before .before .before .before .before .before .before .before .before .before .before .before .before .before .before .before .before .before .before .before .before .before .before .before .before .before .before .before .before .before .before .before .before .before .before .before .before .before .before .before .before .before .before .before .before .before .before .plant .kept .1 .1 .1 .1 .1 .1 .1 .1 .1 .0
+same-length-10 c = finish-place c .finish .kept .1 .1 .1 .1 .1 .1 .1 .1 .1 .0 ∙ plant-place c .plant .kept .1 .1 .1 .1 .1 .1 .1 .1 .1 .0
 
 same-length-11 : tie.Need-same-length-11
-same-length-11 c = c .before .before .before .before .before .before .before .before .before .before .before .before .before .before .before .before .before .before .before .before .finish .kept .1 .1 .1 .1 .1 .1 .1 .1 .1 .1 .0 ∙ c .before .before .before .before .before .before .before .before .before .before .before .before .before .before .before .before .before .before .before .before .before .before .before .before .before .before .before .before .before .before .before .before .before .before .before .before .before .before .before .before .before .before .before .before .before .before .before .before .before .before .before .before .plant .kept .1 .1 .1 .1 .1 .1 .1 .1 .1 .1 .0
+same-length-11 c = finish-place c .finish .kept .1 .1 .1 .1 .1 .1 .1 .1 .1 .1 .0 ∙ plant-place c .plant .kept .1 .1 .1 .1 .1 .1 .1 .1 .1 .1 .0
 
 returns-2 : tie.Need-returns-2
 returns-2 c =
-    c .before .before .before .before .before .before .before .before .before .before .before .before .before .before .before .before .before .before .before .before .finish .ensures
-    ∙ fit-finished (call (begun (c .before .before .before .before .before .before .before .before .before .before .before .before .before .before .before .before .before .before .before .before .before .before .before .before .before .before .before .before .before .before .before .before .before .before .before .before .before .before .before .before .before .before .before .before .before .before .before .before .before .before .before .before .before .before .before .before .before .before .before .before .before .before .before .before .before .before))) (rooms (begun (c .before .before .before .before .before .before .before .before .before .before .before .before .before .before .before .before .before .before .before .before .before .before .before .before .before .before .before .before .before .before .before .before .before .before .before .before .before .before .before .before .before .before .before .before .before .before .before .before .before .before .before .before .before .before .before .before .before .before .before .before .before .before .before .before .before .before))) _
+    finish-place c .finish .ensures
+    ∙ fit-finished (call (begun (tree-verdict-of-reals2 c))) (rooms (begun (tree-verdict-of-reals2 c))) _
     (record {
-      value = c .before .before .before .before .before .before .before .before .before .before .before .before .before .before .before .before .before .before .before .before .before .before .before .before .before .before .before .before .before .before .before .before .before .before .before .before .before .before .before .before .before .before .before .before .before .before .before .before .before .before .before .before .plant .kept .0;
-      feature = c .before .before .before .before .before .before .before .before .before .before .before .before .before .before .before .before .before .before .before .before .before .before .before .before .before .before .before .before .before .before .before .before .before .before .before .before .before .before .before .before .before .before .before .before .before .before .before .before .before .before .before .before .plant .kept .1 .0;
-      threshold = c .before .before .before .before .before .before .before .before .before .before .before .before .before .before .before .before .before .before .before .before .before .before .before .before .before .before .before .before .before .before .before .before .before .before .before .before .before .before .before .before .before .before .before .before .before .before .before .before .before .before .before .before .plant .kept .1 .1 .0;
-      score = c .before .before .before .before .before .before .before .before .before .before .before .before .before .before .before .before .before .before .before .before .before .before .before .before .before .before .before .before .before .before .before .before .before .before .before .before .before .before .before .before .before .before .before .before .before .before .before .before .before .before .before .before .plant .kept .1 .1 .1 .0;
-      truechild = c .before .before .before .before .before .before .before .before .before .before .before .before .before .before .before .before .before .before .before .before .before .before .before .before .before .before .before .before .before .before .before .before .before .before .before .before .before .before .before .before .before .before .before .before .before .before .before .before .before .before .before .before .plant .kept .1 .1 .1 .1 .0;
-      falsechild = c .before .before .before .before .before .before .before .before .before .before .before .before .before .before .before .before .before .before .before .before .before .before .before .before .before .before .before .before .before .before .before .before .before .before .before .before .before .before .before .before .before .before .before .before .before .before .before .before .before .before .before .before .plant .kept .1 .1 .1 .1 .1 .0;
+      value = plant-place c .plant .kept .0;
+      feature = plant-place c .plant .kept .1 .0;
+      threshold = plant-place c .plant .kept .1 .1 .0;
+      score = plant-place c .plant .kept .1 .1 .1 .0;
+      truechild = plant-place c .plant .kept .1 .1 .1 .1 .0;
+      falsechild = plant-place c .plant .kept .1 .1 .1 .1 .1 .0;
     })
     (record {
-      order = length-front (now (c .before .before .before .before .before .before .before .before .before .before .before .before .before .before .before .before .before .before .before .before .before .before .before .before .before .before .before .before .before .before .before .before .before .before .before .before .before .before .before .before .before .before .before .before .before .before .before .before .before .before .before .before .before .before .before .before .before .before .before .before .before .before .before .before .before .before .before .before .before .before .before .before .before .before .before .before .before .before .before .before .before .before .before .before .before .args .order)) (c .before .before .before .before .before .before .before .before .before .before .before .before .before .before .before .before .before .before .before .before .before .before .before .before .before .before .before .before .before .before .before .before .before .before .before .before .before .before .before .before .before .before .before .before .before .before .before .before .before .before .before .before .plant .last .1 .1 .1 .1 .1 .1 .0) (size (c .before .before .before .before .before .before .before .before .before .before .before .before .before .before .before .before .before .before .before .before .before .before .before .before .before .before .before .before .before .before .before .before .before .before .before .before .before .before .before .before .before .before .before .before .before .before .before .before .before .before .before .before .before .before .before .before .before .before .before .before .before .before .before .before .before .before .before .before .before .before .before .before .before .before .before .before .before .before .before .before .before .before .before .before .before)) (c .before .before .before .before .before .before .before .before .before .before .before .before .before .before .before .before .before .before .before .before .before .before .before .before .before .before .before .before .before .before .before .before .before .before .before .before .before .before .before .before .before .before .before .before .before .before .before .before .before .before .before .before .plant .kept .1 .1 .1 .1 .1 .1 .0);
-      scratch = c .before .before .before .before .before .before .before .before .before .before .before .before .before .before .before .before .before .before .before .before .before .before .before .before .before .before .before .before .before .before .before .before .before .before .before .before .before .before .before .before .before .before .before .before .before .before .before .before .before .before .before .before .plant .kept .1 .1 .1 .1 .1 .1 .1 .0;
-      flags = c .before .before .before .before .before .before .before .before .before .before .before .before .before .before .before .before .before .before .before .before .before .before .before .before .before .before .before .before .before .before .before .before .before .before .before .before .before .before .before .before .before .before .before .before .before .before .before .before .before .before .before .before .plant .kept .1 .1 .1 .1 .1 .1 .1 .1 .0;
-      wholes = c .before .before .before .before .before .before .before .before .before .before .before .before .before .before .before .before .before .before .before .before .before .before .before .before .before .before .before .before .before .before .before .before .before .before .before .before .before .before .before .before .before .before .before .before .before .before .before .before .before .before .before .before .plant .kept .1 .1 .1 .1 .1 .1 .1 .1 .1 .0;
-      reals = c .before .before .before .before .before .before .before .before .before .before .before .before .before .before .before .before .before .before .before .before .before .before .before .before .before .before .before .before .before .before .before .before .before .before .before .before .before .before .before .before .before .before .before .before .before .before .before .before .before .before .before .before .plant .kept .1 .1 .1 .1 .1 .1 .1 .1 .1 .1 .0;
+      order =
+          length-front (now (start-of-reals2 c .args .order)) (plant-place c .plant .last .1 .1 .1 .1 .1 .1 .0) (size (start-of-reals2 c))
+          (plant-place c .plant .kept .1 .1 .1 .1 .1 .1 .0);
+      scratch = plant-place c .plant .kept .1 .1 .1 .1 .1 .1 .1 .0;
+      flags = plant-place c .plant .kept .1 .1 .1 .1 .1 .1 .1 .1 .0;
+      wholes = plant-place c .plant .kept .1 .1 .1 .1 .1 .1 .1 .1 .1 .0;
+      reals = plant-place c .plant .kept .1 .1 .1 .1 .1 .1 .1 .1 .1 .1 .0;
     })
-    _ (verdict (c .before .before .before .before .before .before .before .before .before .before .before .before .before .before .before .before .before .before .before .before .before .before .before .before .before .before .before .before .before .before .before .before .before .before .before .before .before .before .before .before .before .before .before .before .before .before .before .before .before .before .before .before .before .before .before .before .before .before .before .before .before .before .before .before .before .before)) (passed (c .before .before .before .before .before .before .before .before .before .before .before .before .before .before .before .before .before .before .before .before .before .before .before .before .before .before .before .before .before .before .before .before .before .before .before .before .before .before .before .before .before .before .before .before .before .before .before .before .before .before .before .before .before .before .before .before .before .before .before .before .before .before .before .before .before)) _ (c .before .before .before .before .before .before .before .before .before .before .before .before .before .before .before .before .before .before .before .before .before .before .before .before .before .before .before .before .before .before .before .before .before .before .before .before .before .before .before .before .before .before .before .before .before .before .before .before .before .before .before .before .before .before .before .before .before .before .before .before .before .before .before .before .params-of .ensures) _ (c .before .before .before .before .before .before .before .before .before .before .before .before .before .before .before .before .before .before .before .before .before .before .before .before .before .before .before .before .before .before .before .before .before .before .before .before .before .before .before .before .before .before .before .before .before .before .before .before .before .before .before .before .plant .ensures)
+    _ (verdict (tree-verdict-of-reals2 c)) (passed (else1-of-reals2 c)) _ (params-of-of-reals2 c .params-of .ensures) _ (plant-place c .plant .ensures)
 
 pub fit-tree-spec : {M : Type 1} → statement M
 fit-tree-spec =
