@@ -5,7 +5,7 @@ ghost use lib.ListN.{set, take};
 ghost use mathlib.Core.List.{_∷_};
 ghost use Rattle.rules.specs.Words.{front};
 ghost use Rattle.rules.specs.Lent.{reportsOf, writeReports};
-ghost use Rattle.forest_reports.specs.Reports.{putReport, NextAsks, AllAsk, TellAsks, Left, leftOf, leaves};
+ghost use Rattle.forest_reports.specs.Reports.{putReport, NextAsks, AllAsk, TellAsks, leftOf, leaves};
 use forest_build::Grove;
 use forest_build::Told;
 use rules::ForestAnswer;

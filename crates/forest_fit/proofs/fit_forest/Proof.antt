@@ -1,14 +1,13 @@
 -- `forest_fit::fit_forest` meets its contract: the checks decide, and a forest that passes is grown and told of. Assumes nothing.
-use mathlib.Core.Path.{_≡_, refl, sym, ap, _∙_, subst}
+use mathlib.Core.Path.{refl, sym, subst}
 use denote.Ref.{now}
 use borrow.Author.Needs.{needs}
 use lib.Dec.{T}
 use lib.Ieee.{nan, binary64, fits}
-use Rattle.rules.specs.declared.ForestAnswer.{ForestAnswer}
 use Rattle.rules.specs.Lent.{ForestRooms, WaitingRoom, givenOf, columnsOf, reportsOf, workOf, forestRoomsOf}
 use Rattle.rules.specs.Forest.{ForestCall, forestCall}
 use Rattle.rooms.specs.Enough.{every-each}
-use Rattle.forest_ready.specs.Ready.{Refuses, Grows, Ready}
+use Rattle.forest_ready.specs.Ready.{Grows, Ready}
 use Rattle.forest_fit.specs.Ends.{fit-refused, fit-finished}
 use Rattle.forest_fit.specs.Asks.{all-asks, tell-asks}
 use Rattle.forest_fit.proofs.fit_forest.Statement.{statement}

@@ -2,7 +2,6 @@
 use native.Mathlib.Omega.{arith}
 use Prim.Native.Nat.{_≤_, _*_}
 use mathlib.Core.Path.{sym, _∙_}
-use borrow.Author.Needs.{needs}
 use Rattle.rooms.specs.Enough.{none}
 use Rattle.forest_ready.specs.Ready.{few-features, size-low, made-of}
 use Rattle.forest_ready.proofs.ready.Statement.{statement}

@@ -4,7 +4,6 @@ use native.Mathlib.Omega.{arith}
 use mathlib.Core.Path.{refl, sym, _∙_}
 use lib.ListN.{length-set}
 use denote.Ref.{now}
-use borrow.Author.Needs.{needs}
 use Rattle.rules.specs.Lent.{reportsOf}
 use Rattle.forest_reports.specs.Reports.{Noting, noting-first, noting-may, noting-on, noting-end}
 use Rattle.forest_reports.proofs.note_all.Statement.{statement}

@@ -1,7 +1,6 @@
 -- `forest_reports::note_next` meets its contract: one entry of each column. Assumes nothing.
 use native.Mathlib.Omega.{arith}
 use mathlib.Core.Path.{refl}
-use lib.ListN.{length-set}
 use borrow.Author.Needs.{needs}
 use Rattle.forest_reports.proofs.note_next.Statement.{statement}
 use Rattle.forest_reports.proofs.note_next.Tie as tie

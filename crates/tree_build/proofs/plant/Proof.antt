@@ -1,6 +1,5 @@
 -- `tree_build::plant` meets its contract: the root is set up, grown, and told of. Assumes nothing.
 use mathlib.Core.Path.{_∙_}
-use borrow.Author.Needs.{needs}
 use Rattle.tree_build.specs.Plant.{set-up-asks, tree-asks, nodes-long}
 use Rattle.tree_build.specs.Told.{plant-tells, plant-done}
 use Rattle.tree_build.proofs.plant.Statement.{statement}
