@@ -5,7 +5,7 @@ use mathlib.Core.Bool.{Bool, not, _||_, cond}
 use mathlib.Core.List.{List, map}
 use lib.ListN.{length, getD, drop}
 use lib.Dec.{ltb}
-use lib.Ieee.{Float, nan, le, eq}
+use lib.Ieee.{Float, le, eq}
 use Rattle.rules.specs.declared.Params.{Params}
 use Rattle.rules.specs.declared.Cut.{Cut}
 use Rattle.rules.specs.declared.Held.{Held}
@@ -14,6 +14,7 @@ use Rattle.rules.specs.Search.{Element, Column, NodeRows, at, candidateAt, step
 use Rattle.rules.specs.Totals.{takeIn}
 use Rattle.rules.specs.Threshold.{thresholdBetween}
 use Rattle.rules.specs.Draws.{Out, bad, ok, bind, Tapes, nextThreshold, tape}
+use Rattle.rules.specs.Lent.{cell}
 use Rattle.rules.specs.Fit.{elementIn}
 use Rattle.lemmas.specs.Work.{part, columnsAt}
 use Rattle.criterion.specs.declared.Side.{Side}
@@ -78,10 +79,6 @@ cutBetween j low high = record { feature = j; threshold = thresholdBetween low h
 abbrev pub sweepOf : (ℕ → Cut) → Run → Sweep
 sweepOf c r = record { before = r .before; count = r .count; last = r .last; best = heldOf c (r .spot) }
 
--- row r's value of feature j
-abbrev pub valueIn : ℕ → List Float → ℕ → ℕ → Float
-valueIn f x j r = getD x (r * f + j) nan
-
 -- the value of the run of equals that ends before place i of a column whose rows have the values v
 unfoldable pub runAt : (ℕ → Float) → List ℕ → ℕ → Float
 runAt v l zero = v (getD l 0 0)
@@ -90,7 +87,7 @@ runAt v l (suc i) = cond (eq (v (getD l i 0)) (runAt v l i)) (runAt v l i) (v (g
 -- the cuts by their places: an earlier one, then those before each row of the column
 unfoldable pub cutsIn : ℕ → List Float → ℕ → List ℕ → Cut → ℕ → Cut
 cutsIn f x j l b zero = b
-cutsIn f x j l b (suc i) = cutBetween j (runAt (valueIn f x j) l i) (valueIn f x j (getD l i 0))
+cutsIn f x j l b (suc i) = cutBetween j (runAt (cell f x j) l i) (cell f x j (getD l i 0))
 
 -- rows whose value of feature j can be read
 pub record Readable (rows features : ℕ) (x : List Float) (j : ℕ) (l : List ℕ) : Type 0 where

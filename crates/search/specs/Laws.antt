@@ -1,13 +1,13 @@
 -- The definition by the code's branches. Each law takes what the tests and the calls on the way gave, in their order. Assumes nothing.
-use Prim.Native.Nat.{ℕ, suc, _+_, _-_, _*_, _<_, _≤_}
-use native.Mathlib.Nat.{mul-le-mul-right, suc-mul, add-assoc, zero-add}
+use Prim.Native.Nat.{ℕ, _+_, _-_, _<_, _≤_}
+use native.Mathlib.Nat.{add-assoc, zero-add}
 use native.Mathlib.Omega.{arith}
 use native.Mathlib.Numerals.{add-one}
 use mathlib.Core.Path.{_≡_, refl, sym, ap, _∙_}
 use mathlib.Core.Bool.{Bool, true, false, not, _||_, cond}
 use mathlib.Core.List.{List, [], _∷_, map}
 use lib.ListN.{length, getD, drop, drop-of-length-le}
-use lib.Seq.{drop-cons, getD-take, getD-drop}
+use lib.Seq.{drop-cons}
 use lib.Dec.{ltb}
 use lib.Ieee.{Float, nan, le, eq}
 use Rattle.rules.specs.declared.Totals.{Totals}
@@ -18,7 +18,7 @@ use Rattle.rules.specs.declared.Sweep.{Sweep}
 use Rattle.rules.specs.Search.{Element, Column, at, better, judge, candidateAt, sweep, bestIn, tally, totalsOf, trueSide, goesTrue}
 use Rattle.rules.specs.Words.{total, keep, putIf}
 use Rattle.rules.specs.Totals.{takeIn, less, proxy, empty}
-use Rattle.rules.specs.Lent.{valuesAt, countIn, massIn}
+use Rattle.rules.specs.Lent.{cell, countIn, massIn}
 use Rattle.rules.specs.Fit.{elementIn}
 use Rattle.criterion.specs.declared.Side.{Side}
 use Rattle.criterion.specs.Sides.{sideOn, joined}
@@ -66,21 +66,10 @@ step-new P a j w e eg eb n eh = λ i.
       best = (eh ∙ ap (λ z. judge P (bare a) z (w .before) (w .count) (cutBetween j (w .last) (e .value))) eg ∙ sym (ap (λ z. candidateAt (not z) P (bare a) j (e .value) w) n)) i;
     }
 
-pub place : (r n f j : ℕ) {l : ℕ} → r < n → l ≡ n * f → j < f → r * f + j < l
-place r n f j hr hl hj =
-    let h : suc r * f ≤ n * f = mul-le-mul-right f hr in
-    omega (arith, h, hl, suc-mul r f)
-
-pub cell-is : (f : ℕ) (t : Tables) (j i : ℕ) {m v : Float} → j < f → m ≡ massIn (t .weights) (t .counts) i → v ≡ getD (t .values) (i * f + j) nan
+pub cell-is : (f : ℕ) (t : Tables) (j i : ℕ) {m v : Float} → m ≡ massIn (t .weights) (t .counts) i → v ≡ cell f (t .values) j i
     → _≡_ {A = Cell} (record { count = getD (t .counts) i 0; mass = m; target = getD (t .targets) i nan; value = v }) (cellOf j (elementOf f t i))
-unfolding cellOf elementIn valuesAt countIn at
-cell-is f t j i {m} {v} h em ev = λ k.
-    record {
-      count = getD (t .counts) i 0;
-      mass = em k;
-      target = getD (t .targets) i nan;
-      value = (ev ∙ sym (getD-take f (drop (i * f) (t .values)) j nan h ∙ getD-drop (i * f) (t .values) j nan)) k;
-    }
+unfolding cellOf elementIn cell countIn at
+cell-is f t j i em ev = λ k. record { count = getD (t .counts) i 0; mass = em k; target = getD (t .targets) i nan; value = ev k }
 
 -- a cell that was read at numbers that are equal to these
 pub cell-here : (f : ℕ) (t : Tables) (j i : ℕ) {j′ i′ : ℕ} {e : Cell} → e ≡ cellOf j′ (elementOf f t i′) → j′ ≡ j → i′ ≡ i → e ≡ cellOf j (elementOf f t i)
@@ -159,11 +148,9 @@ side-end el l i h c s e =
 
 -- ---- the first of a column
 
-pub value-is : (f : ℕ) (t : Tables) (j i : ℕ) {v : Float} {j′ i′ : ℕ} → j < f → v ≡ getD (t .values) (i′ * f + j′) nan → j′ ≡ j → i′ ≡ i → v ≡ at j (elementOf f t i)
-unfolding at elementIn valuesAt
-value-is f t j i {v} {j′} {i′} h ev ej ei =
-    ev ∙ ap (λ n. getD (t .values) (n * f + j′) nan) ei ∙ ap (λ n. getD (t .values) (i * f + n) nan) ej
-    ∙ sym (getD-take f (drop (i * f) (t .values)) j nan h ∙ getD-drop (i * f) (t .values) j nan)
+pub value-is : (f : ℕ) (t : Tables) (j i : ℕ) {v : Float} → v ≡ cell f (t .values) j i → v ≡ at j (elementOf f t i)
+unfolding at elementIn cell
+value-is f t j i e = e
 
 pub best-none : (el : ℕ → Element) (l : List ℕ) → length l ≡ 0 → (P : Params) (a : Side) (j : ℕ) (h : Held) → h ≡ bestIn P (bare a) j h (map el l)
 unfolding bestIn

@@ -11,13 +11,14 @@ use lib.Ieee.{Float, binary64, ofBits, fits, eq}
 use Rattle.floats.specs.Zero.{eq-same}
 use Rattle.rules.specs.declared.Cut.{Cut}
 use Rattle.rules.specs.declared.Held.the-variants.{Nothing, Holds}
+use Rattle.rules.specs.Lent.{cell}
 use Rattle.rules.specs.Threshold.{thresholdBetween}
 use Rattle.rules.specs.Words.{nought}
 use Rattle.candidates.specs.declared.Spot.{Spot}
 use Rattle.candidates.specs.Held.{heldOf}
 use Rattle.search.specs.declared.Cell.{Cell}
 use Rattle.search.specs.Laws.{value-is}
-use Rattle.search.specs.Flat.{Tables, elementOf, cellOf, cutBetween, valueIn, runAt, cutsIn}
+use Rattle.search.specs.Flat.{Tables, elementOf, cellOf, cutBetween, runAt, cutsIn}
 
 module _ (v : ℕ → Float) (l : List ℕ) where
   pub run-next : (i : ℕ) → runAt v l (i + 1) ≡ cond (eq (v (getD l i 0)) (runAt v l i)) (runAt v l i) (v (getD l i 0))
@@ -46,21 +47,21 @@ module _ (v : ℕ → Float) (l : List ℕ) where
         go : (k : ℕ) → eq (v (getD l k 0)) nought ≡ false → v (getD l k 0) ≡ runAt v l (suc k)
         go k z = pick k z (eq (v (getD l k 0)) (runAt v l k)) refl
 
-pub cut-next : (f : ℕ) (x : List Float) (j : ℕ) (l : List ℕ) (b : Cut) (i : ℕ) → cutsIn f x j l b (i + 1) ≡ cutBetween j (runAt (valueIn f x j) l i) (valueIn f x j (getD l i 0))
+pub cut-next : (f : ℕ) (x : List Float) (j : ℕ) (l : List ℕ) (b : Cut) (i : ℕ) → cutsIn f x j l b (i + 1) ≡ cutBetween j (runAt (cell f x j) l i) (cell f x j (getD l i 0))
 unfolding cutsIn
 cut-next f x j l b i = ap (cutsIn f x j l b) (add-one i)
 
 -- one turn at place i
-module _ (f : ℕ) (t : Tables) (j : ℕ) (l : List ℕ) (i : ℕ) (h : j < f) {e : Cell} (ee : e ≡ cellOf j (elementOf f t (getD l i 0))) {z : Float} (ez : z ≡ runAt (valueIn f (t .values) j) l i) where
-  turn-value : e .value ≡ valueIn f (t .values) j (getD l i 0)
+module _ (f : ℕ) (t : Tables) (j : ℕ) (l : List ℕ) (i : ℕ) {e : Cell} (ee : e ≡ cellOf j (elementOf f t (getD l i 0))) {z : Float} (ez : z ≡ runAt (cell f (t .values) j) l i) where
+  turn-value : e .value ≡ cell f (t .values) j (getD l i 0)
   unfolding cellOf
-  turn-value = ap (λ (d : Cell). d .value) ee ∙ sym (value-is f t j (getD l i 0) h refl refl refl)
+  turn-value = ap (λ (d : Cell). d .value) ee ∙ sym (value-is f t j (getD l i 0) refl)
 
   pub turn-cut : (b : Cut) → cutsIn f (t .values) j l b (i + 1) ≡ cutBetween j z (e .value)
   turn-cut b = cut-next f (t .values) j l b i ∙ sym (λ k. cutBetween j (ez k) (turn-value k))
 
-  pub turn-run : {u : Float} → u ≡ cond (eq (e .value) z) z (e .value) → u ≡ runAt (valueIn f (t .values) j) l (i + 1)
-  turn-run eu = eu ∙ (λ k. cond (eq (turn-value k) (ez k)) (ez k) (turn-value k)) ∙ sym (run-next (valueIn f (t .values) j) l i)
+  pub turn-run : {u : Float} → u ≡ cond (eq (e .value) z) z (e .value) → u ≡ runAt (cell f (t .values) j) l (i + 1)
+  turn-run eu = eu ∙ (λ k. cond (eq (turn-value k) (ez k)) (ez k) (turn-value k)) ∙ sym (run-next (cell f (t .values) j) l i)
 
 -- ---- what is held once the column is swept
 
@@ -73,7 +74,7 @@ module _ (f : ℕ) (x : List Float) (j : ℕ) (l : List ℕ) (b : Cut) (s : Spot
   unfolding cutsIn
   held-earlier h e = held-at h e
 
-  pub held-here : s .held ≡ true → (s .place ≡ 0 → ⊥) → {low high t : Float} → low ≡ runAt (valueIn f x j) l (s .place - 1) → high ≡ valueIn f x j (getD l (s .place - 1) 0)
+  pub held-here : s .held ≡ true → (s .place ≡ 0 → ⊥) → {low high t : Float} → low ≡ runAt (cell f x j) l (s .place - 1) → high ≡ cell f x j (getD l (s .place - 1) 0)
       → t ≡ thresholdBetween low high → Holds (record { feature = j; threshold = t }) (s .proxy) ≡ heldOf (cutsIn f x j l b) s
   unfolding cutsIn
   held-here h n el eh et =

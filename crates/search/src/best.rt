@@ -3,11 +3,12 @@ ghost use mathlib.Core.Path.{_≡_};
 ghost use mathlib.Core.Bool.{cond};
 ghost use mathlib.Core.List.{map};
 ghost use Prim.Native.Nat.{ℕ, _+_, _≤_, _<_};
-ghost use lib.ListN.{length, getD};
+ghost use lib.ListN.{length};
 ghost use lib.Ieee.{eq};
+ghost use Rattle.rules.specs.Lent.{cell};
 ghost use Rattle.rules.specs.Search.{judge, sweep, tally, bestIn};
 ghost use Rattle.candidates.specs.Held.{bare, heldOf};
-ghost use Rattle.search.specs.Flat.{tablesOf, Shaped, Below, elementOf, stepIn, cutBetween, sweepOf, valueIn, runAt, cutsIn, Readable};
+ghost use Rattle.search.specs.Flat.{tablesOf, Shaped, Below, elementOf, stepIn, cutBetween, sweepOf, runAt, cutsIn, Readable};
 use crate::Cell;
 use candidates::Spot;
 use criterion::Side;
@@ -79,7 +80,7 @@ pub fn sweep_column(
     requires rows { ⌜ Below rows (now col) ⌝ }
     requires shape { ⌜ Shaped rows features (tablesOf (now values) (now targets) (now weights) (now counts)) × (j < features) ⌝ }
     requires room { ⌜ w .count + tally (map (elementOf features (tablesOf (now values) (now targets) (now weights) (now counts))) (now col)) ≤ a .count ⌝ }
-    requires start { ⌜ (w .spot .place ≡ 0) × (w .last ≡ runAt (valueIn features (now values) j) (now col) 0) ⌝ }
+    requires start { ⌜ (w .spot .place ≡ 0) × (w .last ≡ runAt (cell features (now values) j) (now col) 0) ⌝ }
     ensures { λ r. ⌜
         (r .spot .place ≤ length (now (col .entry))) ×
         ((b : Cut) → let c = cutsIn features (now (values .entry)) j (now (col .entry)) b in sweepOf c r ≡ sweep p (bare a) j (sweepOf c w) (map (elementOf features
@@ -104,14 +105,6 @@ pub fn sweep_column(
     v
 }
 
-// The value of the row at place i of a column.
-fn value_here(values: &[f64], col: &[u32], rows: usize, features: usize, j: u32, i: usize) -> f64
-    requires { ⌜ Readable rows features (now values) j (now col) × (i < length (now col)) ⌝ }
-    ensures { λ r. ⌜ r ≡ valueIn features (now (values .entry)) j (getD (now (col .entry)) i 0) ⌝ }
-{
-    crate::value_of(values, features, slices::wide(j), slices::wide(col[i]))
-}
-
 // A run of equals of value v, or a new one of value e.
 fn run_on(v: f64, e: f64) -> f64
     ensures { λ r. ⌜ r ≡ cond (eq e v) v e ⌝ }
@@ -125,12 +118,12 @@ fn run_on(v: f64, e: f64) -> f64
 // The value of the run of equals that ends before place n, its first, from the column's start on.
 fn run_anew(values: &[f64], col: &[u32], rows: usize, features: usize, j: u32, n: usize) -> f64
     requires { ⌜ Readable rows features (now values) j (now col) × (n < length (now col)) ⌝ }
-    ensures { λ r. ⌜ r ≡ runAt (valueIn features (now (values .entry)) j) (now (col .entry)) n ⌝ }
+    ensures { λ r. ⌜ r ≡ runAt (cell features (now (values .entry)) j) (now (col .entry)) n ⌝ }
 {
-    let mut v = value_here(values, col, rows, features, j, 0);
+    let mut v = crate::value_here(values, col, rows, features, j, 0);
     let mut i: usize = 0;
     while i < n {
-        let e = value_here(values, col, rows, features, j, i);
+        let e = crate::value_here(values, col, rows, features, j, i);
         v = run_on(v, e);
         i += 1;
     }
@@ -140,10 +133,10 @@ fn run_anew(values: &[f64], col: &[u32], rows: usize, features: usize, j: u32, n
 // The same. Values that are equal differ only where they are zeros: any other is the same as the last of its run, which is read first.
 fn run_before(values: &[f64], col: &[u32], rows: usize, features: usize, j: u32, n: usize) -> f64
     requires { ⌜ Readable rows features (now values) j (now col) × (n < length (now col)) ⌝ }
-    ensures { λ r. ⌜ r ≡ runAt (valueIn features (now (values .entry)) j) (now (col .entry)) n ⌝ }
+    ensures { λ r. ⌜ r ≡ runAt (cell features (now (values .entry)) j) (now (col .entry)) n ⌝ }
 {
     if 0 < n {
-        let v = value_here(values, col, rows, features, j, n - 1);
+        let v = crate::value_here(values, col, rows, features, j, n - 1);
         if v == 0.0 {
             return run_anew(values, col, rows, features, j, n);
         }
@@ -171,7 +164,7 @@ pub fn held_of(
         }
         let i = s.place - 1;
         let low = run_before(values, col, rows, features, j, i);
-        let high = value_here(values, col, rows, features, j, i);
+        let high = crate::value_here(values, col, rows, features, j, i);
         let t = threshold_of(low, high);
         return Held::Holds(
             Cut {
@@ -208,7 +201,7 @@ pub fn best_in(
     if col.len() == 0 {
         return h;
     }
-    let first = value_here(values, col, rows, features, j, 0);
+    let first = crate::value_here(values, col, rows, features, j, 0);
     let spot = candidates::spot_of(h);
     let w = Run {
         before: Totals {

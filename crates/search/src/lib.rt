@@ -2,15 +2,15 @@
 ghost use mathlib.Core.Path.{_≡_};
 ghost use mathlib.Core.Bool.{false};
 ghost use mathlib.Core.List.{List};
-ghost use Prim.Native.Nat.{ℕ, _+_, _*_, _≤_, _<_};
+ghost use Prim.Native.Nat.{ℕ, _+_, _≤_, _<_};
 ghost use lib.ListN.{length, getD, take, drop};
-ghost use lib.Ieee.{nan};
 ghost use Rattle.rules.specs.Words.{eachOnce};
+ghost use Rattle.rules.specs.Lent.{cell};
 ghost use Rattle.rules.specs.Draws.{tape};
 ghost use Rattle.rules.specs.Search.{judge, tryOne, tryAll};
 ghost use Rattle.rules.specs.Totals.{less, proxy};
 ghost use Rattle.candidates.specs.Held.{bare};
-ghost use Rattle.search.specs.Flat.{tablesOf, Shaped, elementOf, cellOf, tooFew, meantTries, left, NodeAsks, nodeRowsAt, Fair, Searched};
+ghost use Rattle.search.specs.Flat.{tablesOf, Shaped, elementOf, cellOf, Readable, tooFew, meantTries, left, NodeAsks, nodeRowsAt, Fair, Searched};
 ghost use Rattle.rules.specs.declared.Held.the-variants.{Nothing};
 use criterion::Side;
 use criterion::better_of;
@@ -82,11 +82,19 @@ pub fn judge_of(p: Params, a: Side, h: Held, t: Totals, k: u32, c: Cut) -> Held
     better_of(h, c, q)
 }
 
-pub fn value_of(values: &[f64], features: usize, j: usize, r: usize) -> f64
-    requires { ⌜ r * features + j < length (now values) ⌝ }
-    ensures { λ v. ⌜ v ≡ getD (now (values .entry)) (r * features + j) nan ⌝ }
+// The value of feature j of the row at place i of a column.
+pub fn value_here(
+    values: &[f64],
+    col: &[u32],
+    rows: usize,
+    features: usize,
+    j: u32,
+    i: usize,
+) -> f64
+    requires { ⌜ Readable rows features (now values) j (now col) × (i < length (now col)) ⌝ }
+    ensures { λ r. ⌜ r ≡ cell features (now (values .entry)) j (getD (now (col .entry)) i 0) ⌝ }
 {
-    values[r * features + j]
+    slices::cell_at(values, features, slices::wide(col[i]), slices::wide(j))
 }
 
 pub fn cell_of(
@@ -105,7 +113,7 @@ pub fn cell_of(
     let k = counts[r];
     let t = targets[r];
     let m = mass_of(weights, counts, r);
-    let v = value_of(values, features, j, r);
+    let v = slices::cell_at(values, features, r, j);
     Cell {
         count: k,
         mass: m,

@@ -155,8 +155,8 @@ pub fn random_in(
     if n == 0 {
         return Attempt::Goes(h, m);
     }
-    let lo = crate::value_of(values, features, slices::wide(j), slices::wide(col[0]));
-    let hi = crate::value_of(values, features, slices::wide(j), slices::wide(col[n - 1]));
+    let lo = crate::value_here(values, col, rows, features, j, 0);
+    let hi = crate::value_here(values, col, rows, features, j, n - 1);
     if lo < hi {
         return draw_in(
             values,

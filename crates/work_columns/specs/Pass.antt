@@ -1,6 +1,6 @@
 -- The split pass: the front that goes true, each side row by row, and both together. Assumes nothing.
-use Prim.Native.Nat.{ℕ, _+_, _-_, _*_, _<_, _≤_}
-use native.Mathlib.Nat.{zero-add, suc-mul, mul-le-mul-right}
+use Prim.Native.Nat.{ℕ, _+_, _-_, _<_, _≤_}
+use native.Mathlib.Nat.{zero-add}
 use native.Mathlib.Numerals.{add-one}
 use native.Mathlib.Omega.{arith}
 use mathlib.Core.Path.{_≡_, refl, sym, ap, _∙_, subst}
@@ -8,12 +8,12 @@ use mathlib.Core.Logic.{_⊎_, inl, inr}
 use mathlib.Core.Bool.{Bool, true, false, not}
 use mathlib.Core.List.{List, [], _∷_, _++_, map, map-append}
 use lib.ListN.{length, getD, set, take, drop, drop-of-length-le, take-append-drop, length-take, length-drop, length-set}
-use lib.Seq.{drop-cons, take-suc, take-all, getD-take, getD-drop}
-use lib.Ieee.{Float, nan, le}
+use lib.Seq.{drop-cons, take-suc, take-all}
+use lib.Ieee.{Float, le}
 use Rattle.rules.specs.declared.Totals.{Totals}
 use Rattle.rules.specs.declared.Cut.{Cut}
 use Rattle.rules.specs.Words.{keep, total}
-use Rattle.rules.specs.Lent.{valuesAt, cell}
+use Rattle.rules.specs.Lent.{cell}
 use Rattle.rules.specs.Totals.{empty, takeIn}
 use Rattle.rules.specs.Search.{Element, Column, at, totalsOf, tally, goesTrue, trueSide, falseSide}
 use Rattle.rules.specs.Fit.{elementIn}
@@ -22,27 +22,16 @@ use Rattle.criterion.specs.declared.Side.{Side}
 use Rattle.criterion.specs.Sides.{sideOn, joined}
 use Rattle.work_columns.specs.declared.Gathered.{Gathered}
 use Rattle.work_columns.specs.Columns.{bare, fails, Cleft}
-use Rattle.work_columns.specs.Split.{CellAsks, goes, marked, tested, FrontDone, GatherAsks, GatherDone, PassAsks, PassDone}
+use Rattle.work_columns.specs.Split.{goes, marked, tested, FrontDone, GatherAsks, GatherDone, PassAsks, PassDone}
 use Rattle.work_columns.specs.Cleft.{cleft-rest, front-keeps}
 
--- ---- a row's value
-
--- where it lies
-pub cell-at : (features : ℕ) (values : List Float) (j i : ℕ) → j < features → getD values (i * features + j) nan ≡ cell features values j i
-unfolding cell valuesAt
-cell-at features values j i h = sym (getD-take features (drop (i * features) values) j nan h ∙ getD-drop (i * features) values j nan)
-
-pub cell-inside : (rows features : ℕ) (values : List Float) (j i : ℕ) → CellAsks rows features values j i → i * features + j < length values
-cell-inside rows features values j i q =
-    omega (arith, q .wide, q .known, subst (λ n. n ≤ rows * features) (suc-mul i features) (mul-le-mul-right features (q .row)))
+-- ---- the front that goes true
 
 -- the pass tests what growth tests
 pub cell-goes : (features : ℕ) (values targets weights : List Float) (counts : List ℕ) (c : Cut) (i : ℕ)
     → le (cell features values (c .feature) i) (c .threshold) ≡ goes (elementIn features values targets weights counts) c i
 unfolding goesTrue at elementIn cell
 cell-goes features values targets weights counts c i = refl
-
--- ---- the front that goes true
 
 pub front-turn : (p : ℕ → Bool) (l : List ℕ) (i : ℕ) → i < length l → p (getD l i 0) ≡ true → Every (λ r. p r ≡ true) (take i l) → Every (λ r. p r ≡ true) (take (i + 1) l)
 front-turn p l i h t e =

@@ -25,12 +25,6 @@ pub record Shaped (rows features : ℕ) (values targets weights : List Float) (c
   pub wide : length values ≡ rows * features
   pub targeted : length targets ≡ rows
 
--- a row has a value of feature j
-pub record CellAsks (rows features : ℕ) (values : List Float) (j i : ℕ) : Type 0 where
-  pub wide : length values ≡ rows * features
-  pub row : i < rows
-  pub known : j < features
-
 -- ---- over a stretch
 
 -- whether row r goes to the true side

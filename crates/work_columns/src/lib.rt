@@ -6,13 +6,13 @@ ghost use mathlib.Core.List.{map};
 ghost use lib.ListN.{length};
 ghost use lib.Seq.{paste};
 ghost use Rattle.rules.specs.Words.{from, keep, total};
-ghost use Rattle.rules.specs.Lent.{countIn, keptIn, cell};
+ghost use Rattle.rules.specs.Lent.{countIn, keptIn};
 ghost use Rattle.rules.specs.Totals.{empty};
 ghost use Rattle.rules.specs.Search.{totalsOf};
 ghost use Rattle.rules.specs.Fit.{elementIn};
 ghost use Rattle.lemmas.specs.Work.{part};
 ghost use Rattle.work_columns.specs.Columns.{bare, RootAsks, CountAsks, KeptTo, KeepAsks, KeptAll, KeepAllAsks, flagged, parted, partedColumns, Swept, Parted, PartAsks, ColumnsAsk};
-ghost use Rattle.work_columns.specs.Split.{CellAsks, tested, FrontAsks, FrontDone, GatherAsks, GatherDone, PassAsks, PassDone, SplitAsks, SplitDone};
+ghost use Rattle.work_columns.specs.Split.{tested, FrontAsks, FrontDone, GatherAsks, GatherDone, PassAsks, PassDone, SplitAsks, SplitDone};
 use criterion::Side;
 use rules::Cut;
 use rules::Totals;
@@ -183,15 +183,6 @@ pub fn partition_columns(
 
 // ---- the split pass
 
-// Row i's value of feature j.
-pub fn value_at(values: &[f64], rows: usize, features: usize, j: usize, i: usize) -> f64
-    requires { ⌜ CellAsks rows features (now values) j i ⌝ }
-    ensures { λ r. ⌜ r ≡ cell features (now (values .entry)) j i ⌝ }
-{
-    let base = i * features;
-    values[base + j]
-}
-
 // How many rows at the front of a column go to the true side.
 fn true_rows(values: &[f64], col: &[u32], rows: usize, features: usize, cut: Cut) -> usize
     requires { ⌜ FrontAsks rows features (now values) cut (now col) ⌝ }
@@ -200,7 +191,7 @@ fn true_rows(values: &[f64], col: &[u32], rows: usize, features: usize, cut: Cut
     let j = slices::wide(cut.feature);
     let mut i: usize = 0;
     while i < col.len() {
-        let x = value_at(values, rows, features, j, slices::wide(col[i]));
+        let x = slices::cell_at(values, features, slices::wide(col[i]), j);
         if x <= cut.threshold {
             i += 1;
         } else {

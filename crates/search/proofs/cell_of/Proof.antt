@@ -2,8 +2,9 @@
 use native.Mathlib.Omega.{arith}
 use mathlib.Core.Path.{sym, subst}
 use Prim.Native.Nat.{_<_}
+use Rattle.slices.specs.Cells.{cell-inside}
 use Rattle.search.specs.Flat.{Tables, tablesOf}
-use Rattle.search.specs.Laws.{place, cell-is}
+use Rattle.search.specs.Laws.{cell-is}
 use borrow.Author.Needs.{needs}
 use Rattle.search.proofs.cell_of.Statement.{statement}
 use Rattle.search.proofs.cell_of.Tie as tie
@@ -29,8 +30,8 @@ start-of-known c = c .before .before .before .before .before .before
 abbrev start-of-mass-of : tie.After-mass-of → tie.Start
 start-of-mass-of c = start-of-known (c .before)
 
-abbrev start-of-value-of : tie.After-value-of → tie.Start
-start-of-value-of c = start-of-mass-of (c .before)
+abbrev start-of-cell-at : tie.After-cell-at → tie.Start
+start-of-cell-at c = start-of-mass-of (c .before)
 
 mass-of-requires : tie.Need-mass-of-requires
 mass-of-requires c κs =
@@ -40,16 +41,16 @@ mass-of-requires c κs =
       weighed = λ h. subst (λ n. start-of-known c .args .r < n) (sym (p .0 .weighed h)) (p .1);
     }
 
-value-of-requires : tie.Need-value-of-requires
-value-of-requires c κs =
+cell-at-requires : tie.Need-cell-at-requires
+cell-at-requires c κs =
     let p = start-of-mass-of c .pre in
     let a = start-of-mass-of c .args in
-    place (a .r) (a .rows) (a .features) (a .j) (p .1) (p .0 .wide) (p .2)
+    cell-inside (a .rows) (a .features) (a .r) (a .j) (a .values .now) (p .0 .wide) (p .1) (p .2)
 
 returns : tie.Need-returns
 returns c =
-    let a = start-of-value-of c .args in
-    cell-is (a .features) (tables (start-of-value-of c)) (a .j) (a .r) (start-of-value-of c .pre .2) (c .before .mass-of .ensures) (c .value-of .ensures)
+    let a = start-of-cell-at c .args in
+    cell-is (a .features) (tables (start-of-cell-at c)) (a .j) (a .r) (c .before .mass-of .ensures) (c .cell-at .ensures)
 
 pub cell-of-spec : {M : Type 1} → statement M
 cell-of-spec =
@@ -60,5 +61,5 @@ cell-of-spec =
     mul-t
     shared-slice-read-t
     mass-of-requires
-    value-of-requires
+    cell-at-requires
     returns)

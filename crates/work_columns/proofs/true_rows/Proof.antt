@@ -8,6 +8,7 @@ use lib.ListN.{length, getD, take}
 use lib.Ieee.{le}
 use Rattle.rules.specs.Lent.{cell}
 use Rattle.lemmas.specs.Lists.{Every, every-at}
+use Rattle.slices.specs.Cells.{cell-inside}
 use Rattle.work_columns.specs.Split.{tested}
 use Rattle.work_columns.specs.Pass.{front-turn}
 use Rattle.work_columns.proofs.true_rows.Statement.{statement}
@@ -22,11 +23,11 @@ abbrev μ-loop : tie.MeasureT-loop
 abbrev start-of-wide2 : tie.After-wide2 Inv-loop μ-loop → tie.Start Inv-loop μ-loop
 start-of-wide2 c = c .before .before .before .before .before .before .before
 
-abbrev at-wide : tie.After-value-at Inv-loop μ-loop → tie.After-wide Inv-loop μ-loop
+abbrev at-wide : tie.After-cell-at Inv-loop μ-loop → tie.After-wide Inv-loop μ-loop
 at-wide c = c .before .before .before .before .before
 
-abbrev start-of-value-at : tie.After-value-at Inv-loop μ-loop → tie.Start Inv-loop μ-loop
-start-of-value-at c = start-of-wide2 (c .before)
+abbrev start-of-cell-at : tie.After-cell-at Inv-loop μ-loop → tie.Start Inv-loop μ-loop
+start-of-cell-at c = start-of-wide2 (c .before)
 
 abbrev at-in-loop : tie.Then1 Inv-loop μ-loop → tie.In-loop Inv-loop μ-loop
 at-in-loop c = c .before .before .before .before .before
@@ -38,16 +39,16 @@ abbrev at-loop-of-else1 : tie.Else1 Inv-loop μ-loop → tie.At-loop Inv-loop μ
 at-loop-of-else1 c = c .before .before .before .before .before .before
 
 abbrev start-of-then1 : tie.Then1 Inv-loop μ-loop → tie.Start Inv-loop μ-loop
-start-of-then1 c = start-of-value-at (c .before .before)
+start-of-then1 c = start-of-cell-at (c .before .before)
 
 -- the value that was read is the row's
-read : (c : tie.After-value-at Inv-loop μ-loop)
-    → let a = start-of-value-at c .args in le (c .value-at .result) (a .cut .threshold) ≡ tested (a .features)
+read : (c : tie.After-cell-at Inv-loop μ-loop)
+    → let a = start-of-cell-at c .args in le (c .cell-at .result) (a .cut .threshold) ≡ tested (a .features)
     (a .values .now) (a .cut) (getD (a .col .now) (c .before .before .before .before .loop .i) 0)
 read c =
-    let a = start-of-value-at c .args in
+    let a = start-of-cell-at c .args in
     ap (λ x. le x (a .cut .threshold))
-    (c .value-at .ensures ∙ (λ z. cell (a .features) (a .values .now) (at-wide c .wide .ensures z) (c .before .wide2 .ensures z)))
+    (c .cell-at .ensures ∙ (λ z. cell (a .features) (a .values .now) (at-wide c .wide .ensures z) (c .before .wide2 .ensures z)))
 
 wide-requires : tie.Need-wide-requires Inv-loop μ-loop
 wide-requires c κs = search needs
@@ -64,11 +65,11 @@ shared-slice-read-wide c = search needs
 wide-requires-2 : tie.Need-wide-requires-2 Inv-loop μ-loop
 wide-requires-2 c κs = search needs
 
-value-at-requires : tie.Need-value-at-requires Inv-loop μ-loop
-value-at-requires c κs =
+cell-at-requires : tie.Need-cell-at-requires Inv-loop μ-loop
+cell-at-requires c κs =
     let p = start-of-wide2 c .pre in
     let r = every-at _ (start-of-wide2 c .args .col .now) 0 (c .before .before .before .loop .i) (p .below) (c .before .before .loop-test .taken) in
-    record { wide = p .wide; row = omega (arith, r, c .wide2 .ensures); known = omega (arith, p .known, c .before .before .before .before .wide .ensures) }
+    cell-inside (start-of-wide2 c .args .rows) _ _ _ _ (p .wide) (omega (arith, r, c .wide2 .ensures)) (omega (arith, p .known, c .before .before .before .before .wide .ensures))
 
 add-i : tie.Need-add-i Inv-loop μ-loop
 add-i c = search needs
@@ -104,7 +105,7 @@ true-rows-spec =
     mul-wide
     shared-slice-read-wide
     wide-requires-2
-    value-at-requires
+    cell-at-requires
     add-i
     loop-less
     loop-again

@@ -1,6 +1,6 @@
 -- `search::best::best_in` meets its contract: an empty stretch keeps what is held; else the sweep starts at the first value. Assumes nothing.
 use native.Mathlib.Omega.{arith}
-use mathlib.Core.Path.{refl, _∙_}
+use mathlib.Core.Path.{_∙_}
 use lib.ListN.{getD}
 use Rattle.search.specs.Flat.{Tables, tablesOf, elementOf, cutsIn, runAt}
 use Rattle.search.specs.Laws.{value-is, best-none, best-sweep}
@@ -59,8 +59,7 @@ unfolding cutsIn
 returns-2 c =
     let a = start-of-held-of c .args in
     let first =
-    value-is (a .features) (tables (start-of-held-of c)) (a .j) (getD (a .col .now) 0 0) (start-of-held-of c .pre .1 .0 .1)
-    (c .before .before .before .before .value-here .ensures) refl refl in
+    value-is (a .features) (tables (start-of-held-of c)) (a .j) (getD (a .col .now) 0 0) (c .before .before .before .before .value-here .ensures) in
     let b = c .before .earlier-of .result in
     c .held-of .ensures
     ∙ best-sweep (elementOf (a .features) (tables (start-of-held-of c))) (a .col .now) (at-else1 c .if1 .left) (a .p) (a .a) (a .j) (a .h) first

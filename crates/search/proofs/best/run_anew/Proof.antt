@@ -4,14 +4,15 @@ use mathlib.Core.Path.{_≡_, sym, ap, _∙_}
 use mathlib.Core.Bool.{cond}
 use Prim.Native.Nat.{_-_, _≤_}
 use lib.Ieee.{eq}
-use Rattle.search.specs.Flat.{valueIn, runAt}
+use Rattle.rules.specs.Lent.{cell}
+use Rattle.search.specs.Flat.{runAt}
 use Rattle.search.specs.Runs.{run-next}
 use borrow.Author.Needs.{needs}
 use Rattle.search.proofs.best.run_anew.Statement.{statement}
 use Rattle.search.proofs.best.run_anew.Tie as tie
 
 abbrev Inv-loop : tie.InvT-loop
-Inv-loop values col rows features j n v₀ i₀ v i = (i ≤ n) × (v ≡ runAt (valueIn features values j) col i)
+Inv-loop values col rows features j n v₀ i₀ v i = (i ≤ n) × (v ≡ runAt (cell features values j) col i)
 
 abbrev μ-loop : tie.MeasureT-loop
 μ-loop values col rows features j n v₀ i₀ v i = n - i
@@ -47,14 +48,14 @@ loop-again c =
     let l = c .before .before .before .loop in (
       omega (arith, c .before .before .loop-test .taken),
       c .run-on .ensures ∙ (λ k. cond (eq (c .before .value-here2 .ensures k) (l .inv .1 k)) (l .inv .1 k)
-          (c .before .value-here2 .ensures k)) ∙ sym (run-next (valueIn (a .features) (a .values .now) (a .j)) (a .col .now) (l .i)),
+          (c .before .value-here2 .ensures k)) ∙ sym (run-next (cell (a .features) (a .values .now) (a .j)) (a .col .now) (l .i)),
     )
 
 returns : tie.Need-returns Inv-loop μ-loop
 returns c =
     let a = start-of-loop c .args in
     let l = c .before .loop in
-    l .inv .1 ∙ ap (runAt (valueIn (a .features) (a .values .now) (a .j)) (a .col .now)) (omega (arith, l .inv .0, c .loop-test .left))
+    l .inv .1 ∙ ap (runAt (cell (a .features) (a .values .now) (a .j)) (a .col .now)) (omega (arith, l .inv .0, c .loop-test .left))
 
 pub run-anew-spec : {M : Type 1} → statement M
 run-anew-spec =

@@ -1,6 +1,10 @@
 -- `search::best::run_before` meets its contract: by whether the last value is a zero. Assumes nothing.
 use native.Mathlib.Omega.{arith}
-use Rattle.search.specs.Flat.{valueIn}
+use mathlib.Core.Path.{sym, subst}
+use lib.Dec.{T}
+use lib.Ieee.{binary64, fits}
+use Rattle.rules.specs.Lent.{cell}
+use Rattle.lemmas.specs.Cells.{cell-lies}
 use Rattle.search.specs.Runs.{run-last}
 use Rattle.search.proofs.best.run_before.Statement.{statement}
 use Rattle.search.proofs.best.run_before.Tie as tie
@@ -26,7 +30,9 @@ returns c = c .run-anew .ensures
 returns-2 : tie.Need-returns-2
 returns-2 c =
     let a = start-of-else2 c .args in
-    run-last (valueIn (a .features) (a .values .now) (a .j)) (a .col .now) (λ r. c .before .before .before .before .shared-slice-known .given _) (a .n)
+    run-last (cell (a .features) (a .values .now) (a .j)) (a .col .now) (λ r.
+    subst (λ u. T (fits binary64 u)) (sym (cell-lies (a .features) (a .values .now) r (a .j) (start-of-else2 c .pre .0 .one)))
+    (c .before .before .before .before .shared-slice-known .given _)) (a .n)
     (c .before .before .if1 .taken) (c .before .value-here .ensures) (c .if2 .left)
 
 run-anew-requires-2 : tie.Need-run-anew-requires-2

@@ -7,9 +7,10 @@ use lib.ListN.{length, getD, drop}
 use Rattle.rules.specs.declared.Cut.{Cut}
 use Rattle.rules.specs.declared.Sweep.{Sweep}
 use Rattle.rules.specs.declared.Held.the-variants.{Nothing}
+use Rattle.rules.specs.Lent.{cell}
 use Rattle.rules.specs.Search.{sweep, tally}
 use Rattle.candidates.specs.Held.{bare, earlierOf}
-use Rattle.search.specs.Flat.{Tables, tablesOf, elementOf, stepIn, sweepOf, valueIn, runAt, cutsIn}
+use Rattle.search.specs.Flat.{Tables, tablesOf, elementOf, stepIn, sweepOf, runAt, cutsIn}
 use Rattle.search.specs.Laws.{cell-here, turn-fits, turn-room, turn-sweep, turn-end}
 use Rattle.search.specs.Runs.{turn-cut, turn-run}
 use borrow.Author.Needs.{needs}
@@ -21,7 +22,7 @@ Inv-loop values targets weights counts col rows features p j a v₀ i₀ v i =
     (i ≤ length col)
     × (v .count + tally (map (elementOf features (tablesOf values targets weights counts)) (drop i col)) ≤ a .count)
     × (v .spot .place ≤ i)
-    × (v .last ≡ runAt (valueIn features values j) col i)
+    × (v .last ≡ runAt (cell features values j) col i)
     × ((b : Cut) → sweep p (bare a) j (sweepOf (cutsIn features values j col b) v) (map (elementOf features (tablesOf values targets weights counts)) (drop i
     col)) ≡ sweep p (bare a) j (sweepOf (cutsIn features values j col b) v₀) (map (elementOf features (tablesOf values targets weights counts)) col))
 
@@ -105,15 +106,14 @@ loop-again c =
     let e =
     cell-here (a .features) (tables (start-of-step-of c)) (a .j) (getD (a .col .now) (l .i) 0) (c .before .cell-of .ensures)
     (c .before .before .before .before .wide .ensures) (c .before .before .wide2 .ensures) in
-    let h = start-of-step-of c .pre .1 .0 .1 in
     let k : Cut → ℕ → Cut = cutsIn (a .features) (a .values .now) (a .j) (a .col .now) in
     let s : (b : Cut) → sweepOf (k b) (c .step-of .result) ≡ stepIn (a .p) (a .a) (a .j) (sweepOf (k b) (l .v)) (c .before .cell-of .result) = λ b.
-    c .step-of .ensures .1 (a .j) (k b) (turn-cut (a .features) (tables (start-of-step-of c)) (a .j) (a .col .now) (l .i) h e (l .inv .3) b) in (
+    c .step-of .ensures .1 (a .j) (k b) (turn-cut (a .features) (tables (start-of-step-of c)) (a .j) (a .col .now) (l .i) e (l .inv .3) b) in (
       omega (arith, at-in-loop c .loop-test .taken),
       turn-room (elementOf (a .features) (tables (start-of-step-of c))) (a .col .now) (l .i) (at-in-loop c .loop-test .taken) (a .p) (a .a) (a .j)
           (sweepOf (k (earlierOf Nothing)) (l .v)) (a .a .count) e (s (earlierOf Nothing)) (l .inv .1),
       c .step-of .ensures .0,
-      turn-run (a .features) (tables (start-of-step-of c)) (a .j) (a .col .now) (l .i) h e (l .inv .3) (ap (λ (w : Sweep). w .last) (s (earlierOf Nothing))),
+      turn-run (a .features) (tables (start-of-step-of c)) (a .j) (a .col .now) (l .i) e (l .inv .3) (ap (λ (w : Sweep). w .last) (s (earlierOf Nothing))),
       λ b.
           turn-sweep (elementOf (a .features) (tables (start-of-step-of c))) (a .col .now) (l .i) (at-in-loop c .loop-test .taken) (a .p) (a .a) (a .j)
           (sweepOf (k b) (l .v)) e (s b) ∙ l .inv .4 b,
