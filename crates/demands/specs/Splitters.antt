@@ -51,13 +51,13 @@ BestAlone =
     × ((r : Report) → fitTree K C R .answer ≡ TreeAnswer.Grown r → r .thresholds ≡ 0)
 
 -- of a table's entry: a leaf, or a split at one of the first n thresholds of the tape
-abbrev pub PartAt : List Float → ℕ → Entry → Type 0
-PartAt ts n e = (isLeaf e ≡ true) ⊎ ((i : ℕ) × (i < n) × (getD ts i nan ≡ e .threshold))
+abbrev pub CutAt : List Float → ℕ → Entry → Type 0
+CutAt ts n e = (isLeaf e ≡ true) ⊎ ((i : ℕ) × (i < n) × (getD ts i nan ≡ e .threshold))
 
 abbrev pub FromTape : Type 1
 FromTape =
     (W : Type 0) (K : WaitingForm W) (C : TreeCall) (R : TreeRooms W) (r : Report) → C .settings .splitter ≡ Random → fitTree K C R .answer ≡ TreeAnswer.Grown r
-    → Every (PartAt (C .thresholds) (r .thresholds)) (entriesAt (fitTree K C R .rooms .nodes) 0 (r .nodes))
+    → Every (CutAt (C .thresholds) (r .thresholds)) (entriesAt (fitTree K C R .rooms .nodes) 0 (r .nodes))
 
 -- ---- the best splitter
 
@@ -324,18 +324,18 @@ module _ (all : List Float) where
         begins = record { used = 0; left = e; whole = omega (arith, ap length e); fewer = omega (arith, ap length e) }
 
 -- as it is written
-fit-cut : (F : OneTree) (D : Data) → F .params .splitter ≡ Random → Then (fit F D) (λ t. Every (PartAt (F .thresholds) (t .report .thresholds)) (entries (t .nodes)))
+fit-cut : (F : OneTree) (D : Data) → F .params .splitter ≡ Random → Then (fit F D) (λ t. Every (CutAt (F .thresholds) (t .report .thresholds)) (entries (t .nodes)))
 unfolding fit growFrom treeOf entries entryOf isLeaf
 fit-cut F D random =
     then-then (fromRoot (F .params) (search (tape (F .params .features)) (F .params)) (root F D) _) _ _ _ (growth-on (F .thresholds) (F .params) random (root F D) _ refl)
     (λ s h. all (s .left) (s .nodes) (h .1))
   where
-    one : (d : Tapes) (v : Float) (k : Kind) → KindOn (F .thresholds) (F .params) random d k → PartAt (F .thresholds) (length (F .thresholds) - length (d .thresholds)) (entryOf v k)
+    one : (d : Tapes) (v : Float) (k : Kind) → KindOn (F .thresholds) (F .params) random d k → CutAt (F .thresholds) (length (F .thresholds) - length (d .thresholds)) (entryOf v k)
     one d v Leaf o = inl refl
     one d v (Split f) o = inr (o .0, omega (arith, o .1), o .2)
 
     all : (d : Tapes) (ns : List TreeNode) → Every (λ (n : TreeNode). KindOn (F .thresholds) (F .params) random d (n .kind)) ns
-        → Every (PartAt (F .thresholds) (length (F .thresholds) - length (d .thresholds))) (entries ns)
+        → Every (CutAt (F .thresholds) (length (F .thresholds) - length (d .thresholds))) (entries ns)
     all d [] h = tt
     all d (n ∷ ns) h = (one d (valueOf (n .totals)) (n .kind) (h .0), all d ns (h .1))
 
@@ -343,7 +343,7 @@ pub from-tape : FromTape
 unfolding oneTreeOf paramsOf
 from-tape W K C R r random h =
     let a : TreeAnswered K C R r = tree-answered K C R r h in
-    subst (Every (PartAt (C .thresholds) (r .thresholds))) (sym (tree-left K C R r a))
-    (subst (λ (x : Report). Every (PartAt (C .thresholds) (x .thresholds)) (entries (a .tree .nodes))) (a .reported)
-    (then-of (λ t. Every (PartAt (C .thresholds) (t .report .thresholds)) (entries (t .nodes))) (fit (oneTreeOf C) (C .given .inputs)) (a .tree) (a .grew)
+    subst (Every (CutAt (C .thresholds) (r .thresholds))) (sym (tree-left K C R r a))
+    (subst (λ (x : Report). Every (CutAt (C .thresholds) (x .thresholds)) (entries (a .tree .nodes))) (a .reported)
+    (then-of (λ t. Every (CutAt (C .thresholds) (t .report .thresholds)) (entries (t .nodes))) (fit (oneTreeOf C) (C .given .inputs)) (a .tree) (a .grew)
     (fit-cut (oneTreeOf C) (C .given .inputs) random)))
