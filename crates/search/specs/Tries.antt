@@ -1,15 +1,15 @@
 -- Trying the features of a node, by the code's branches. Assumes nothing.
 use Prim.Native.Nat.{ℕ, zero, suc, _+_, _-_, _*_, _<_, _≤_, min}
-use native.Mathlib.Nat.{mul-le-mul-right, suc-mul, not-suc-le-zero, zero-add, lt-of-lt-of-le, le-of-suc-le-suc}
+use native.Mathlib.Nat.{mul-le-mul-right, suc-mul, not-suc-le-zero, zero-add, le-of-suc-le-suc}
 use native.Mathlib.Omega.{arith}
 use native.Mathlib.Numerals.{add-one}
 use mathlib.Core.Path.{_≡_, refl, sym, ap, _∙_, subst}
-use mathlib.Core.Bool.{Bool, true, false, not, _&&_, _||_, cond}
+use mathlib.Core.Bool.{Bool, true, false, not, _&&_, cond}
 use mathlib.Core.List.{List, [], _∷_, map}
-use lib.ListN.{length, getD, set, take, drop, replicate, drop-of-length-le, length-take, length-drop, length-set}
-use borrow.Author.Tests.{ltb-true, ne-eqb, lt-ltb, le-ltb, eq-eqb, eqb-true, eqb-false}
-use lib.Seq.{drop-cons, getD-take, getD-drop, getD-set-same, getD-set-other}
-use lib.Dec.{ltb, eqb}
+use lib.ListN.{length, getD, take, drop, drop-of-length-le, length-take, length-drop}
+use borrow.Author.Tests.{ltb-true, ne-eqb, eq-eqb}
+use lib.Seq.{drop-cons, getD-take, getD-drop}
+use lib.Dec.{ltb}
 use lib.Ieee.{Float, nan, lt, le, eq}
 use Rattle.rules.specs.declared.Params.{Params}
 use Rattle.rules.specs.declared.Held.{Held}
@@ -176,35 +176,16 @@ module _ (rows features from′ to : ℕ) (t : Tables) (order : List ℕ) (a : S
 pub column-room : (rows features j : ℕ) {k : ℕ} → k ≡ j → j < features → k * rows + rows ≤ features * rows
 column-room rows features j {k} q h = subst (λ n. n * rows + rows ≤ features * rows) (sym q) (subst (λ n. n ≤ features * rows) (suc-mul j rows) (mul-le-mul-right rows h))
 
--- ---- a permutation, checked with flags
-
-abbrev pub met : List ℕ → ℕ → List ℕ
-met ws zero = []
-met ws (suc i) = getD ws i 0 ∷ met ws i
-
-pub record Meets (marks n : ℕ) (ws : List ℕ) (seen : List Bool) (i : ℕ) : Type 0 where
-  pub within : i ≤ n
-  pub long : length seen ≡ marks
-  pub flags : (r : ℕ) → getD seen r false ≡ member r (met ws i)
-  pub goes : fresh n (met ws i) (drop i ws) ≡ fresh n [] ws
-
-pub none-yet : (k r : ℕ) → getD (replicate k false) r false ≡ false
-none-yet zero r = refl
-none-yet (suc k) zero = refl
-none-yet (suc k) (suc r) = none-yet k r
-
-pub meets-first : (n : ℕ) (ws : List ℕ) (seen : List Bool) → ((r : ℕ) → getD seen r false ≡ false) → Meets (length seen) n ws seen 0
-unfolding member
-meets-first n ws seen clear = record { within = omega arith; long = refl; flags = clear; goes = refl }
+-- ---- the words of a choice
 
 module _ (n : ℕ) (words : List ℕ) (p : ℕ) (room : p + n ≤ length words) where
   abbrev pub choice : List ℕ
   choice = take n (drop p words)
 
-  choice-long : length choice ≡ n
+  pub choice-long : length choice ≡ n
   choice-long = simp (length-take, length-drop) (omega arith)
 
-  choice-at : (i : ℕ) → i < n → getD choice i 0 ≡ getD words (p + i) 0
+  pub choice-at : (i : ℕ) → i < n → getD choice i 0 ≡ getD words (p + i) 0
   choice-at i h = getD-take n (drop p words) i 0 h ∙ getD-drop p words i 0
 
   choice-head : (i : ℕ) → i < n → drop i choice ≡ getD words (p + i) 0 ∷ drop (suc i) choice
@@ -213,51 +194,6 @@ module _ (n : ℕ) (words : List ℕ) (p : ℕ) (room : p + n ≤ length words) 
   all-chosen : eachOnce n choice ≡ fresh n [] choice
   unfolding eachOnce
   all-chosen = ap (λ b. b && fresh n [] choice) (eq-eqb (length choice) n choice-long)
-
-  module _ {marks : ℕ} (seen : List Bool) (i : ℕ) (m : Meets marks n choice seen i) where
-    fresh-head : i < n → fresh n (met choice i) (getD words (p + i) 0 ∷ drop (suc i) choice) ≡ eachOnce n choice
-    fresh-head h = ap (fresh n (met choice i)) (sym (choice-head i h)) ∙ m .goes ∙ sym all-chosen
-
-    pub choice-out : i < n → n ≤ getD words (p + i) 0 → false ≡ eachOnce n choice
-    unfolding fresh
-    choice-out h g =
-        sym (ap (λ b. b && not (member (getD words (p + i) 0) (met choice i)) && fresh n (getD words (p + i) 0 ∷ met choice i) (drop (suc i) choice)) (le-ltb (getD words (p + i) 0) n g))
-        ∙ fresh-head h
-
-    pub choice-twice : i < n → getD words (p + i) 0 < n → getD seen (getD words (p + i) 0) false ≡ true → false ≡ eachOnce n choice
-    unfolding fresh
-    choice-twice h g e =
-        sym (ap (λ b. b && not (member (getD words (p + i) 0) (met choice i)) && fresh n (getD words (p + i) 0 ∷ met choice i) (drop (suc i) choice)) (lt-ltb (getD words (p + i) 0) n g)
-        ∙ ap (λ b. not b && fresh n (getD words (p + i) 0 ∷ met choice i) (drop (suc i) choice)) (sym (m .flags (getD words (p + i) 0)) ∙ e))
-        ∙ fresh-head h
-
-    pub choice-next : n ≤ marks → i < n → getD words (p + i) 0 < n → getD seen (getD words (p + i) 0) false ≡ false → Meets marks n choice (set seen (getD words (p + i) 0) true) (i + 1)
-    unfolding fresh member
-    choice-next k h g e =
-        record {
-          within = omega arith;
-          long = length-set seen (getD words (p + i) 0) true ∙ m .long;
-          flags = λ r. go r (eqb r (getD words (p + i) 0)) refl ∙ ap (λ w. eqb r w || member r (met choice i)) (sym (choice-at i h)) ∙ ap (λ j. member r (met choice j)) (sym (add-one i));
-          goes =
-              ap (λ j. fresh n (met choice j) (drop j choice)) (add-one i)
-              ∙ ap (λ w. fresh n (w ∷ met choice i) (drop (suc i) choice)) (choice-at i h)
-              ∙ sym (ap (λ b. b && not (member (getD words (p + i) 0) (met choice i)) && fresh n (getD words (p + i) 0 ∷ met choice i) (drop (suc i) choice)) (lt-ltb (getD words (p + i) 0) n g)
-              ∙ ap (λ b. not b && fresh n (getD words (p + i) 0 ∷ met choice i) (drop (suc i) choice)) (sym (m .flags (getD words (p + i) 0)) ∙ e))
-              ∙ fresh-head h ∙ all-chosen;
-        }
-      where
-        go : (r : ℕ) (b : Bool) → eqb r (getD words (p + i) 0) ≡ b → getD (set seen (getD words (p + i) 0) true) r false ≡ (eqb r (getD words (p + i) 0) || member r (met choice i))
-        go r true q =
-            ap (λ z. getD (set seen (getD words (p + i) 0) true) z false) (eqb-true r (getD words (p + i) 0) q)
-            ∙ getD-set-same seen (getD words (p + i) 0) true false (subst (λ z. getD words (p + i) 0 < z) (sym (m .long)) (lt-of-lt-of-le g k))
-            ∙ sym (ap (λ b. b || member r (met choice i)) q)
-        go r false q =
-            getD-set-other seen (getD words (p + i) 0) r true false (eqb-false r (getD words (p + i) 0) q)
-            ∙ m .flags r ∙ sym (ap (λ b. b || member r (met choice i)) q)
-
-    pub choice-end : n ≤ i → true ≡ eachOnce n choice
-    unfolding fresh
-    choice-end h = sym (ap (fresh n (met choice i)) (drop-of-length-le choice (subst (λ k. k ≤ i) (sym choice-long) h))) ∙ m .goes ∙ sym all-chosen
 
 -- ---- the features, one after the other
 

@@ -190,7 +190,7 @@ pub fn try_one(
 
 // Do the `features` words from `at` on name each feature once? The marks are lent clear.
 fn each_once(words: &[u32], at: usize, features: usize, seen: &mut [bool]) -> bool
-    requires { ⌜ (features ≤ length (now seen)) × (at + features ≤ length (now words)) × ((r : ℕ) → getD (now seen) r false ≡ false) ⌝ }
+    requires { ⌜ (features ≤ length (now seen)) × (at + features ≤ length (now words)) × ((r : ℕ) → r < features → getD (now seen) r false ≡ false) ⌝ }
     ensures { λ r. ⌜ r ≡ eachOnce features (take features (drop at (now (words .entry)))) ⌝ }
 {
     let mut i: usize = 0;
