@@ -1,6 +1,6 @@
 -- The growth of one tree from its root, over any way to choose cuts.
 use Prim.Native.Nat.{ℕ, zero, suc, _-_, max}
-use mathlib.Core.Bool.{Bool, true, false, not, _&&_}
+use mathlib.Core.Bool.{Bool, true, false, _&&_}
 use mathlib.Core.List.{List, [], _∷_, _++_, map}
 use lib.ListN.{length, getD, set}
 use lib.Dec.{leb, ltb}
