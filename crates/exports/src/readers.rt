@@ -1,9 +1,6 @@
 // Predictions, means and their error, importances.
 ghost use mathlib.Core.Path.{_≡_};
-ghost use mathlib.Core.List.{List};
-ghost use Prim.Native.Nat.{ℕ};
-ghost use lib.Ieee.{Float};
-ghost use Rattle.rules.specs.Lent.{Outcome, columnsOf};
+ghost use Rattle.rules.specs.Lent.{outcomeOf, columnsOf};
 ghost use Rattle.rules.specs.Table.{tableOf};
 ghost use Rattle.rules.specs.Answers.{replyTold, errorTold, told};
 ghost use Rattle.rules.specs.Reading.{predictTree, forestMeans, treeImportances, forestImportances};
@@ -25,9 +22,9 @@ pub extern "C" fn tailboardy_predict_tree(
     falsechild: &[u32],
     out: &mut [f64],
 ) -> u32
-    ensures { λ r. ⌜ _≡_ {A = Outcome ℕ (List Float)} (record { answer = r; rooms = now (out .exit) })
-        (told replyTold (predictTree (record { rows = rows; features = features }) (now (values .entry))
-        (columnsOf (now (value .entry)) (now (feature .entry)) (now (threshold .entry)) (now (score .entry)) (now (truechild .entry)) (now (falsechild .entry))) (now (out .entry)))) ⌝ }
+    ensures { λ r. ⌜ outcomeOf r (now (out .exit))
+        ≡ told replyTold (predictTree (record { rows = rows; features = features }) (now (values .entry))
+        (columnsOf (now (value .entry)) (now (feature .entry)) (now (threshold .entry)) (now (score .entry)) (now (truechild .entry)) (now (falsechild .entry))) (now (out .entry))) ⌝ }
 {
     let reply = predict::predict_tree(
         Shape { rows, features },
@@ -58,9 +55,9 @@ pub extern "C" fn tailboardy_forest_means(
     falsechild: &[u32],
     out: &mut [f64],
 ) -> u32
-    ensures { λ r. ⌜ _≡_ {A = Outcome ℕ (List Float)} (record { answer = r; rooms = now (out .exit) })
-        (told replyTold (forestMeans (record { rows = rows; features = features }) (now (values .entry)) (tableOf trees (now (starts .entry))
-        (columnsOf (now (value .entry)) (now (feature .entry)) (now (threshold .entry)) (now (score .entry)) (now (truechild .entry)) (now (falsechild .entry)))) (now (out .entry)))) ⌝ }
+    ensures { λ r. ⌜ outcomeOf r (now (out .exit))
+        ≡ told replyTold (forestMeans (record { rows = rows; features = features }) (now (values .entry)) (tableOf trees (now (starts .entry))
+        (columnsOf (now (value .entry)) (now (feature .entry)) (now (threshold .entry)) (now (score .entry)) (now (truechild .entry)) (now (falsechild .entry)))) (now (out .entry))) ⌝ }
 {
     let reply = means::forest_means(
         Shape { rows, features },
@@ -94,9 +91,9 @@ pub extern "C" fn tailboardy_out_of_bag_means(
     falsechild: &[u32],
     out: &mut [f64],
 ) -> u32
-    ensures { λ r. ⌜ _≡_ {A = Outcome ℕ (List Float)} (record { answer = r; rooms = now (out .exit) })
-        (told replyTold (outOfBagMeans (record { rows = rows; features = features }) (now (values .entry)) (now (counts .entry)) (tableOf trees (now (starts .entry))
-        (columnsOf (now (value .entry)) (now (feature .entry)) (now (threshold .entry)) (now (score .entry)) (now (truechild .entry)) (now (falsechild .entry)))) (now (out .entry)))) ⌝ }
+    ensures { λ r. ⌜ outcomeOf r (now (out .exit))
+        ≡ told replyTold (outOfBagMeans (record { rows = rows; features = features }) (now (values .entry)) (now (counts .entry)) (tableOf trees (now (starts .entry))
+        (columnsOf (now (value .entry)) (now (feature .entry)) (now (threshold .entry)) (now (score .entry)) (now (truechild .entry)) (now (falsechild .entry)))) (now (out .entry))) ⌝ }
 {
     let reply = means::out_of_bag_means(
         Shape { rows, features },
@@ -140,9 +137,9 @@ pub extern "C" fn tailboardy_tree_importances(
     falsechild: &[u32],
     out: &mut [f64],
 ) -> u32
-    ensures { λ r. ⌜ _≡_ {A = Outcome ℕ (List Float)} (record { answer = r; rooms = now (out .exit) })
-        (told replyTold (treeImportances features (scaleOf bymass mass)
-        (columnsOf (now (value .entry)) (now (feature .entry)) (now (threshold .entry)) (now (score .entry)) (now (truechild .entry)) (now (falsechild .entry))) (now (out .entry)))) ⌝ }
+    ensures { λ r. ⌜ outcomeOf r (now (out .exit))
+        ≡ told replyTold (treeImportances features (scaleOf bymass mass)
+        (columnsOf (now (value .entry)) (now (feature .entry)) (now (threshold .entry)) (now (score .entry)) (now (truechild .entry)) (now (falsechild .entry))) (now (out .entry))) ⌝ }
 {
     let by = c_types::scale_of(bymass, mass);
     let reply = importances::tree_importances(
@@ -172,9 +169,9 @@ pub extern "C" fn tailboardy_forest_importances(
     falsechild: &[u32],
     out: &mut [f64],
 ) -> u32
-    ensures { λ r. ⌜ _≡_ {A = Outcome ℕ (List Float)} (record { answer = r; rooms = now (out .exit) })
-        (told replyTold (forestImportances features (tableOf trees (now (starts .entry))
-        (columnsOf (now (value .entry)) (now (feature .entry)) (now (threshold .entry)) (now (score .entry)) (now (truechild .entry)) (now (falsechild .entry)))) (now (out .entry)))) ⌝ }
+    ensures { λ r. ⌜ outcomeOf r (now (out .exit))
+        ≡ told replyTold (forestImportances features (tableOf trees (now (starts .entry))
+        (columnsOf (now (value .entry)) (now (feature .entry)) (now (threshold .entry)) (now (score .entry)) (now (truechild .entry)) (now (falsechild .entry)))) (now (out .entry))) ⌝ }
 {
     let reply = importances::forest_importances(
         features,

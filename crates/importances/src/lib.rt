@@ -4,7 +4,7 @@ ghost use mathlib.Core.List.{List};
 ghost use lib.ListN.{length};
 ghost use lib.Ieee.{Float};
 ghost use Rattle.rules.specs.declared.Reply.{Reply};
-ghost use Rattle.rules.specs.Lent.{Outcome, entriesAt, columnsOf};
+ghost use Rattle.rules.specs.Lent.{outcomeOf, entriesAt, columnsOf};
 ghost use Rattle.rules.specs.Checks.{firstFailed};
 ghost use Rattle.rules.specs.Table.{treesOf, tableOf};
 ghost use Rattle.rules.specs.Reading.{addScores, scoresOf, normalised, addEach, addImportances, treeImportanceTests, forestImportanceTests, treeImportances, forestImportances};
@@ -123,9 +123,9 @@ pub fn tree_importances(
     falsechild: &[u32],
     out: &mut [f64],
 ) -> Reply
-    ensures { λ r. ⌜ _≡_ {A = Outcome Reply (List Float)} (record { answer = r; rooms = now (out .exit) })
-        (treeImportances features by (columnsOf (now (value .entry)) (now (feature .entry)) (now (threshold .entry)) (now (score .entry)) (now (truechild .entry))
-        (now (falsechild .entry))) (now (out .entry))) ⌝ }
+    ensures { λ r. ⌜ outcomeOf r (now (out .exit))
+        ≡ treeImportances features by (columnsOf (now (value .entry)) (now (feature .entry)) (now (threshold .entry)) (now (score .entry)) (now (truechild .entry))
+        (now (falsechild .entry))) (now (out .entry)) ⌝ }
 {
     let room = out.len();
     let number = tree_verdict(
@@ -295,10 +295,10 @@ pub fn forest_importances(
     falsechild: &[u32],
     out: &mut [f64],
 ) -> Reply
-    ensures { λ r. ⌜ _≡_ {A = Outcome Reply (List Float)} (record { answer = r; rooms = now (out .exit) })
-        (forestImportances features (tableOf trees (now (starts .entry))
+    ensures { λ r. ⌜ outcomeOf r (now (out .exit))
+        ≡ forestImportances features (tableOf trees (now (starts .entry))
         (columnsOf (now (value .entry)) (now (feature .entry)) (now (threshold .entry)) (now (score .entry)) (now (truechild .entry)) (now (falsechild .entry))))
-        (now (out .entry))) ⌝ }
+        (now (out .entry)) ⌝ }
 {
     let room = out.len();
     let number = forest_verdict(

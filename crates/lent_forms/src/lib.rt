@@ -1,9 +1,7 @@
 // Two forms whose proofs are walks by hand: totals that are lent and changed where they stand, and a lent list of waiting nodes.
 ghost use mathlib.Core.Path.{_≡_};
-ghost use mathlib.Core.Bool.{Bool};
-ghost use mathlib.Core.List.{List};
 ghost use Rattle.rules.specs.Totals.{takeIn};
-ghost use Rattle.rules.specs.Lent.{Outcome};
+ghost use Rattle.rules.specs.Lent.{outcomeOf};
 ghost use Rattle.lent_forms.specs.WaitingList.{pushed, popped};
 use rules::Totals;
 
@@ -34,7 +32,7 @@ pub enum Popped {
 
 // The node joins the n that wait. Where the list has no place for it, the list stays as it is and the answer is no.
 pub fn push(list: &mut [Waiting], n: usize, w: Waiting) -> bool
-    ensures { λ r. ⌜ _≡_ {A = Outcome Bool (List Waiting)} (record { answer = r; rooms = now (list .exit) }) (pushed (now (list .entry)) n w) ⌝ }
+    ensures { λ r. ⌜ outcomeOf r (now (list .exit)) ≡ pushed (now (list .entry)) n w ⌝ }
 {
     if n < list.len() {
         list[n] = w;

@@ -6,7 +6,7 @@ ghost use Prim.Native.Nat.{suc, _≤_};
 ghost use lib.ListN.{length};
 ghost use lib.Dec.{leb, eqb};
 ghost use lib.Ieee.{Float};
-ghost use Rattle.rules.specs.Lent.{Outcome, columnsOf};
+ghost use Rattle.rules.specs.Lent.{outcomeOf, columnsOf};
 ghost use Rattle.rules.specs.Checks.{firstFailed};
 ghost use Rattle.rules.specs.Table.{tableOf};
 ghost use Rattle.rules.specs.Reading.{meanTests, forestMeans};
@@ -125,10 +125,10 @@ pub fn forest_means(
     falsechild: &[u32],
     out: &mut [f64],
 ) -> Reply
-    ensures { λ r. ⌜ _≡_ {A = Outcome Reply (List Float)} (record { answer = r; rooms = now (out .exit) })
-        (forestMeans shape (now (values .entry)) (tableOf trees (now (starts .entry))
+    ensures { λ r. ⌜ outcomeOf r (now (out .exit))
+        ≡ forestMeans shape (now (values .entry)) (tableOf trees (now (starts .entry))
         (columnsOf (now (value .entry)) (now (feature .entry)) (now (threshold .entry)) (now (score .entry)) (now (truechild .entry)) (now (falsechild .entry))))
-        (now (out .entry))) ⌝ }
+        (now (out .entry)) ⌝ }
 {
     let places = out.len();
     let number = mean_verdict(
@@ -225,10 +225,10 @@ pub fn out_of_bag_means(
     falsechild: &[u32],
     out: &mut [f64],
 ) -> Reply
-    ensures { λ r. ⌜ _≡_ {A = Outcome Reply (List Float)} (record { answer = r; rooms = now (out .exit) })
-        (outOfBagMeans shape (now (values .entry)) (now (counts .entry))
+    ensures { λ r. ⌜ outcomeOf r (now (out .exit))
+        ≡ outOfBagMeans shape (now (values .entry)) (now (counts .entry))
         (tableOf trees (now (starts .entry)) (columnsOf (now (value .entry)) (now (feature .entry)) (now (threshold .entry)) (now (score .entry)) (now (truechild .entry))
-        (now (falsechild .entry)))) (now (out .entry))) ⌝ }
+        (now (falsechild .entry)))) (now (out .entry)) ⌝ }
 {
     let places = out.len();
     let number = out_verdict(

@@ -4,7 +4,7 @@ ghost use mathlib.Core.List.{List, map};
 ghost use lib.ListN.{length};
 ghost use lib.Ieee.{Float};
 ghost use Rattle.rules.specs.Words.{from};
-ghost use Rattle.rules.specs.Lent.{Outcome, entriesAt, columnsOf};
+ghost use Rattle.rules.specs.Lent.{outcomeOf, entriesAt, columnsOf};
 ghost use Rattle.rules.specs.Checks.{firstFailed};
 ghost use Rattle.rules.specs.Reading.{predictTests, predictTree};
 ghost use Rattle.predict.specs.Walks.{Walkable, Readable, leafAt};
@@ -139,9 +139,9 @@ pub fn predict_tree(
     falsechild: &[u32],
     out: &mut [f64],
 ) -> Reply
-    ensures { λ r. ⌜ _≡_ {A = Outcome Reply (List Float)} (record { answer = r; rooms = now (out .exit) })
-        (predictTree shape (now (values .entry)) (columnsOf (now (value .entry)) (now (feature .entry)) (now (threshold .entry)) (now (score .entry)) (now (truechild .entry))
-        (now (falsechild .entry))) (now (out .entry))) ⌝ }
+    ensures { λ r. ⌜ outcomeOf r (now (out .exit))
+        ≡ predictTree shape (now (values .entry)) (columnsOf (now (value .entry)) (now (feature .entry)) (now (threshold .entry)) (now (score .entry)) (now (truechild .entry))
+        (now (falsechild .entry))) (now (out .entry)) ⌝ }
 {
     let places = out.len();
     let number = predict_verdict(
