@@ -6,13 +6,10 @@ ghost use lib.Ieee.Scale.{finite};
 ghost use Rattle.rules.specs.Lent.{massIn, keptIn};
 ghost use Rattle.rules.specs.Checks.{goodWeight};
 ghost use Rattle.rules.specs.Totals.{empty, takeIn, less, valueOf, proxy, score};
-ghost use Rattle.rules.specs.Search.{better};
 ghost use Rattle.rules.specs.Forest.{triedOf};
 ghost use Rattle.rules.specs.declared.Tried.the-variants.{Unsaid};
 ghost use Rattle.criterion.specs.Bounds.{Between, Weighed};
 ghost use Rattle.criterion.specs.Sides.{sideOn, joined};
-use rules::Cut;
-use rules::Held;
 use rules::Totals;
 use rules::Tried;
 
@@ -107,21 +104,6 @@ pub fn threshold_of(p: f64, x: f64) -> f64
 {
     let mid = p + (x - p) / 2.0;
     if mid < x { mid } else { p }
-}
-
-pub fn better_of(h: Held, c: Cut, q: f64) -> Held
-    ensures { λ r. ⌜ r ≡ better h c q ⌝ }
-{
-    match h {
-        Held::Nothing => Held::Holds(c, q),
-        Held::Holds(b, p) => {
-            if p < q {
-                Held::Holds(c, q)
-            } else {
-                Held::Holds(b, p)
-            }
-        }
-    }
 }
 
 // Neither a NaN nor infinite: of those alone the difference from itself is a NaN.

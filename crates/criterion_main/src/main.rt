@@ -1,6 +1,4 @@
-// Totals and scores, thresholds, held candidates and features tried on small vectors. Written out and compared with the file `stdout`.
-use rules::Cut;
-use rules::Held;
+// Totals and scores, thresholds and features tried on small vectors. Written out and compared with the file `stdout`.
 use rules::Totals;
 use rules::Tried;
 
@@ -71,32 +69,6 @@ fn thresholds() {
     );
 }
 
-// On a tie the earlier is kept; the first is held whatever its proxy.
-fn holding() {
-    let first = Cut {
-        feature: 0,
-        threshold: 1.5,
-    };
-    let later = Cut {
-        feature: 1,
-        threshold: 2.5,
-    };
-    let nothing = Held::Nothing;
-    let low = criterion::better_of(nothing, first, -1.0);
-    number(b"alone", held(low));
-    let tie = criterion::better_of(low, later, -1.0);
-    number(b"on a tie", held(tie));
-    let more = criterion::better_of(tie, later, 0.0);
-    number(b"when better", held(more));
-}
-
-fn held(h: Held) -> u32 {
-    match h {
-        Held::Nothing => 9,
-        Held::Holds(c, q) => c.feature,
-    }
-}
-
 fn tried() {
     number(b"of 1", criterion::tried_of(1, Tried::Unsaid));
     number(b"of 3", criterion::tried_of(3, Tried::Unsaid));
@@ -110,6 +82,5 @@ fn main() {
     totals();
     no_number();
     thresholds();
-    holding();
     tried();
 }
