@@ -1,6 +1,6 @@
 //! The report on a show and its forest.
 
-use crate::number::write;
+use crate::number::{Style, write};
 use crate::show::Show;
 use crate::stop::Stop;
 use tailboardy::{RandomForestRegressor, RandomForestRegressorParameters, Refusal};
@@ -31,6 +31,7 @@ pub fn forest(
     parameters: &RandomForestRegressorParameters,
 ) -> Result<String, Stop> {
     let failed = |refusal: Refusal| Stop::refused(show.csv.file(), &refusal.to_string());
+    let plain = Style::default();
     let depth = forest.reports().iter().map(|it| it.depth).max();
     let mut text = format!(
         "trees: {}, with {} nodes, up to {} levels deep; seed {}\n",
@@ -45,13 +46,14 @@ pub fn forest(
         0 => "out-of-bag error: none, because every tree uses every fixture\n".to_owned(),
         told => format!(
             "out-of-bag error: {} (square root {}); {told} of {} fixtures are left out by at least one tree\n",
-            write(error),
-            write(error.sqrt()),
+            write(error, &plain),
+            write(error.sqrt(), &plain),
             show.csv.rows(),
         ),
     };
     let importances = forest.compute_feature_importances().map_err(failed)?;
     let named = importances.ranked().into_iter();
-    let named = named.map(|(feature, part)| format!("{} {}", show.features[feature], write(part)));
+    let named =
+        named.map(|(feature, part)| format!("{} {}", show.features[feature], write(part, &plain)));
     Ok(text + &format!("importances: {}\n", named.collect::<Vec<_>>().join(", ")))
 }

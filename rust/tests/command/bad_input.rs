@@ -93,7 +93,7 @@ fn old_shows() {
         "OLD, line 2: the text is not valid UTF-8",
     );
     let huge = "x,pan\n1,1e308\n2,1e308\n3,1e308\n";
-    let why = "NEW, line 2: its correction is not a number: sums overflow because of very large targets or weights in OLD";
+    let why = "NEW, line 2: the correction of line 2 is not a number: sums overflow because of very large targets or weights in OLD";
     corrected(huge, "x\n1\n", &[], why);
 }
 
