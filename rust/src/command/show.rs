@@ -199,6 +199,6 @@ pub fn matrix(csv: &Csv, features: &[String]) -> Result<DenseMatrix, Stop> {
             values.push(read(csv, row, *column)?);
         }
     }
-    let matrix = DenseMatrix::new(csv.rows(), columns.len(), values);
+    let matrix = DenseMatrix::new(csv.rows(), columns.len(), values, false);
     matrix.map_err(|refusal| Stop::refused(csv.file(), &refusal.to_string()))
 }
