@@ -2,12 +2,14 @@
 
 use crate::args::Args;
 use crate::csv::Csv;
+use crate::json::Json;
 use crate::listing::Listing;
 use crate::output::{Output, place_for, same_file};
 use crate::progress::Progress;
 use crate::show::{Roles, Show, matrix};
 use crate::stop::Stop;
-use crate::{number, record, report};
+use crate::summary::Summary;
+use crate::{number, record};
 use tailboardy::{Fault, Fitting, RandomForestRegressor, RandomForestRegressorParameters, Refusal};
 
 /// The command line, checked before any file is read.
@@ -38,8 +40,8 @@ pub fn fit(args: &Args) -> Result<Output, Stop> {
     let csv = Csv::read(&args.files[0])?;
     task.roles.ids_in(&csv)?;
     let features = task.roles.features(&csv, None)?;
-    let (_, _, told) = task.fitted(csv, features)?;
-    Ok(Output::told(told))
+    let (_, _, summary) = task.fitted(csv, features)?;
+    Ok(summary.told(args))
 }
 
 /// Fits a forest on the old show and predicts the corrections of the new one.
@@ -54,15 +56,17 @@ pub fn correct(args: &Args) -> Result<Output, Stop> {
     out.map_or(Ok(()), place_for)?;
     let (old, new) = (Csv::read(&args.files[0])?, Csv::read(&args.files[1])?);
     let features = task.roles.features(&old, Some(&new))?;
-    let lacking = task.roles.lacking(&old, &new).join(", ");
+    let lacking = task.roles.lacking(&old, &new);
     let x = matrix(&new, &features)?;
     let (columns, name) = written(&task.roles, &new)?;
-    let (show, forest, mut beside) = task.fitted(old, features)?;
+    let (show, forest, mut summary) = task.fitted(old, features)?;
     if !lacking.is_empty() {
-        beside += &format!(
-            "not used, because {} does not have them: {lacking}\n",
+        let names = lacking.join(", ");
+        let text = format!(
+            "not used, because {} does not have them: {names}",
             new.file()
         );
+        summary.add("lacking", Json::list(&lacking), text);
     }
     let means = forest.predict(&x);
     let means = means.map_err(|refusal| Stop::refused(new.file(), &refusal.to_string()))?;
@@ -79,7 +83,7 @@ pub fn correct(args: &Args) -> Result<Output, Stop> {
         record::write(cells.chain([number::write(*mean).as_str()]), &mut text);
     }
     Ok(Output {
-        beside,
+        beside: summary.text(),
         text,
         file: out.map(str::to_owned),
     })
@@ -103,12 +107,12 @@ fn written(roles: &Roles, new: &Csv) -> Result<(Vec<usize>, String), Stop> {
 }
 
 impl Task<'_> {
-    /// The show, its forest, and the report on both.
+    /// The show, its forest, and what is reported of both.
     fn fitted(
         &self,
         csv: Csv,
         features: Vec<String>,
-    ) -> Result<(Show, RandomForestRegressor, String), Stop> {
+    ) -> Result<(Show, RandomForestRegressor, Summary), Stop> {
         let show = Show::new(csv, &self.roles, features)?;
         let listing = self.args.get("--listing").map(Csv::read).transpose()?;
         let listing = Listing::of(listing, &show)?;
@@ -123,8 +127,10 @@ impl Task<'_> {
         let forest = fitting.forest(&self.parameters);
         drop(progress);
         let forest = forest.map_err(|refusal| refused(&refusal, &show, listing.as_ref()))?;
-        let told = report::columns(&show) + &report::forest(&show, &forest, &self.parameters)?;
-        Ok((show, forest, told))
+        let mut summary = Summary::default();
+        summary.show(&show);
+        summary.forest(&show, &forest, &self.parameters)?;
+        Ok((show, forest, summary))
     }
 }
 
