@@ -18,7 +18,7 @@ struct Rehearsal {
 
 fn rehearsal() -> Rehearsal {
     Rehearsal {
-        x: DenseMatrix::new(4, 1, vec![1.0, 2.0, 3.0, 4.0]).unwrap(),
+        x: DenseMatrix::new(4, 1, vec![1.0, 2.0, 3.0, 4.0], false).unwrap(),
         y: vec![0.0, 0.0, 10.0, 10.0],
         counts: vec![1; 4],
         parameters: Default::default(),
@@ -74,7 +74,7 @@ fn the_rehearsal_table_comes_out() {
     assert_eq!(with(plain().with_min_samples_split(5)).figures(), [1, 0, 0]);
 
     let mut p7 = rehearsal();
-    p7.x = DenseMatrix::new(4, 1, vec![7.0; 4]).unwrap();
+    p7.x = DenseMatrix::new(4, 1, vec![7.0; 4], false).unwrap();
     assert_eq!(p7.figures(), [1, 0, 1]);
     let mut p9 = rehearsal();
     p9.counts = vec![0; 4];
@@ -84,7 +84,7 @@ fn the_rehearsal_table_comes_out() {
 
 #[test]
 fn a_row_left_out_is_told_by_the_others() {
-    let x = DenseMatrix::new(4, 1, vec![1.0, 2.0, 3.0, 4.0]).unwrap();
+    let x = DenseMatrix::new(4, 1, vec![1.0, 2.0, 3.0, 4.0], false).unwrap();
     let counts = Counts::new(1, 4, vec![2, 0, 1, 1]).unwrap();
     let listings = Listings::sorted(&x);
     for target in [0.0, -1000.0] {

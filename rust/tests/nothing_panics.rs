@@ -50,7 +50,7 @@ impl Maker {
     fn any_matrix(&mut self, rows: usize, features: usize) -> DenseMatrix {
         let (rows, features) = (self.about(rows), self.about(features));
         let values = self.any_numbers(rows * features);
-        DenseMatrix::new(rows, features, values).unwrap()
+        DenseMatrix::new(rows, features, values, false).unwrap()
     }
 
     fn any_listings(&mut self, x: &DenseMatrix) -> Listings {
@@ -148,7 +148,7 @@ fn read(
 fn shapes_that_no_memory_holds() {
     let endless = [(usize::MAX, 0), (0, usize::MAX), (0, 1 << 32)];
     for (rows, features) in endless {
-        let x = DenseMatrix::new(rows, features, vec![]).unwrap();
+        let x = DenseMatrix::new(rows, features, vec![], false).unwrap();
         let (counts, listings) = (Counts::ones(1, 1).unwrap(), Listings::sorted(&x));
         #[rustfmt::skip]
         let given = Given { x: &x, y: &[], weights: &[], counts: &counts, listings: &listings };

@@ -25,7 +25,7 @@ fn refused<T>(answer: Result<T, Refusal>, number: u32, sentence: &str) {
 #[test]
 fn sizes() {
     let fit = |rows: usize, features: usize, trees: usize| {
-        let x = DenseMatrix::new(rows, features, vec![0.0; rows * features]).unwrap();
+        let x = DenseMatrix::new(rows, features, vec![0.0; rows * features], false).unwrap();
         RandomForestRegressor::fit(&x, &vec![0.0; rows], parameters().with_n_trees(trees))
     };
     refused(fit(0, 0, 1), 1, "0 rows");
@@ -42,9 +42,9 @@ fn sizes() {
     assert!(fit(MAX_ROWS, 1, 1).is_ok());
     assert!(fit(1, MAX_FEATURES, MAX_TREES).is_ok());
     let forest = fit(3, 2, 2).unwrap();
-    let many = DenseMatrix::new(MAX_ROWS + 1, 2, vec![0.0; 2 * MAX_ROWS + 2]).unwrap();
+    let many = DenseMatrix::new(MAX_ROWS + 1, 2, vec![0.0; 2 * MAX_ROWS + 2], false).unwrap();
     refused(forest.predict(&many), 1, "65536 rows");
-    let endless = DenseMatrix::new(usize::MAX, 0, vec![]).unwrap();
+    let endless = DenseMatrix::new(usize::MAX, 0, vec![], false).unwrap();
     refused(forest.predict(&endless), 1, "rows");
     refused(Listings::sorted(&endless).check(&endless), 1, "rows");
     assert_eq!(
@@ -92,7 +92,11 @@ fn shapes() {
         2,
         "row 1 has 0 values",
     );
-    refused(DenseMatrix::new(usize::MAX, 2, vec![]), 2, "values: 0");
+    refused(
+        DenseMatrix::new(usize::MAX, 2, vec![], false),
+        2,
+        "values: 0",
+    );
     refused(
         Counts::new(2, 2, vec![1; 3]),
         2,
@@ -138,10 +142,10 @@ fn counts_that_would_not_add_up() {
 /// The right number of entries, but divided into other columns or trees.
 #[test]
 fn shapes_that_are_turned() {
-    let x = DenseMatrix::new(3, 2, vec![0.0; 6]).unwrap();
+    let x = DenseMatrix::new(3, 2, vec![0.0; 6], false).unwrap();
     let turned = Listings::from_columns(&[[0, 1], [2, 0], [1, 2]]).unwrap();
     refused(turned.check(&x), 2, "listings: 3 given, 2 required");
-    let x = DenseMatrix::new(6, 1, vec![0.0; 6]).unwrap();
+    let x = DenseMatrix::new(6, 1, vec![0.0; 6], false).unwrap();
     let listings = Listings::sorted(&x);
     let given = |counts: &Counts| {
         let given = Given {
@@ -340,7 +344,7 @@ fn a_table_that_loops() {
 #[test]
 fn a_listing_with_a_gap() {
     let values: Vec<f64> = (0..40).map(|row| f64::from(row) / 4.0).collect();
-    let x = DenseMatrix::new(40, 1, values).unwrap();
+    let x = DenseMatrix::new(40, 1, values, false).unwrap();
     let mut rows: Vec<u32> = (0..40).collect();
     rows[12] = 13;
     let damaged = Listings::from_columns(&[rows]).unwrap();

@@ -123,6 +123,11 @@ impl Args {
         said.map(|(_, value)| value.as_str())
     }
 
+    /// Whether a flag was given.
+    pub fn has(&self, name: &str) -> bool {
+        self.get(name).is_some()
+    }
+
     /// The list of names that an option was given, separated like the cells of a table; `None` if it was not given.
     pub fn names(&self, name: &str) -> Result<Option<Vec<String>>, Stop> {
         let mut names = None;
@@ -195,7 +200,7 @@ impl Args {
             min_samples_split: self
                 .number("--min-samples-split", count)?
                 .unwrap_or(plain.min_samples_split),
-            bootstrap: self.get("--no-bootstrap").is_none(),
+            bootstrap: !self.has("--no-bootstrap"),
             keep_samples: true,
             splitter,
             seed: self.number("--seed", u64::MAX)?.unwrap_or(plain.seed),

@@ -5,9 +5,9 @@ use crate::csv::Csv;
 use crate::fit::refused;
 use crate::listing::Listing;
 use crate::output::Output;
-use crate::report;
 use crate::show::{Roles, Show};
 use crate::stop::Stop;
+use crate::summary::Summary;
 use tailboardy::Fitting;
 
 /// Makes the proved checks of a fit on the data in the files.
@@ -30,16 +30,15 @@ pub fn run(args: &Args) -> Result<Output, Stop> {
     }
     let checked = fitting.check();
     checked.map_err(|refusal| refused(&refusal, &show, listing.as_ref()))?;
-    let mut text = format!(
-        "{} can be used\n{}",
-        show.csv.file(),
-        report::columns(&show)
-    );
+    let mut summary = Summary::default();
+    let file = show.csv.file();
+    summary.add("show", file, format!("{file} can be used"));
+    summary.show(&show);
     if let Some(listing) = &listing {
-        text += &format!(
-            "{} can be used: every column has each row exactly once, in ascending order of value\n",
-            listing.file()
-        );
+        let file = listing.file();
+        let text =
+            "can be used: every column has each row exactly once, in ascending order of value";
+        summary.add("listing", file, format!("{file} {text}"));
     }
-    Ok(Output::told(text))
+    Ok(summary.told(args))
 }

@@ -84,6 +84,12 @@ const GROWTH: &[Choice] = &[
     ),
 ];
 
+const JSON: &[Choice] = &[choice(
+    "--json",
+    "",
+    "report in JSON: one object on standard output, with the reasons if the input is refused",
+)];
+
 const OUT: &[Choice] = &[choice(
     "--out",
     "FILE",
@@ -98,7 +104,7 @@ pub const COMMANDS: [Command; 3] = [
         more: "A listing is a table with a column for each feature, named as in the show. Its cells are row numbers, counted\n\
                from 0, in ascending order of the feature's values. Without --target and --features, the columns of the listing\n\
                are the features.",
-        groups: &[COLUMNS, TABLES],
+        groups: &[COLUMNS, TABLES, JSON],
         run: check::run,
     },
     Command {
@@ -106,7 +112,7 @@ pub const COMMANDS: [Command; 3] = [
         files: &["SHOW.csv"],
         about: "Fits a forest on a show and reports its out-of-bag error and importances",
         more: "The forest is not saved, since there is no file format for it yet. `correct` fits and predicts in one run.",
-        groups: &[COLUMNS, TABLES, GROWTH],
+        groups: &[COLUMNS, TABLES, GROWTH, JSON],
         run: fit::fit,
     },
     Command {

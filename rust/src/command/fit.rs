@@ -3,13 +3,15 @@
 use crate::args::Args;
 use crate::csv::Csv;
 use crate::faults::Faults;
+use crate::json::Json;
 use crate::listing::Listing;
 use crate::number::{self, Style};
 use crate::output::{Output, place_for, same_file};
 use crate::progress::Progress;
+use crate::record;
 use crate::show::{Roles, Show, matrix};
 use crate::stop::Stop;
-use crate::{record, report};
+use crate::summary::Summary;
 use tailboardy::{Fault, Fitting, RandomForestRegressor, RandomForestRegressorParameters, Refusal};
 
 /// The command line, checked before any file is read.
@@ -40,8 +42,8 @@ pub fn fit(args: &Args) -> Result<Output, Stop> {
     let mut csv = Csv::read(&args.files[0], &args.format()?)?;
     task.roles.ids_in(&mut csv)?;
     let features = task.roles.features(&csv, None)?;
-    let (_, _, told) = task.fitted(csv, features)?;
-    Ok(Output::told(told))
+    let (_, _, summary) = task.fitted(csv, features)?;
+    Ok(summary.told(args))
 }
 
 /// Fits a forest on the old show and predicts the corrections of the new one.
@@ -58,15 +60,17 @@ pub fn correct(args: &Args) -> Result<Output, Stop> {
     let old = Csv::read(&args.files[0], &format)?;
     let new = Csv::read(&args.files[1], &format)?;
     let features = task.roles.features(&old, Some(&new))?;
-    let lacking = task.roles.lacking(&old, &new).join(", ");
+    let lacking = task.roles.lacking(&old, &new);
     let x = matrix(&new, &features, Faults::default())?;
     let (columns, name) = written(&task.roles, &new)?;
-    let (show, forest, mut beside) = task.fitted(old, features)?;
+    let (show, forest, mut summary) = task.fitted(old, features)?;
     if !lacking.is_empty() {
-        beside += &format!(
-            "not used, because {} does not have them: {lacking}\n",
+        let names = lacking.join(", ");
+        let text = format!(
+            "not used, because {} does not have them: {names}",
             new.file()
         );
+        summary.add("lacking", Json::list(&lacking), text);
     }
     let means = forest.predict(&x);
     let means = means.map_err(|refusal| Stop::refused(new.file(), &refusal.to_string()))?;
@@ -92,7 +96,7 @@ pub fn correct(args: &Args) -> Result<Output, Stop> {
         record::write(cells.chain([mean.as_str()]), new.delimiter(), &mut text);
     }
     Ok(Output {
-        beside,
+        beside: summary.text(),
         text,
         file: out.map(str::to_owned),
     })
@@ -116,12 +120,12 @@ fn written(roles: &Roles, new: &Csv) -> Result<(Vec<usize>, String), Stop> {
 }
 
 impl Task<'_> {
-    /// The show, its forest, and the report on both.
+    /// The show, its forest, and what is reported of both.
     fn fitted(
         &self,
         csv: Csv,
         features: Vec<String>,
-    ) -> Result<(Show, RandomForestRegressor, String), Stop> {
+    ) -> Result<(Show, RandomForestRegressor, Summary), Stop> {
         let show = Show::new(csv, &self.roles, features)?;
         let listing = self.args.get("--listing");
         let format = self.args.format()?;
@@ -138,8 +142,10 @@ impl Task<'_> {
         let forest = fitting.forest(&self.parameters);
         drop(progress);
         let forest = forest.map_err(|refusal| refused(&refusal, &show, listing.as_ref()))?;
-        let told = report::columns(&show) + &report::forest(&show, &forest, &self.parameters)?;
-        Ok((show, forest, told))
+        let mut summary = Summary::default();
+        summary.show(&show);
+        summary.forest(&show, &forest, &self.parameters)?;
+        Ok((show, forest, summary))
     }
 }
 

@@ -9,14 +9,15 @@ mod csv;
 mod faults;
 mod fit;
 mod format;
+mod json;
 mod listing;
 mod number;
 mod output;
 mod progress;
 mod record;
-mod report;
 mod show;
 mod stop;
+mod summary;
 
 use commands::COMMANDS;
 use output::Output;
@@ -64,7 +65,13 @@ fn run() -> Result<Output, Stop> {
         .ok_or_else(|| Stop::Usage(format!("there is no command {first}\n{}", overview())))?;
     match command.parse(rest)? {
         None => Ok(Output::told(command.help())),
-        Some(args) => (command.run)(&args),
+        Some(args) => {
+            let ran = (command.run)(&args);
+            if let (Err(Stop::Refused(lines)), true) = (&ran, args.has("--json")) {
+                Output::told(summary::refused(lines).write() + "\n").write()?;
+            }
+            ran
+        }
     }
 }
 

@@ -19,10 +19,18 @@ impl Decimal {
 
 /// How numbers are written: their decimal sign, and how many digits follow it. Without a number of digits, as many as it takes to read
 /// the same bits back.
-#[derive(Clone, Copy, Debug, Default)]
+#[derive(Clone, Copy, Debug)]
 pub struct Style {
     pub decimal: Decimal,
     pub digits: Option<usize>,
+}
+
+impl Style {
+    /// With a decimal point, and as many digits as it takes.
+    pub const EXACT: Style = Style {
+        decimal: Decimal::Point,
+        digits: None,
+    };
 }
 
 /// Reads a finite decimal number. Rust itself would also accept `inf` and `nan`, which a cell should not contain.

@@ -193,13 +193,14 @@ fn read(csv: &Csv, row: usize, column: usize) -> Result<f64, Stop> {
     read.map_err(|why| Stop::refused(&csv.place(row, column), &why))
 }
 
-/// The numbers of the features, row after row, unless there is a fault here or before.
+/// The numbers of the features, unless there is a fault here or before.
 pub fn matrix(csv: &Csv, features: &[String], mut faults: Faults) -> Result<DenseMatrix, Stop> {
     let columns: Result<Vec<usize>, Stop> = features.iter().map(|it| csv.column(it)).collect();
-    let numbers = columns?.into_iter().map(|it| csv.numbers(it, &mut faults));
-    let numbers: Vec<Vec<f64>> = numbers.collect();
+    let mut values = Vec::with_capacity(csv.rows() * features.len());
+    for column in columns? {
+        values.append(&mut csv.numbers(column, &mut faults));
+    }
     faults.end()?;
-    let rows = (0..csv.rows()).flat_map(|row| numbers.iter().map(move |column| column[row]));
-    let matrix = DenseMatrix::new(csv.rows(), features.len(), rows.collect());
+    let matrix = DenseMatrix::new(csv.rows(), features.len(), values, true);
     matrix.map_err(|refusal| Stop::refused(csv.file(), &refusal.to_string()))
 }
