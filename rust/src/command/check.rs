@@ -2,10 +2,12 @@
 
 use crate::args::Args;
 use crate::csv::Csv;
+use crate::faults::Faults;
 use crate::fit::refused;
 use crate::listing::Listing;
 use crate::output::Output;
-use crate::show::{Roles, Show};
+use crate::roles::{Roles, named};
+use crate::show::Show;
 use crate::stop::Stop;
 use crate::summary::Summary;
 use tailboardy::Fitting;
@@ -15,14 +17,15 @@ pub fn run(args: &Args) -> Result<Output, Stop> {
     let roles = Roles::said(args)?;
     let format = args.format()?;
     let mut csv = Csv::read(&args.files[0], &format)?;
-    roles.ids_in(&mut csv)?;
+    roles.name_fixtures(&mut csv)?;
     let listed = args.get("--listing");
     let listed = listed.map(|it| Csv::read(it, &format)).transpose()?;
-    let features = match (&roles.features, &roles.target, &listed) {
-        (None, None, Some(listed)) => roles.listed(listed)?,
-        _ => roles.features(&csv, None)?,
+    let mut faults = Faults::default();
+    let chosen = match (&roles.features, &roles.target, &listed) {
+        (None, None, Some(listed)) => named(&roles.listed(listed)?, &mut csv, &mut faults)?,
+        _ => roles.features(&mut csv, &mut faults)?,
     };
-    let show = Show::new(csv, &roles, features)?;
+    let show = Show::new(csv, &roles, chosen, faults)?;
     let listing = Listing::of(listed, &show)?;
     let mut fitting = Fitting::new(&show.x, &show.y).with_weights(&show.weights);
     if let Some(listing) = &listing {
@@ -40,5 +43,6 @@ pub fn run(args: &Args) -> Result<Output, Stop> {
             "can be used: every column has each row exactly once, in ascending order of value";
         summary.add("listing", file, format!("{file} {text}"));
     }
+    summary.notes(&show.notes);
     Ok(summary.told(args))
 }

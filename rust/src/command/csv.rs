@@ -3,8 +3,10 @@
 use crate::faults::Faults;
 use crate::format::Format;
 use crate::number::{self, Decimal, quoted};
+use crate::numbering;
 use crate::record::{Cells, Reader};
 use crate::stop::Stop;
+use crate::units;
 use std::collections::HashSet;
 use std::fs::File;
 use std::io::{BufRead, BufReader};
@@ -21,12 +23,9 @@ pub struct Csv {
     decimal: Decimal,
     /// The columns that name a fixture.
     named_by: Vec<usize>,
+    /// What follows the number in each cell of a column; empty for most columns.
+    units: Vec<String>,
 }
-
-/// Words that a column's name may begin with if its cells name fixtures.
-const NAMING: [&str; 7] = [
-    "fixture", "name", "id", "unit", "channel", "number", "label",
-];
 
 impl Csv {
     /// Reads a file. If something is wrong with it, the message names the file and the line.
@@ -35,7 +34,7 @@ impl Csv {
         Csv::read_from(file, BufReader::new(opened), format)
     }
 
-    fn read_from(file: &str, from: impl BufRead, format: &Format) -> Result<Self, Stop> {
+    pub fn read_from(file: &str, from: impl BufRead, format: &Format) -> Result<Self, Stop> {
         let delimiter = format.delimiter.unwrap_or(',');
         let mut reader = Reader::new(from, delimiter);
         let wrong =
@@ -49,7 +48,7 @@ impl Csv {
         if lines.is_empty() {
             return Err(Stop::refused(file, "there are column names but no rows"));
         }
-        let naming = names.iter().position(|name| names_fixtures(name));
+        let naming = numbering::naming(&names);
         Ok(Csv {
             file: file.to_owned(),
             cells,
@@ -57,6 +56,7 @@ impl Csv {
             delimiter,
             decimal: format.decimal.unwrap_or_default(),
             named_by: naming.into_iter().collect(),
+            units: vec![String::new(); names.len()],
             names,
         })
     }
@@ -80,7 +80,17 @@ impl Csv {
                 None => "the cell is empty; a number is required".into(),
             });
         }
-        number::read(cell, self.decimal)
+        number::read(units::bare(cell, &self.units[column]), self.decimal)
+    }
+
+    /// The unit that the cells of a column are known to have; empty if they have none.
+    pub fn unit(&self, column: usize) -> &str {
+        &self.units[column]
+    }
+
+    /// Makes it known that the cells of a column have this unit.
+    pub fn set_unit(&mut self, column: usize, unit: String) {
+        self.units[column] = unit;
     }
 
     /// The numbers of a column. A cell that has none is a fault, and counts as 0.
@@ -105,7 +115,8 @@ impl Csv {
         self.called(row).unwrap_or_else(line)
     }
 
-    fn called(&self, row: usize) -> Option<String> {
+    /// The name of a fixture, if it has one.
+    pub fn called(&self, row: usize) -> Option<String> {
         let cells = self.named_by.iter().map(|it| name(self.cell(row, *it)));
         let cells: Vec<String> = cells.filter(|cell| !cell.is_empty()).collect();
         (!cells.is_empty()).then(|| cells.join(" "))
@@ -181,13 +192,6 @@ pub fn name(text: &str) -> String {
     let words = text.split(parts);
     let words: Vec<&str> = words.filter(|word| !word.is_empty()).collect();
     words.join(" ")
-}
-
-/// Whether a column's name says that its cells name fixtures.
-fn names_fixtures(name: &str) -> bool {
-    let name = name.to_lowercase();
-    let mut words = name.split(|letter: char| !letter.is_alphanumeric());
-    words.next().is_some_and(|word| NAMING.contains(&word))
 }
 
 /// The names of all columns, which must be different.

@@ -22,6 +22,10 @@ impl Faults {
         }
     }
 
+    pub fn is_empty(&self) -> bool {
+        self.lines.is_empty()
+    }
+
     /// Stops the run if there is any fault.
     pub fn end(self) -> Result<(), Stop> {
         let mut lines = self.lines;

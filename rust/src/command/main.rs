@@ -3,21 +3,31 @@
 #![forbid(unsafe_code)]
 
 mod args;
+mod both;
 mod check;
+mod column;
 mod commands;
+mod correct;
 mod csv;
 mod faults;
 mod fit;
+mod fixtures;
 mod format;
 mod json;
 mod listing;
+mod measure;
 mod number;
+mod numbering;
 mod output;
+mod outside;
 mod progress;
 mod record;
+mod roles;
 mod show;
+mod spread;
 mod stop;
 mod summary;
+mod units;
 
 use commands::COMMANDS;
 use output::Output;

@@ -23,6 +23,13 @@ impl Output {
         }
     }
 
+    /// Adds notes to what goes to standard error.
+    pub fn note(&mut self, notes: &[String]) {
+        for note in notes {
+            self.beside += &format!("tailboardy: note: {note}\n");
+        }
+    }
+
     /// Writes the text first and then the report. It is not an error if the reader of standard output stops reading early.
     pub fn write(self) -> Result<(), Stop> {
         let written = match &self.file {
