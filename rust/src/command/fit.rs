@@ -124,7 +124,7 @@ impl Task<'_> {
         if let Some(listing) = &listing {
             fitting = fitting.with_listings(&listing.listings);
         }
-        let forest = fitting.forest(&self.parameters);
+        let forest = fitting.forest(self.parameters);
         drop(progress);
         let forest = forest.map_err(|refusal| refused(&refusal, &show, listing.as_ref()))?;
         let mut summary = Summary::default();

@@ -85,7 +85,7 @@ impl Summary {
         self.trees(forest, parameters.seed);
         let means = forest.predict_oob(&show.x).map_err(failed)?;
         let error = means.error(&show.y).map_err(failed)?;
-        self.error(error, means.told(), show.csv.rows());
+        self.error(error, means.count(), show.csv.rows());
         let importances = forest.compute_feature_importances().map_err(failed)?;
         let ranked = importances.ranked();
         let name = |feature: usize| show.features[feature].as_str();
