@@ -54,7 +54,7 @@ pub enum Fault {
     Error(f64),
     /// The sum of a tree's scores, which is not finite.
     Scores { tree: usize, sum: f64 },
-    /// The mass of all rows of a tree, which is not finite or so large that scores cannot be computed from it.
+    /// The mass of all rows of a tree, which is so large or so small that scores cannot be computed from it.
     Mass { tree: usize, mass: f64 },
     /// The name of an entry of a grown node that is not finite.
     Entry {

@@ -4,44 +4,41 @@
 use crate::columns::Nodes;
 use crate::counts::Counts;
 use crate::fault::Fault;
-use crate::nodes::{Kind, Tree};
 use crate::refusal::{Cause, Refusal};
-use crate::results::{Importances, Means, OutOfBagMeans, Report};
 
 fn refused<T>(fault: Fault) -> Result<T, Refusal> {
     Err(Refusal::new(Cause::NotFinite, fault))
 }
 
-pub(crate) fn means(numbers: Vec<f64>) -> Result<Means, Refusal> {
-    match numbers.iter().position(|mean| !mean.is_finite()) {
-        None => Ok(Means(numbers)),
-        Some(row) => result("prediction of row", row, &numbers),
-    }
+/// Returns the numbers, a result for each row or feature, if they are all finite.
+pub(crate) fn all(result: &'static str, numbers: Vec<f64>) -> Result<Vec<f64>, Refusal> {
+    let bad = numbers.iter().position(|number| !number.is_finite());
+    unless(bad, result, numbers)
 }
 
-/// Only a row that is in every bag may have a NaN.
-pub(crate) fn out_of_bag(numbers: Vec<f64>, counts: &Counts) -> Result<OutOfBagMeans, Refusal> {
+/// The same for out-of-bag means, where a row that is in every bag, and no other, has a NaN.
+pub(crate) fn out_of_bag(means: Vec<f64>, counts: &Counts) -> Result<Vec<f64>, Refusal> {
     let kept = |row: usize| (0..counts.shape().0).all(|tree| counts.of_tree(tree)[row] > 0);
-    let bad = |row: &usize| match numbers[*row] {
+    let bad = |row: &usize| match means[*row] {
         mean if mean.is_nan() => !kept(*row),
         mean => mean.is_infinite(),
     };
-    match (0..numbers.len()).find(bad) {
-        None => Ok(OutOfBagMeans(numbers)),
-        Some(row) => result("out-of-bag mean of row", row, &numbers),
-    }
+    let bad = (0..means.len()).find(bad);
+    unless(bad, "out-of-bag mean of row", means)
 }
 
-pub(crate) fn importances(numbers: Vec<f64>) -> Result<Importances, Refusal> {
-    match numbers.iter().position(|share| !share.is_finite()) {
-        None => Ok(Importances(numbers)),
-        Some(feature) => result("importance of feature", feature, &numbers),
+fn unless(
+    bad: Option<usize>,
+    result: &'static str,
+    numbers: Vec<f64>,
+) -> Result<Vec<f64>, Refusal> {
+    match bad {
+        None => Ok(numbers),
+        Some(at) => {
+            let value = numbers[at];
+            refused(Fault::Result { result, at, value })
+        }
     }
-}
-
-fn result<T>(result: &'static str, at: usize, numbers: &[f64]) -> Result<T, Refusal> {
-    let value = numbers[at];
-    refused(Fault::Result { result, at, value })
 }
 
 pub(crate) fn error(error: f64, targets: &[f64]) -> Result<f64, Refusal> {
@@ -55,32 +52,30 @@ pub(crate) fn error(error: f64, targets: &[f64]) -> Result<f64, Refusal> {
     }))
 }
 
-/// Checks the scores before they are divided by their sum: if that is infinite, every importance comes out as 0.
-pub(crate) fn scores(number: usize, tree: &Tree) -> Result<(), Refusal> {
-    let scores = tree.nodes().map(|node| match node.kind {
-        Kind::Leaf => 0.0,
-        Kind::Split(split) => split.score,
-    });
+/// Checks a tree's scores before they are divided by their sum: if that is infinite, every importance comes out as 0.
+pub(crate) fn scores(tree: usize, scores: impl Iterator<Item = f64>) -> Result<(), Refusal> {
     let sum: f64 = scores.sum();
     match sum.is_finite() {
         true => Ok(()),
-        false => refused(Fault::Scores { tree: number, sum }),
+        false => refused(Fault::Scores { tree, sum }),
     }
 }
 
-/// Checks a grown forest: cuts are chosen by scores, so if these are not finite the cuts mean nothing, even where predictions are
-/// finite. A score divides by the product of three masses, which must be finite too.
+/// Checks a grown forest: cuts are compared by scores, so if these are not finite the cuts mean nothing, even where predictions are
+/// finite. Scores divide by the product of three masses, which must be in range too. `masses` are those of all rows, a tree each.
 ///
-/// With weights a score may be 0 / 0, where rows weigh so little that the product is 0; what they do makes no difference.
+/// With weights a score may still be 0 / 0, in nodes whose rows weigh almost nothing beside the others.
 pub(crate) fn grown(
     nodes: &Nodes,
     starts: &[u32],
-    reports: &[Report],
+    masses: impl Iterator<Item = f64>,
     weighed: bool,
 ) -> Result<(), Refusal> {
-    let masses = reports.iter().map(|report| report.root_mass);
-    let heavy = |(_, mass): &(usize, f64)| !(mass * mass * mass).is_finite();
-    if let Some((tree, mass)) = masses.enumerate().find(heavy) {
+    let bad = |(_, mass): &(usize, f64)| {
+        let product = mass * mass * mass;
+        !product.is_finite() || (product == 0.0 && *mass > 0.0)
+    };
+    if let Some((tree, mass)) = masses.enumerate().find(bad) {
         return refused(Fault::Mass { tree, mass });
     }
     let good = |score: f64| score.is_finite() || (weighed && score.is_nan());

@@ -103,7 +103,8 @@ impl<'a> Fitting<'a> {
         };
         let grown = grow::grow(&given, &parameters, self.watch)?;
         let weighed = !given.weights.is_empty();
-        finite::grown(&grown.nodes, &grown.starts, &grown.reports, weighed)?;
+        let masses = grown.reports.iter().map(|report| report.root_mass);
+        finite::grown(&grown.nodes, &grown.starts, masses, weighed)?;
         let kept = parameters.keep_samples.then_some(counts);
         Ok(RandomForestRegressor::grown(features, grown, kept))
     }
@@ -129,12 +130,8 @@ impl<'a> Fitting<'a> {
         Source::new(&given, settings, parameters.seed).draw(0, &mut draws);
         let tree = DecisionTreeRegressor::fit_given(&given, &draws, parameters)?;
         let weighed = !given.weights.is_empty();
-        finite::grown(
-            tree.nodes(),
-            &[0],
-            tree.report().copied().as_slice(),
-            weighed,
-        )?;
+        let mass = tree.report().map(|report| report.root_mass);
+        finite::grown(tree.nodes(), &[0], mass.into_iter(), weighed)?;
         Ok(tree)
     }
 

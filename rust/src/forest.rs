@@ -170,7 +170,7 @@ impl RandomForestRegressor {
             rows, self.features, trees, x.values(), counts, &self.starts; columns; &mut out
         ));
         match (number, &self.counts) {
-            (0, Some(counts)) => finite::out_of_bag(out, counts),
+            (0, Some(counts)) => finite::out_of_bag(out, counts).map(OutOfBagMeans),
             (9 | 10, _) => Err(Refusal::of(number, None)),
             _ => Err(Refusal::of(number, explain::reader(x, self.features))),
         }
@@ -179,7 +179,7 @@ impl RandomForestRegressor {
     /// How important each feature is: the mean of the trees' importances. They add up to 1, or to 0 if no tree has a split.
     pub fn compute_feature_importances(&self) -> Result<Importances, Refusal> {
         for (number, tree) in self.trees().enumerate() {
-            finite::scores(number, &tree)?;
+            finite::scores(number, tree.scores())?;
         }
         let mut out = vec![0.0; self.features];
         let columns = self.nodes.columns();
@@ -187,7 +187,7 @@ impl RandomForestRegressor {
             self.features, self.n_trees(), &self.starts; columns; &mut out
         ));
         match number {
-            0 => finite::importances(out),
+            0 => finite::all("importance of feature", out).map(Importances),
             number => Err(Refusal::of(number, None)),
         }
     }

@@ -93,6 +93,14 @@ impl<'a> Tree<'a> {
         )
     }
 
+    /// The scores of its splits.
+    pub(crate) fn scores(&self) -> impl Iterator<Item = f64> + use<'a> {
+        self.nodes().filter_map(|node| match node.kind {
+            Kind::Leaf => None,
+            Kind::Split(split) => Some(split.score),
+        })
+    }
+
     /// This tree's prediction for each row.
     pub fn predict(&self, x: &DenseMatrix) -> Result<Means, Refusal> {
         let features = self.features;
@@ -109,11 +117,11 @@ impl<'a> Tree<'a> {
     }
 
     pub(crate) fn importances(&self, by_mass: bool, mass: f64) -> Result<Importances, Refusal> {
-        finite::scores(0, self)?;
+        finite::scores(0, self.scores())?;
         let features = self.features;
         let mut out = vec![0.0; features];
         match over!(tree_importances(features, by_mass, mass; self.columns; &mut out)) {
-            0 => finite::importances(out),
+            0 => finite::all("importance of feature", out).map(Importances),
             number => Err(Refusal::of(number, None)),
         }
     }

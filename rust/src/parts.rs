@@ -23,7 +23,7 @@ pub(crate) fn predict(
         let values = &x.values()[start * columns..end * columns];
         match call(end - start, values, &mut out[start..]) {
             0 if end < rows => (),
-            0 => return finite::means(out),
+            0 => return finite::all("prediction of row", out).map(Means),
             number => return Err(Refusal::of(number, explain::reader(x, features))),
         }
     }

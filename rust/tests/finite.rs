@@ -92,13 +92,16 @@ fn weights_that_are_too_large() {
     refused(fit(1e308), "the mass of all rows of tree 0 is inf");
 }
 
-/// Rows that weigh almost nothing may be fitted and predicted, but there are no importances to speak of.
+/// Rows that weigh almost nothing beside others may be fitted and predicted, but there are no importances to speak of.
 #[test]
 fn weights_that_are_too_small() {
-    let (x, y) = (four(), [1.0, 2.0, 3.0, 4.0]);
-    let weights = [1e-200; 4];
-    let tree = DecisionTreeRegressor::fit_with_weights(&x, &y, &weights, Default::default());
-    let tree = tree.unwrap();
+    let (x, y) = (four(), [1.0, 2.0, 9.0, 9.0]);
+    let fit = |weights: [f64; 4]| {
+        DecisionTreeRegressor::fit_with_weights(&x, &y, &weights, Default::default())
+    };
+    assert!(fit([1e-100; 4]).is_ok());
+    refused(fit([1e-200; 4]), "the mass of all rows of tree 0 is 4e-200");
+    let tree = fit([1e-120, 1e-120, 1e-30, 1e-30]).unwrap();
     assert_eq!(*tree.predict(&x).unwrap(), y);
     for normalize in [true, false] {
         let shares = tree.compute_feature_importances(normalize);

@@ -1,5 +1,7 @@
 //! The command line, and the help text that is made from the same list of options.
 
+use crate::format::{self, Format};
+use crate::number::quoted;
 use crate::output::Output;
 use crate::stop::Stop;
 use crate::{csv, record};
@@ -136,6 +138,24 @@ impl Args {
             all.extend(record.iter().map(|it| csv::name(it)));
         }
         Ok(names)
+    }
+
+    /// What was said about how tables are written.
+    pub fn format(&self) -> Result<Format, Stop> {
+        let unknown = |name: &str, said: &str, known: &str| {
+            Stop::Usage(format!("{name} {}: {known} is required", quoted(said)))
+        };
+        let delimiter = self.get("--delimiter").map(|said| {
+            let known = "comma, semicolon, tab or bar";
+            format::delimiter(said).ok_or_else(|| unknown("--delimiter", said, known))
+        });
+        let decimal = self.get("--decimal").map(|said| {
+            format::decimal(said).ok_or_else(|| unknown("--decimal", said, "point or comma"))
+        });
+        Ok(Format {
+            delimiter: delimiter.transpose()?,
+            decimal: decimal.transpose()?,
+        })
     }
 
     fn number<N: TryFrom<u64>>(&self, name: &str, most: u64) -> Result<Option<N>, Stop> {

@@ -13,9 +13,11 @@ use tailboardy::Fitting;
 /// Makes the proved checks of a fit on the data in the files.
 pub fn run(args: &Args) -> Result<Output, Stop> {
     let roles = Roles::said(args)?;
-    let csv = Csv::read(&args.files[0])?;
-    roles.ids_in(&csv)?;
-    let listed = args.get("--listing").map(Csv::read).transpose()?;
+    let format = args.format()?;
+    let mut csv = Csv::read(&args.files[0], &format)?;
+    roles.ids_in(&mut csv)?;
+    let listed = args.get("--listing");
+    let listed = listed.map(|it| Csv::read(it, &format)).transpose()?;
     let features = match (&roles.features, &roles.target, &listed) {
         (None, None, Some(listed)) => roles.listed(listed)?,
         _ => roles.features(&csv, None)?,

@@ -2,14 +2,16 @@
 
 use crate::args::Args;
 use crate::csv::Csv;
+use crate::faults::Faults;
 use crate::json::Json;
 use crate::listing::Listing;
+use crate::number::{self, Style};
 use crate::output::{Output, place_for, same_file};
 use crate::progress::Progress;
+use crate::record;
 use crate::show::{Roles, Show, matrix};
 use crate::stop::Stop;
 use crate::summary::Summary;
-use crate::{number, record};
 use tailboardy::{Fault, Fitting, RandomForestRegressor, RandomForestRegressorParameters, Refusal};
 
 /// The command line, checked before any file is read.
@@ -37,8 +39,8 @@ impl<'a> Task<'a> {
 /// Fits a forest and reports on it.
 pub fn fit(args: &Args) -> Result<Output, Stop> {
     let task = Task::new(args)?;
-    let csv = Csv::read(&args.files[0])?;
-    task.roles.ids_in(&csv)?;
+    let mut csv = Csv::read(&args.files[0], &args.format()?)?;
+    task.roles.ids_in(&mut csv)?;
     let features = task.roles.features(&csv, None)?;
     let (_, _, summary) = task.fitted(csv, features)?;
     Ok(summary.told(args))
@@ -54,10 +56,12 @@ pub fn correct(args: &Args) -> Result<Output, Stop> {
         return Err(Stop::Usage("--out names a file that is also read".into()));
     }
     out.map_or(Ok(()), place_for)?;
-    let (old, new) = (Csv::read(&args.files[0])?, Csv::read(&args.files[1])?);
+    let format = args.format()?;
+    let old = Csv::read(&args.files[0], &format)?;
+    let new = Csv::read(&args.files[1], &format)?;
     let features = task.roles.features(&old, Some(&new))?;
     let lacking = task.roles.lacking(&old, &new);
-    let x = matrix(&new, &features)?;
+    let x = matrix(&new, &features, Faults::default())?;
     let (columns, name) = written(&task.roles, &new)?;
     let (show, forest, mut summary) = task.fitted(old, features)?;
     if !lacking.is_empty() {
@@ -72,15 +76,24 @@ pub fn correct(args: &Args) -> Result<Output, Stop> {
     let means = means.map_err(|refusal| Stop::refused(new.file(), &refusal.to_string()))?;
     if let Some(row) = means.iter().position(|mean| !mean.is_finite()) {
         let place = format!("{}, line {}", new.file(), new.line(row));
-        let why = "its correction is not a number: sums overflow because of very large targets or weights in";
-        return Err(Stop::refused(&place, &format!("{why} {}", show.csv.file())));
+        let why = format!(
+            "the correction of {} is not a number: sums overflow because of very large targets or weights in {}",
+            new.fixture(row),
+            show.csv.file()
+        );
+        return Err(Stop::refused(&place, &why));
     }
     let mut text = String::new();
     let names = columns.iter().map(|column| new.names()[*column].as_str());
-    record::write(names.chain([name.as_str()]), &mut text);
+    record::write(names.chain([name.as_str()]), new.delimiter(), &mut text);
+    let style = Style {
+        decimal: new.decimal(),
+        digits: None,
+    };
     for (row, mean) in means.iter().enumerate() {
         let cells = columns.iter().map(|column| new.cell(row, *column));
-        record::write(cells.chain([number::write(*mean).as_str()]), &mut text);
+        let mean = number::write(*mean, &style);
+        record::write(cells.chain([mean.as_str()]), new.delimiter(), &mut text);
     }
     Ok(Output {
         beside: summary.text(),
@@ -114,7 +127,9 @@ impl Task<'_> {
         features: Vec<String>,
     ) -> Result<(Show, RandomForestRegressor, Summary), Stop> {
         let show = Show::new(csv, &self.roles, features)?;
-        let listing = self.args.get("--listing").map(Csv::read).transpose()?;
+        let listing = self.args.get("--listing");
+        let format = self.args.format()?;
+        let listing = listing.map(|it| Csv::read(it, &format)).transpose()?;
         let listing = Listing::of(listing, &show)?;
         let progress = Progress::new();
         let watch = |stand: usize, all: usize| progress.tell(stand, all);

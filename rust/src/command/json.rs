@@ -75,7 +75,7 @@ impl Json {
             Json::Null => "null".to_owned(),
             Json::Bool(yes) => yes.to_string(),
             Json::Whole(whole) => whole.to_string(),
-            Json::Number(number) => number::write(*number),
+            Json::Number(number) => number::write(*number, &number::Style::EXACT),
             Json::Text(text) => quoted(text),
             Json::List(values) => {
                 let values: Vec<String> = values.iter().map(Json::write).collect();

@@ -2,7 +2,7 @@
 
 use crate::args::Args;
 use crate::json::Json;
-use crate::number::write;
+use crate::number::{Style, write};
 use crate::output::Output;
 use crate::show::Show;
 use crate::stop::Stop;
@@ -94,7 +94,7 @@ impl Summary {
             .map(|(feature, part)| (name(*feature), (*part).into()));
         let named = ranked
             .iter()
-            .map(|(feature, part)| format!("{} {}", name(*feature), write(*part)));
+            .map(|(feature, part)| format!("{} {}", name(*feature), write(*part, &Style::EXACT)));
         let text = format!("importances: {}", named.collect::<Vec<_>>().join(", "));
         self.add("importances", Json::object(parts), text);
         Ok(())
@@ -132,8 +132,8 @@ impl Summary {
         ]);
         let text = format!(
             "out-of-bag error: {} (square root {}); {told} of {rows} fixtures are left out by at least one tree",
-            write(error),
-            write(root),
+            write(error, &Style::EXACT),
+            write(root, &Style::EXACT),
         );
         self.add("out_of_bag", value, text);
     }
