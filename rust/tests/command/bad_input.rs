@@ -220,7 +220,7 @@ const NAMED: &[[&str; 3]] = &[
     [
         "--listing",
         "/nowhere",
-        "/nowhere: No such file or directory (os error 2)",
+        "/nowhere: there is no such file; check its name and folder",
     ],
 ];
 
@@ -317,7 +317,7 @@ fn files_that_are_not_there() {
     for (file, why) in [
         (
             "/nowhere.csv",
-            "/nowhere.csv: No such file or directory (os error 2)",
+            "/nowhere.csv: there is no such file; check its name and folder",
         ),
         ("/", "/, line 1: Is a directory (os error 21)"),
     ] {
