@@ -114,13 +114,19 @@ const SPREAD: &[Choice] = &[choice(
     "add columns NAME_low and NAME_high: the tenth and ninetieth percentile of the trees' predictions",
 )];
 
+const DIGITS: &[Choice] = &[choice(
+    "--digits",
+    "N",
+    "round what is computed to so many digits after the decimal sign, up to 17; default: exact, so that the same bits are read back",
+)];
+
 const OUT: &[Choice] = &[choice(
     "--out",
     "FILE",
-    "where to write the corrections; default: standard output",
+    "where to write the table; default: standard output, which is also meant by -",
 )];
 
-pub const COMMANDS: [Command; 3] = [
+pub static COMMANDS: [Command; 3] = [
     Command {
         name: "check",
         files: &["SHOW.csv"],
@@ -136,7 +142,7 @@ pub const COMMANDS: [Command; 3] = [
         files: &["SHOW.csv"],
         about: "Fits a forest on a show and reports its out-of-bag error and importances",
         more: "The forest is not saved, since there is no file format for it yet. `correct` fits and predicts in one run.",
-        groups: &[COLUMNS, TABLES, GROWTH, JSON],
+        groups: &[COLUMNS, TABLES, GROWTH, DIGITS, JSON],
         run: fit::fit,
     },
     Command {
@@ -147,7 +153,7 @@ pub const COMMANDS: [Command; 3] = [
                that names the measurements outside the range of the old show. Without --features, the features are the columns of\n\
                measurements that both shows have. Those that only the old show has are ignored, unless the new one has others that\n\
                may be meant instead. Notes and a report on the forest go to standard error.",
-        groups: &[COLUMNS, TABLES, RANGE, GROWTH, SPREAD, OUT],
+        groups: &[COLUMNS, TABLES, RANGE, GROWTH, SPREAD, DIGITS, OUT],
         run: correct::correct,
     },
 ];

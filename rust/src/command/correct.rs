@@ -6,12 +6,12 @@ use crate::csv::Csv;
 use crate::fit::Task;
 use crate::json::Json;
 use crate::number::{self, Style};
-use crate::output::{Output, place_for, same_file};
+use crate::output::Output;
 use crate::stop::Stop;
 use crate::summary::Summary;
 use crate::{record, spread};
 use std::collections::BTreeSet;
-use tailboardy::RandomForestRegressor;
+use tailboardy::{Means, RandomForestRegressor};
 
 /// A column that is added to the new show.
 type Added = (String, Vec<String>);
@@ -19,37 +19,31 @@ type Added = (String, Vec<String>);
 /// Fits a forest on the old show and predicts the corrections of the new one.
 pub fn correct(args: &Args) -> Result<Output, Stop> {
     let task = Task::new(args)?;
-    let out = place(args)?;
+    let file = args.out()?;
     let both = Both::read(&task)?;
     let target = task.roles.target.as_deref().unwrap_or_default();
     free(&both.new, target, args.has("--spread"))?;
     let (forest, mut summary) = task.fitted(&both.old)?;
     both.report(&mut summary);
-    let mut added = vec![(format!("{target}_correction"), corrections(&both, &forest)?)];
+    let style = Style {
+        decimal: both.new.decimal(),
+        digits: task.digits,
+    };
+    let means = corrections(&both, &forest)?;
+    let means = means.iter().map(|it| number::write(*it, &style));
+    let mut added = vec![(format!("{target}_correction"), means.collect())];
     if args.has("--spread") {
-        added.extend(spreads(&both, &forest, target)?);
+        added.extend(spreads(&both, &forest, target, &style)?);
     }
     added.push(("outside".into(), outsides(&both)));
     let mut output = Output {
         text: table(&both.new, &added),
-        file: out.map(str::to_owned),
+        file,
         ..Output::default()
     };
     output.note(&both.notes);
     output.beside += &summary.text();
     Ok(output)
-}
-
-/// Where the corrections go: a file that can be written and is not read, or standard output.
-fn place(args: &Args) -> Result<Option<&str>, Stop> {
-    let out = args.get("--out");
-    let listing = args.get("--listing");
-    let mut read = args.files.iter().map(String::as_str).chain(listing);
-    if out.is_some_and(|out| read.any(|file| same_file(file, out))) {
-        return Err(Stop::Usage("--out names a file that is also read".into()));
-    }
-    out.map_or(Ok(()), place_for)?;
-    Ok(out)
 }
 
 /// Checks that the new show has none of the columns that are added to it.
@@ -72,14 +66,8 @@ fn free(new: &Csv, target: &str, spread: bool) -> Result<(), Stop> {
     }
 }
 
-fn style(new: &Csv) -> Style {
-    Style {
-        decimal: new.decimal(),
-        digits: None,
-    }
-}
-
-fn corrections(both: &Both, forest: &RandomForestRegressor) -> Result<Vec<String>, Stop> {
+/// The prediction for each fixture of the new show.
+pub fn corrections(both: &Both, forest: &RandomForestRegressor) -> Result<Means, Stop> {
     let new = &both.new;
     let means = forest.predict(&both.x);
     let means = means.map_err(|refusal| Stop::refused(new.file(), &refusal.to_string()))?;
@@ -92,17 +80,20 @@ fn corrections(both: &Both, forest: &RandomForestRegressor) -> Result<Vec<String
         );
         return Err(Stop::refused(&place, &why));
     }
-    let style = style(new);
-    Ok(means.iter().map(|it| number::write(*it, &style)).collect())
+    Ok(means)
 }
 
 /// The columns of low and high predictions.
-fn spreads(both: &Both, forest: &RandomForestRegressor, target: &str) -> Result<[Added; 2], Stop> {
+fn spreads(
+    both: &Both,
+    forest: &RandomForestRegressor,
+    target: &str,
+    style: &Style,
+) -> Result<[Added; 2], Stop> {
     let ends = spread::of(forest, &both.x);
     let ends = ends.map_err(|refusal| Stop::refused(both.new.file(), &refusal.to_string()))?;
-    let style = style(&both.new);
     let column = |end: fn(&(f64, f64)) -> f64| {
-        let cells = ends.iter().map(|it| number::write(end(it), &style));
+        let cells = ends.iter().map(|it| number::write(end(it), style));
         cells.collect()
     };
     Ok([

@@ -30,7 +30,7 @@ pub struct Csv {
 impl Csv {
     /// Reads a file. If something is wrong with it, the message names the file and the line.
     pub fn read(file: &str, format: &Format) -> Result<Self, Stop> {
-        let opened = File::open(file).map_err(|error| Stop::refused(file, &error.to_string()))?;
+        let opened = File::open(file).map_err(|error| Stop::unread(file, &error))?;
         Csv::read_from(file, BufReader::new(opened), format)
     }
 

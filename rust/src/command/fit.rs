@@ -17,6 +17,7 @@ pub struct Task<'a> {
     pub args: &'a Args,
     pub roles: Roles,
     parameters: RandomForestRegressorParameters,
+    pub digits: Option<usize>,
 }
 
 impl<'a> Task<'a> {
@@ -30,6 +31,7 @@ impl<'a> Task<'a> {
             args,
             roles,
             parameters: args.parameters()?,
+            digits: args.digits()?,
         })
     }
 }
@@ -63,10 +65,10 @@ impl Task<'_> {
         if let Some(listing) = &listing {
             fitting = fitting.with_listings(&listing.listings);
         }
-        let forest = fitting.forest(&self.parameters);
+        let forest = fitting.forest(self.parameters);
         drop(progress);
         let forest = forest.map_err(|refusal| refused(&refusal, show, listing.as_ref()))?;
-        let mut summary = Summary::default();
+        let mut summary = Summary::new(self.digits);
         summary.show(show);
         summary.forest(show, &forest, &self.parameters)?;
         Ok((forest, summary))
