@@ -156,8 +156,104 @@ mod tests {
     use super::*;
     use crate::format::Format;
 
-    fn csv(cells: &[&str]) -> Csv {
-        let text = format!("x,pan\n{}\n", cells.join(",1\n") + ",1");
+    fn csv(name: &str, cells: &[&str]) -> Csv {
+        let rows: String = cells.iter().map(|it| format!("{it},1\n")).collect();
+        let text = format!("{name},pan\n{rows}");
         Csv::read_from("t", text.as_bytes(), &Format::default()).unwrap()
+    }
+
+    fn left(name: &str, cells: &[&str]) -> Option<(String, String, bool)> {
+        match Use::of(&csv(name, cells), 0) {
+            Use::Left(it) => Some((it.place, it.why, it.usable)),
+            _ => None,
+        }
+    }
+
+    #[test]
+    fn numbers_that_are_no_measurements_are_left() {
+        let by_name = "its name says that it numbers or names fixtures";
+        let told = |place: &str, why: &str, usable| Some((place.into(), why.into(), usable));
+        assert_eq!(
+            left("channel", &["7.5", "7.5"]),
+            told("t, column channel", by_name, true)
+        );
+        assert_eq!(
+            left("unit", &["1", "2", "2A", "n"]),
+            told("t, column unit", by_name, false)
+        );
+        assert_eq!(
+            left("spot", &["12", "10", "11"]),
+            told("t, column spot", "it only counts, from 10 to 12", true)
+        );
+        assert_eq!(
+            left("spot", &["FOH", "7", "BOX"]),
+            told(
+                "t, line 3, column spot",
+                "\"7\" is the only number in it",
+                false
+            )
+        );
+        assert_eq!(left("trim", &["7.5", "8", "9"]), None);
+        assert_eq!(left("fixture", &["a", "b", "c"]), None);
+    }
+
+    fn faults(cells: &[&str]) -> Vec<String> {
+        let csv = csv("x", cells);
+        let mut faults = Faults::default();
+        let holds = Holds::of(csv.cells(0), csv.decimal());
+        tell(&csv, 0, &holds, "; or so", &mut faults);
+        let told = faults.end().err().map(|it| it.to_string());
+        let told = told.unwrap_or_default();
+        let line = |it: &str| it.replace("t, line ", "").replace(", column x", "");
+        told.lines().map(line).collect()
+    }
+
+    #[test]
+    fn faults_name_the_cell() {
+        assert!(faults(&["1", "2.5"]).is_empty());
+        assert!(faults(&["1 m", "2.5m"]).is_empty());
+        for (cells, told) in [
+            (&["low"][..], &["2: \"low\" is not a number; or so"][..]),
+            (
+                &["", "low", "high"],
+                &["3: \"low\" is not a number, and neither is any other cell of the column; or so"],
+            ),
+            (
+                &["a", "b", "7"],
+                &["4: \"7\" is the only number in the column; or so"],
+            ),
+            (
+                &["1", "low", "2", ""],
+                &[
+                    "3: \"low\" is not a number; it is the only such cell of the column; or so",
+                    "5: the cell is empty; a number is required",
+                ],
+            ),
+            (
+                &["1", "low", "2", "high", "3"],
+                &[
+                    "3: \"low\" is not a number, but \"1\" in line 2 is; or so",
+                    "5: \"high\" is not a number",
+                ],
+            ),
+            (
+                &["a", "1", "b", "c", "2", "d"],
+                &["2: \"a\" is not a number, but \"1\" in line 3 is; or so"],
+            ),
+            (
+                &["4.2 m", "4.3 m", "430 cm"],
+                &["2: \"4.2 m\" is in m, but \"430 cm\" in line 4 is in cm; or so"],
+            ),
+            (
+                &["4.2 m", "4.3"],
+                &["2: \"4.2 m\" is in m, but \"4.3\" in line 3 has no unit; or so"],
+            ),
+            (
+                &["18'6", "19"],
+                &["2: \"18\\'6\" is in two units; write it as one number in one unit; or so"],
+            ),
+        ] {
+            assert_eq!(faults(cells), told);
+        }
     }
 }
