@@ -175,13 +175,12 @@ impl Roles {
         for (column, use_of) in self.uses(new) {
             let name = new.names()[column].clone();
             let measured = matches!(use_of, Use::Measured(_) | Use::Faulty(_));
+            let common = chosen.features.contains(&name);
+            if common && !measure(new, column, faults) {
+                chosen.features.retain(|it| *it != name);
+            }
             match old.find(&name) {
-                Some(_) if chosen.features.contains(&name) => {
-                    if !measure(new, column, faults) {
-                        chosen.features.retain(|it| *it != name);
-                    }
-                }
-                Some(column) if measured && is_text(old, column) => {
+                Some(column) if !common && measured && is_text(old, column) => {
                     measure(old, column, faults);
                 }
                 None if measured => not_renamed(&name, &chosen.lacking, old, new)?,
