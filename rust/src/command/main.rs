@@ -10,6 +10,7 @@ mod faults;
 mod fit;
 mod format;
 mod json;
+mod list;
 mod listing;
 mod nearest;
 mod number;
