@@ -22,16 +22,28 @@ impl Faults {
         }
     }
 
+    /// Adds a fault after which nothing more can be found out, and stops the run with all of them.
+    pub fn stop(&mut self, place: &str, why: &str) -> Stop {
+        self.add(place, why);
+        let all = std::mem::take(self);
+        Stop::Refused(all.lines())
+    }
+
     /// Stops the run if there is any fault.
     pub fn end(self) -> Result<(), Stop> {
-        let mut lines = self.lines;
-        match self.more {
-            0 if lines.is_empty() => return Ok(()),
-            0 => (),
-            1 => lines.push("1 more fault is not shown".into()),
-            more => lines.push(format!("{more} more faults are not shown")),
+        match self.lines.is_empty() {
+            true => Ok(()),
+            false => Err(Stop::Refused(self.lines())),
         }
-        Err(Stop::Refused(lines))
+    }
+
+    fn lines(mut self) -> Vec<String> {
+        match self.more {
+            0 => (),
+            1 => self.lines.push("1 more fault is not shown".into()),
+            more => self.lines.push(format!("{more} more faults are not shown")),
+        }
+        self.lines
     }
 }
 
@@ -56,6 +68,9 @@ mod tests {
         assert_eq!(told(50).lines().count(), 50);
         assert!(told(50).ends_with("\nt, line 49: bad"));
         assert!(told(51).ends_with("\nt, line 49: bad\n1 more fault is not shown"));
+        let mut faults = Faults::default();
+        faults.add("t", "bad");
+        assert_eq!(faults.stop("u", "worse").to_string(), "t: bad\nu: worse");
         assert!(told(1050).ends_with("\nt, line 49: bad\n1000 more faults are not shown"));
     }
 }
