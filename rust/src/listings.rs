@@ -1,8 +1,9 @@
 //! Listings: for each feature all row numbers in ascending order of value.
 
+use crate::fault::{Breach, Fault, ListingFault};
 use crate::limits::MAX_ROWS;
 use crate::matrix::DenseMatrix;
-use crate::refusal::{Breach, Cause, Fault, ListingFault, Refusal};
+use crate::refusal::{Cause, Refusal};
 use crate::sizes;
 use tailboardy_sys::linked;
 

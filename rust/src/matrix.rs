@@ -1,6 +1,7 @@
 //! Feature values.
 
-use crate::refusal::{Cause, Fault, Refusal};
+use crate::fault::Fault;
+use crate::refusal::{Cause, Refusal};
 
 /// Feature values, a row for each fixture. It may hold any numbers: a fit refuses those that are not finite, while a prediction accepts
 /// them (a row with a NaN goes to the false child).

@@ -2,12 +2,17 @@
 
 use crate::format::{self, Format};
 use crate::input::STANDARD;
+use crate::nearest::nearest;
 use crate::number::quoted;
 use crate::output::Output;
+use crate::replace::{place_for, same_file};
 use crate::stop::Stop;
 use crate::{csv, record};
 use std::fmt::Write;
 use tailboardy::{MAX_TREES, RandomForestRegressorParameters, Splitter};
+
+/// More digits than this no number needs that is not very small.
+const MAX_DIGITS: u64 = 17;
 
 /// An option: its name, the name of its value (empty for a flag), and what it does.
 pub struct Choice {
@@ -73,7 +78,7 @@ impl Command {
                     said.push((name, value));
                 }
                 option if option.len() > 1 && option.starts_with('-') => {
-                    return Err(self.bad(&format!("there is no option {option}")));
+                    return Err(self.no_option(option));
                 }
                 _ => files.push(word.clone()),
             }
@@ -101,7 +106,7 @@ impl Command {
         };
         let mut choices = self.groups.iter().copied().flatten();
         let choice = choices.find(|choice| choice.name == name);
-        let choice = choice.ok_or_else(|| self.bad(&format!("there is no option {name}")))?;
+        let choice = choice.ok_or_else(|| self.no_option(name))?;
         match (choice.value, behind) {
             ("", None) => Ok((choice.name, String::new())),
             ("", Some(_)) => Err(self.bad(&format!("{name} takes no value"))),
@@ -113,12 +118,25 @@ impl Command {
         }
     }
 
+    fn no_option(&self, name: &str) -> Stop {
+        let names = self.groups.iter().copied().flatten().map(|it| it.name);
+        self.bad(&unknown("option", name, names))
+    }
+
     fn bad(&self, why: &str) -> Stop {
         Stop::Usage(format!(
             "{why}\nusage: {}\nsee `tailboardy {} --help`",
             self.usage(),
             self.name
         ))
+    }
+}
+
+/// That there is no command or option of this name, and which may be meant.
+pub fn unknown<'a>(what: &str, word: &str, names: impl Iterator<Item = &'a str>) -> String {
+    match nearest(word, names) {
+        Some(meant) => format!("there is no {what} {word}; did you mean {meant}?"),
+        None => format!("there is no {what} {word}"),
     }
 }
 
@@ -132,6 +150,25 @@ impl Args {
     /// Whether a flag was given.
     pub fn has(&self, name: &str) -> bool {
         self.get(name).is_some()
+    }
+
+    /// Where to write: to the file that `--out` names, or else to standard output. It is checked before any work is done that the file is
+    /// not one that is read, and that it can be written.
+    pub fn out(&self) -> Result<Option<String>, Stop> {
+        let Some(out) = self.get("--out").filter(|out| *out != "-") else {
+            return Ok(None);
+        };
+        let mut read = self
+            .files
+            .iter()
+            .map(String::as_str)
+            .chain(self.get("--listing"));
+        if read.any(|file| same_file(file, out)) {
+            let why = "this file is also read; choose another one";
+            return Err(Stop::Usage(format!("--out {out}: {why}")));
+        }
+        place_for(out)?;
+        Ok(Some(out.to_owned()))
     }
 
     /// The list of names that an option was given, separated like the cells of a table; `None` if it was not given.
@@ -162,6 +199,11 @@ impl Args {
             delimiter: delimiter.transpose()?,
             decimal: decimal.transpose()?,
         })
+    }
+
+    /// How many digits numbers have after the decimal sign, if that was given.
+    pub fn digits(&self) -> Result<Option<usize>, Stop> {
+        self.number("--digits", MAX_DIGITS)
     }
 
     fn number<N: TryFrom<u64>>(&self, name: &str, most: u64) -> Result<Option<N>, Stop> {

@@ -30,7 +30,7 @@ pub fn run(args: &Args) -> Result<Output, Stop> {
     }
     let checked = fitting.check();
     checked.map_err(|refusal| refused(&refusal, &show, listing.as_ref()))?;
-    let mut summary = Summary::default();
+    let mut summary = Summary::new(None);
     let file = show.csv.file();
     summary.add("show", file, format!("{file} can be used"));
     summary.show(&show);

@@ -90,13 +90,19 @@ const JSON: &[Choice] = &[choice(
     "report in JSON: one object on standard output, with the reasons if the input is refused",
 )];
 
+const DIGITS: &[Choice] = &[choice(
+    "--digits",
+    "N",
+    "round what is computed to so many digits after the decimal sign, up to 17; default: exact, so that the same bits are read back",
+)];
+
 const OUT: &[Choice] = &[choice(
     "--out",
     "FILE",
-    "where to write the corrections; default: standard output",
+    "where to write the table; default: standard output, which is also meant by -",
 )];
 
-pub const COMMANDS: [Command; 3] = [
+pub static COMMANDS: [Command; 3] = [
     Command {
         name: "check",
         files: &["SHOW.csv"],
@@ -112,7 +118,7 @@ pub const COMMANDS: [Command; 3] = [
         files: &["SHOW.csv"],
         about: "Fits a forest on a show and reports its out-of-bag error and importances",
         more: "The forest is not saved, since there is no file format for it yet. `correct` fits and predicts in one run.",
-        groups: &[COLUMNS, TABLES, GROWTH, JSON],
+        groups: &[COLUMNS, TABLES, GROWTH, DIGITS, JSON],
         run: fit::fit,
     },
     Command {
@@ -123,7 +129,7 @@ pub const COMMANDS: [Command; 3] = [
                the target. Without --features, the features are the columns of numbers that both shows have. Columns of numbers\n\
                that only the old show has are ignored, unless the new one has others that may be meant instead. A report on the\n\
                forest goes to standard error.",
-        groups: &[COLUMNS, TABLES, GROWTH, OUT],
+        groups: &[COLUMNS, TABLES, GROWTH, DIGITS, OUT],
         run: fit::correct,
     },
 ];

@@ -39,7 +39,7 @@ impl Csv {
     /// Reads a file. Rows with another number of cells than there are columns are faults, and left out of the table.
     pub fn read_on(file: &str, format: &Format, faults: &mut Faults) -> Result<Self, Stop> {
         let called = input::called(file);
-        let from = input::open(file).map_err(|error| faults.stop(called, &error.to_string()))?;
+        let from = input::open(file).map_err(|error| faults.stop(Stop::unread(called, &error)))?;
         Csv::read_from(called, from, format, faults)
     }
 
@@ -73,29 +73,27 @@ impl Csv {
                 quoted(self.cell(row, column).trim())
             )
         };
-        found.map_err(|unclear| match unclear {
-            Unclear::Both(point, comma) => faults.stop(
-                &self.file,
-                &format!(
-                    "the decimal sign is unclear: {} has a point, but {} a comma; \
-                     write all numbers alike, or say which sign it is with --decimal",
-                    at(point),
-                    at(comma)
-                ),
-            ),
+        let stop = |unclear| match unclear {
+            Unclear::Both(point, comma) => {
+                let (point, comma) = (at(point), at(comma));
+                let why = format!(
+                    "the decimal sign is unclear: {point} has a point, but {comma} a comma; \
+                     write all numbers alike, or say which sign it is with --decimal"
+                );
+                Stop::refused(&self.file, &why)
+            }
             Unclear::Thousands((row, column)) => {
                 let cell = self.cell(row, column).trim();
                 let sign = if cell.contains(',') { "comma" } else { "point" };
-                faults.stop(
-                    &self.place(row, column),
-                    &format!(
-                        "the {sign} in {} may be the decimal sign or stand between thousands; \
-                         say --decimal {sign}, or leave out thousands separators",
-                        quoted(cell)
-                    ),
-                )
+                let why = format!(
+                    "the {sign} in {} may be the decimal sign or stand between thousands; \
+                     say --decimal {sign}, or leave out thousands separators",
+                    quoted(cell)
+                );
+                Stop::refused(&self.place(row, column), &why)
             }
-        })
+        };
+        found.map_err(|unclear| faults.stop(stop(unclear)))
     }
 
     /// What separates the cells.

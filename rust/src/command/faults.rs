@@ -15,18 +15,27 @@ pub struct Faults {
 impl Faults {
     /// Adds a fault: where something is wrong, and what.
     pub fn add(&mut self, place: &str, why: &str) {
+        self.add_line(format!("{place}: {why}"));
+    }
+
+    fn add_line(&mut self, line: String) {
         if self.lines.len() < TOLD {
-            self.lines.push(format!("{place}: {why}"));
+            self.lines.push(line);
         } else {
             self.more += 1;
         }
     }
 
-    /// Adds a fault after which nothing more can be found out, and stops the run with all of them.
-    pub fn stop(&mut self, place: &str, why: &str) -> Stop {
-        self.add(place, why);
-        let all = std::mem::take(self);
-        Stop::Refused(all.lines())
+    /// Stops the run with all faults so far and with one after which nothing more can be found out.
+    pub fn stop(&mut self, last: Stop) -> Stop {
+        let mut all = std::mem::take(self);
+        match last {
+            Stop::Usage(_) => last,
+            Stop::Refused(lines) => {
+                lines.into_iter().for_each(|line| all.add_line(line));
+                Stop::Refused(all.lines())
+            }
+        }
     }
 
     /// Stops the run if there is any fault.
@@ -70,7 +79,10 @@ mod tests {
         assert!(told(51).ends_with("\nt, line 49: bad\n1 more fault is not shown"));
         let mut faults = Faults::default();
         faults.add("t", "bad");
-        assert_eq!(faults.stop("u", "worse").to_string(), "t: bad\nu: worse");
+        assert_eq!(
+            faults.stop(Stop::refused("u", "worse")).to_string(),
+            "t: bad\nu: worse"
+        );
         assert!(told(1050).ends_with("\nt, line 49: bad\n1000 more faults are not shown"));
     }
 }

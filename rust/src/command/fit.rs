@@ -6,7 +6,7 @@ use crate::faults::Faults;
 use crate::json::Json;
 use crate::listing::Listing;
 use crate::number::{self, Style};
-use crate::output::{Output, place_for, same_file};
+use crate::output::Output;
 use crate::progress::Progress;
 use crate::record;
 use crate::show::{Roles, Show, matrix};
@@ -19,6 +19,7 @@ struct Task<'a> {
     args: &'a Args,
     roles: Roles,
     parameters: RandomForestRegressorParameters,
+    digits: Option<usize>,
 }
 
 impl<'a> Task<'a> {
@@ -32,6 +33,7 @@ impl<'a> Task<'a> {
             args,
             roles,
             parameters: args.parameters()?,
+            digits: args.digits()?,
         })
     }
 }
@@ -49,13 +51,7 @@ pub fn fit(args: &Args) -> Result<Output, Stop> {
 /// Fits a forest on the old show and predicts the corrections of the new one.
 pub fn correct(args: &Args) -> Result<Output, Stop> {
     let task = Task::new(args)?;
-    let out = args.get("--out");
-    let listing = args.get("--listing");
-    let mut read = args.files.iter().map(String::as_str).chain(listing);
-    if out.is_some_and(|out| read.any(|file| same_file(file, out))) {
-        return Err(Stop::Usage("--out names a file that is also read".into()));
-    }
-    out.map_or(Ok(()), place_for)?;
+    let file = args.out()?;
     let format = args.format()?;
     let old = Csv::read(&args.files[0], &format)?;
     let new = Csv::read(&args.files[1], &format)?;
@@ -88,7 +84,7 @@ pub fn correct(args: &Args) -> Result<Output, Stop> {
     record::write(names.chain([name.as_str()]), new.delimiter(), &mut text);
     let style = Style {
         decimal: new.decimal(),
-        digits: None,
+        digits: task.digits,
     };
     for (row, mean) in means.iter().enumerate() {
         let cells = columns.iter().map(|column| new.cell(row, *column));
@@ -98,7 +94,7 @@ pub fn correct(args: &Args) -> Result<Output, Stop> {
     Ok(Output {
         beside: summary.text(),
         text,
-        file: out.map(str::to_owned),
+        file,
     })
 }
 
@@ -139,10 +135,10 @@ impl Task<'_> {
         if let Some(listing) = &listing {
             fitting = fitting.with_listings(&listing.listings);
         }
-        let forest = fitting.forest(&self.parameters);
+        let forest = fitting.forest(self.parameters);
         drop(progress);
         let forest = forest.map_err(|refusal| refused(&refusal, &show, listing.as_ref()))?;
-        let mut summary = Summary::default();
+        let mut summary = Summary::new(self.digits);
         summary.show(&show);
         summary.forest(&show, &forest, &self.parameters)?;
         Ok((show, forest, summary))

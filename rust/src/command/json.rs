@@ -1,6 +1,6 @@
 //! JSON text (RFC 8259), for programs that read what the command reports.
 
-use crate::number;
+use crate::number::{self, Style};
 use std::fmt::Write;
 
 /// A value. The members of an object keep their order.
@@ -69,21 +69,33 @@ impl Json {
         )
     }
 
-    /// The value on one line, without a line end.
-    pub fn write(&self) -> String {
+    /// The value on a line of its own. Its numbers have so many digits after the point, or else as many as it takes to read the same bits
+    /// back.
+    pub fn line(&self, digits: Option<usize>) -> String {
+        self.write(digits) + "\n"
+    }
+
+    fn write(&self, digits: Option<usize>) -> String {
         match self {
             Json::Null => "null".to_owned(),
             Json::Bool(yes) => yes.to_string(),
             Json::Whole(whole) => whole.to_string(),
-            Json::Number(number) => number::write(*number, &number::Style::EXACT),
+            Json::Number(number) => {
+                let style = Style {
+                    digits,
+                    ..Style::EXACT
+                };
+                number::write(*number, &style)
+            }
             Json::Text(text) => quoted(text),
             Json::List(values) => {
-                let values: Vec<String> = values.iter().map(Json::write).collect();
+                let values: Vec<String> = values.iter().map(|it| it.write(digits)).collect();
                 format!("[{}]", values.join(", "))
             }
             Json::Object(members) => {
-                let member =
-                    |(key, value): &(String, Json)| format!("{}: {}", quoted(key), value.write());
+                let member = |(key, value): &(String, Json)| {
+                    format!("{}: {}", quoted(key), value.write(digits))
+                };
                 let members: Vec<String> = members.iter().map(member).collect();
                 format!("{{{}}}", members.join(", "))
             }
@@ -137,7 +149,9 @@ mod tests {
                 "{\"a\\\"\": 1, \"b\": {}}",
             ),
         ] {
-            assert_eq!(value.write(), text);
+            assert_eq!(value.line(None), format!("{text}\n"));
         }
+        let rounded = Json::list([0.125, -0.001, 2.0]);
+        assert_eq!(rounded.line(Some(2)), "[0.12, 0.00, 2.00]\n");
     }
 }

@@ -31,22 +31,22 @@ pub fn read(
     format: &Format,
     faults: &mut Faults,
 ) -> Result<Reading, Stop> {
-    let input = Input::new(from, MOST).map_err(|error| faults.stop(file, &error.to_string()))?;
+    let input = Input::new(from, MOST).map_err(|error| faults.stop(Stop::unread(file, &error)))?;
     if let Some(why) = encoding::other(input.first()) {
-        return Err(faults.stop(file, &why));
+        return Err(faults.stop(Stop::refused(file, &why)));
     }
     let found = match format.delimiter {
         Some(said) => Ok(said),
         None => format::find_delimiter(input.first()),
     };
-    let delimiter = found.map_err(|why| faults.stop(file, &why))?;
+    let delimiter = found.map_err(|why| faults.stop(Stop::refused(file, &why)))?;
     let mut reader = Reader::new(input.all(), delimiter);
     let mut head = Cells::default();
     let wrong = |(line, why): (usize, String)| (format!("{file}, line {line}"), why);
     let line = match reader.record(&mut head).map_err(wrong) {
         Ok(Some(line)) => line,
-        Ok(None) => return Err(faults.stop(file, "the file is empty")),
-        Err((place, why)) => return Err(faults.stop(&place, &why)),
+        Ok(None) => return Err(faults.stop(Stop::refused(file, "the file is empty"))),
+        Err((place, why)) => return Err(faults.stop(Stop::refused(&place, &why))),
     };
     let mut reading = Reading {
         delimiter,
@@ -72,14 +72,15 @@ impl Reading {
         loop {
             let before = self.cells.len();
             let read = reader.record(&mut self.cells);
-            let read = read.map_err(|(line, why)| faults.stop(&place(line), &why))?;
+            let read =
+                read.map_err(|(line, why)| faults.stop(Stop::refused(&place(line), &why)))?;
             let Some(line) = read else {
                 break;
             };
             count += 1;
             if count > MAX_ROWS {
                 let why = format!("there are too many rows: the maximum is {MAX_ROWS}");
-                return Err(faults.stop(&place(line), &why));
+                return Err(faults.stop(Stop::refused(&place(line), &why)));
             }
             let is = self.cells.len() - before;
             if is == self.names.len() {
@@ -90,7 +91,7 @@ impl Reading {
             }
         }
         match count {
-            0 => Err(faults.stop(file, "there are column names but no rows")),
+            0 => Err(faults.stop(Stop::refused(file, "there are column names but no rows"))),
             _ => Ok(()),
         }
     }

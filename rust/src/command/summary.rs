@@ -21,35 +21,58 @@ pub struct Entry {
     pub text: String,
 }
 
-#[derive(Debug, Default)]
-pub struct Summary(Vec<Entry>);
+/// What is reported, and how many digits its numbers have after the decimal sign, if that was given.
+#[derive(Debug)]
+pub struct Summary {
+    entries: Vec<Entry>,
+    digits: Option<usize>,
+}
 
 impl Summary {
+    pub fn new(digits: Option<usize>) -> Self {
+        Summary {
+            entries: Vec::new(),
+            digits,
+        }
+    }
+
     pub fn add(&mut self, key: &'static str, value: impl Into<Json>, text: impl Into<String>) {
-        self.0.push(Entry {
+        self.entries.push(Entry {
             key,
             value: value.into(),
             text: text.into(),
         });
     }
 
+    /// A number as it is reported.
+    pub fn number(&self, number: f64) -> String {
+        let digits = self.digits;
+        let style = Style {
+            digits,
+            ..Style::EXACT
+        };
+        write(number, &style)
+    }
+
     /// A line for each entry.
     pub fn text(&self) -> String {
-        self.0.iter().map(|it| format!("{}\n", it.text)).collect()
+        let entries = self.entries.iter();
+        entries.map(|it| format!("{}\n", it.text)).collect()
     }
 
     /// An object with a member for each entry.
-    pub fn json(self) -> Json {
+    fn json(self) -> Json {
         let done = ("ok".to_owned(), true.into());
-        let entries = self.0.into_iter();
+        let entries = self.entries.into_iter();
         let members = entries.map(|it| (it.key.to_owned(), it.value));
         Json::Object([done].into_iter().chain(members).collect())
     }
 
     /// What is told on standard output: text, or JSON if that is requested.
     pub fn told(self, args: &Args) -> Output {
+        let digits = self.digits;
         Output::told(match args.has("--json") {
-            true => self.json().write() + "\n",
+            true => self.json().line(digits),
             false => self.text(),
         })
     }
@@ -85,7 +108,7 @@ impl Summary {
         self.trees(forest, parameters.seed);
         let means = forest.predict_oob(&show.x).map_err(failed)?;
         let error = means.error(&show.y).map_err(failed)?;
-        self.error(error, means.told(), show.csv.rows());
+        self.error(error, means.count(), show.csv.rows());
         let importances = forest.compute_feature_importances().map_err(failed)?;
         let ranked = importances.ranked();
         let name = |feature: usize| show.features[feature].as_str();
@@ -94,7 +117,7 @@ impl Summary {
             .map(|(feature, part)| (name(*feature), (*part).into()));
         let named = ranked
             .iter()
-            .map(|(feature, part)| format!("{} {}", name(*feature), write(*part, &Style::EXACT)));
+            .map(|(feature, part)| format!("{} {}", name(*feature), self.number(*part)));
         let text = format!("importances: {}", named.collect::<Vec<_>>().join(", "));
         self.add("importances", Json::object(parts), text);
         Ok(())
@@ -132,8 +155,8 @@ impl Summary {
         ]);
         let text = format!(
             "out-of-bag error: {} (square root {}); {told} of {rows} fixtures are left out by at least one tree",
-            write(error, &Style::EXACT),
-            write(root, &Style::EXACT),
+            self.number(error),
+            self.number(root),
         );
         self.add("out_of_bag", value, text);
     }

@@ -90,7 +90,9 @@ fn old_shows() {
          save the table as UTF-8, or convert it with `iconv -f WINDOWS-1252 -t UTF-8`",
     );
     let huge = "x,pan\n1,1e308\n2,1e308\n3,1e308\n";
-    let why = "NEW, line 2: the correction of line 2 is not a number: sums overflow because of very large targets or weights in OLD";
+    let why = "OLD: refusal 100 (not finite): the value of node 0 of tree 0 is inf; \
+               the targets or weights are too large, or the weights too small, to calculate with: \
+               multiply or divide all of them by a constant";
     corrected(huge, "x\n1\n", &[], why);
 }
 
@@ -215,7 +217,7 @@ const NAMED: &[[&str; 3]] = &[
     [
         "--listing",
         "/nowhere",
-        "/nowhere: No such file or directory (os error 2)",
+        "/nowhere: there is no such file; check its name and folder",
     ],
 ];
 
@@ -312,9 +314,9 @@ fn files_that_are_not_there() {
     for (file, why) in [
         (
             "/nowhere.csv",
-            "/nowhere.csv: No such file or directory (os error 2)",
+            "/nowhere.csv: there is no such file; check its name and folder",
         ),
-        ("/", "/: Is a directory (os error 21)"),
+        ("/", "/: it is a folder; name a file in it"),
     ] {
         let told = run(&["check", file]);
         assert_eq!(told.err, format!("tailboardy: {why}\n"));
