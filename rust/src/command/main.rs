@@ -13,6 +13,7 @@ mod fit;
 mod format;
 mod input;
 mod json;
+mod list;
 mod listing;
 mod nearest;
 mod number;

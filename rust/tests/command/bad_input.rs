@@ -253,9 +253,9 @@ fn weights() {
 const LISTINGS: &[[&str; 2]] = &[
     ["x,z\n0,0\n1,1\n2,2\n", ""],
     [
-        "x,z\n0,0\n1,1\n",
-        "LIST, column x: it ends after 2 of 3 rows, and row 2 is missing, which is line 4 of OLD (refusal 2, lengths)\n\
-         LIST, column z: it ends after 2 of 3 rows, and row 2 is missing, which is line 4 of OLD (refusal 2, lengths)",
+        "x,z\n0,0\n2,2\n",
+        "LIST, column x: it ends after 2 of 3 rows, and row 1 is missing, which is line 3 of OLD (refusal 2, lengths)\n\
+         LIST, column z: it ends after 2 of 3 rows, and row 1 is missing, which is line 3 of OLD (refusal 2, lengths)",
     ],
     [
         "x,z\n0,0\n2,1\n2,2\n",
@@ -264,10 +264,6 @@ const LISTINGS: &[[&str; 2]] = &[
     [
         "x,z\n0,0\n1,1\n2,3\n",
         "LIST, line 4, column z: there is no row 3; the last row is 2, and row 2 is missing, which is line 4 of OLD (refusal 5, listing)",
-    ],
-    [
-        "x,z\n1,0\n0,1\n2,2\n",
-        "LIST, line 3, column x: the value of row 0 is lower than that of row 1 before it (refusal 5, listing)",
     ],
     [
         "x\n0\n1\n2\n0\n",
