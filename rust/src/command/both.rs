@@ -34,12 +34,12 @@ impl Both {
             return Err(Stop::Usage(why.into()));
         }
         let format = args.format()?;
-        let mut old = Csv::read(&args.files[0], &format)?;
-        let mut new = Csv::read(&args.files[1], &format)?;
+        let mut faults = Faults::default();
+        let mut old = Csv::read_on(&args.files[0], &format, &mut faults)?;
+        let mut new = Csv::read_on(&args.files[1], &format, &mut faults)?;
         task.roles.name_fixtures(&mut new)?;
         // the old show may name its fixtures otherwise
         let _ = task.roles.name_fixtures(&mut old);
-        let mut faults = Faults::default();
         let mut chosen = task.roles.common(&mut old, &mut new, &mut faults)?;
         let x = matrix(&new, &chosen.features, &mut faults)?;
         let lacking = std::mem::take(&mut chosen.lacking);

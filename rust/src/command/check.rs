@@ -2,11 +2,10 @@
 
 use crate::args::Args;
 use crate::csv::Csv;
-use crate::faults::Faults;
 use crate::fit::refused;
 use crate::listing::Listing;
 use crate::output::Output;
-use crate::roles::{Roles, named};
+use crate::roles::Roles;
 use crate::show::Show;
 use crate::stop::Stop;
 use crate::summary::Summary;
@@ -14,18 +13,14 @@ use tailboardy::Fitting;
 
 /// Makes the proved checks of a fit on the data in the files.
 pub fn run(args: &Args) -> Result<Output, Stop> {
-    let roles = Roles::said(args)?;
+    let mut roles = Roles::said(args)?;
     let format = args.format()?;
-    let mut csv = Csv::read(&args.files[0], &format)?;
-    roles.name_fixtures(&mut csv)?;
     let listed = args.get("--listing");
     let listed = listed.map(|it| Csv::read(it, &format)).transpose()?;
-    let mut faults = Faults::default();
-    let chosen = match (&roles.features, &roles.target, &listed) {
-        (None, None, Some(listed)) => named(&roles.listed(listed)?, &mut csv, &mut faults)?,
-        _ => roles.features(&mut csv, &mut faults)?,
-    };
-    let show = Show::new(csv, &roles, chosen, faults)?;
+    if let (None, None, Some(listed)) = (&roles.features, &roles.target, &listed) {
+        roles.features = Some(roles.listed(listed)?);
+    }
+    let show = Show::read(args, &roles)?;
     let listing = Listing::of(listed, &show)?;
     let mut fitting = Fitting::new(&show.x, &show.y).with_weights(&show.weights);
     if let Some(listing) = &listing {

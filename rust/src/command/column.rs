@@ -154,12 +154,11 @@ pub fn differ(one: &str, other: &str, place: &str) -> String {
 #[cfg(test)]
 mod tests {
     use super::*;
-    use crate::format::Format;
 
     fn csv(name: &str, cells: &[&str]) -> Csv {
         let rows: String = cells.iter().map(|it| format!("{it},1\n")).collect();
         let text = format!("{name},pan\n{rows}");
-        Csv::read_from("t", text.as_bytes(), &Format::default()).unwrap()
+        Csv::of(&text)
     }
 
     fn left(name: &str, cells: &[&str]) -> Option<(String, String, bool)> {

@@ -1,7 +1,7 @@
 //! The commands, their options, and the functions that run them.
 
 use crate::args::{Choice, Command, choice};
-use crate::{check, correct, fit};
+use crate::{check, correct, fit, list};
 
 const COLUMNS: &[Choice] = &[
     choice("--target", "NAME", "the column to predict"),
@@ -25,12 +25,13 @@ const COLUMNS: &[Choice] = &[
         "A,B,..",
         "the columns that name a fixture in messages; they are not features",
     ),
-    choice(
-        "--listing",
-        "FILE",
-        "your own listings, instead of sorted ones: a column of row numbers for each feature",
-    ),
 ];
+
+const LISTING: &[Choice] = &[choice(
+    "--listing",
+    "FILE",
+    "your own listings, instead of sorted ones: a column of row numbers for each feature",
+)];
 
 const TABLES: &[Choice] = &[
     choice(
@@ -126,7 +127,7 @@ const OUT: &[Choice] = &[choice(
     "where to write the table; default: standard output, which is also meant by -",
 )];
 
-pub static COMMANDS: [Command; 3] = [
+pub static COMMANDS: [Command; 4] = [
     Command {
         name: "check",
         files: &["SHOW.csv"],
@@ -134,7 +135,7 @@ pub static COMMANDS: [Command; 3] = [
         more: "A listing is a table with a column for each feature, named as in the show. Its cells are row numbers, counted\n\
                from 0, in ascending order of the feature's values. Without --target and --features, the columns of the listing\n\
                are the features.",
-        groups: &[COLUMNS, TABLES, JSON],
+        groups: &[COLUMNS, LISTING, TABLES, JSON],
         run: check::run,
     },
     Command {
@@ -142,7 +143,7 @@ pub static COMMANDS: [Command; 3] = [
         files: &["SHOW.csv"],
         about: "Fits a forest on a show and reports its out-of-bag error and importances",
         more: "The forest is not saved, since there is no file format for it yet. `correct` fits and predicts in one run.",
-        groups: &[COLUMNS, TABLES, GROWTH, DIGITS, JSON],
+        groups: &[COLUMNS, LISTING, TABLES, GROWTH, DIGITS, JSON],
         run: fit::fit,
     },
     Command {
@@ -153,7 +154,16 @@ pub static COMMANDS: [Command; 3] = [
                that names the measurements outside the range of the old show. Without --features, the features are the columns of\n\
                measurements that both shows have. Those that only the old show has are ignored, unless the new one has others that\n\
                may be meant instead. Notes and a report on the forest go to standard error.",
-        groups: &[COLUMNS, TABLES, RANGE, GROWTH, SPREAD, DIGITS, OUT],
+        groups: &[COLUMNS, LISTING, TABLES, RANGE, GROWTH, SPREAD, DIGITS, OUT],
         run: correct::correct,
+    },
+    Command {
+        name: "list",
+        files: &["SHOW.csv"],
+        about: "Writes a fresh listing of a show, which --listing of the other commands takes",
+        more: "For each feature the rows are sorted by value, and rows with the same value by number. Row numbers count from 0, not\n\
+               counting the line of names. Which columns are listed goes to standard error.",
+        groups: &[COLUMNS, TABLES, OUT],
+        run: list::run,
     },
 ];

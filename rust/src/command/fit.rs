@@ -2,7 +2,6 @@
 
 use crate::args::Args;
 use crate::csv::Csv;
-use crate::faults::Faults;
 use crate::listing::Listing;
 use crate::output::Output;
 use crate::progress::Progress;
@@ -39,11 +38,7 @@ impl<'a> Task<'a> {
 /// Fits a forest and reports on it.
 pub fn fit(args: &Args) -> Result<Output, Stop> {
     let task = Task::new(args)?;
-    let mut csv = Csv::read(&args.files[0], &args.format()?)?;
-    task.roles.name_fixtures(&mut csv)?;
-    let mut faults = Faults::default();
-    let chosen = task.roles.features(&mut csv, &mut faults)?;
-    let show = Show::new(csv, &task.roles, chosen, faults)?;
+    let show = Show::read(args, &task.roles)?;
     let (_, summary) = task.fitted(&show)?;
     let mut output = summary.told(args);
     output.note(&show.notes);

@@ -44,7 +44,6 @@ pub fn twice(csv: &Csv) -> Option<String> {
 #[cfg(test)]
 mod tests {
     use super::*;
-    use crate::format::Format;
 
     #[test]
     fn ten_are_listed_and_the_others_counted() {
@@ -56,10 +55,7 @@ mod tests {
 
     #[test]
     fn names_that_are_there_twice() {
-        let twice = |text: &str| {
-            let csv = Csv::read_from("t", text.as_bytes(), &Format::default());
-            twice(&csv.unwrap())
-        };
+        let twice = |text: &str| twice(&Csv::of(text));
         assert_eq!(twice("fixture,x\na,1\nb,2\n,3\n,4\n"), None);
         assert_eq!(twice("truss,x\na,1\na,2\n"), None);
         let told = twice("x,fixture\n1,a\n2,b\n3, b \n4,a\n5,a\n").unwrap();

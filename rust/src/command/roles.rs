@@ -198,7 +198,7 @@ impl Chosen {
             let how = match left.usable {
                 true => {
                     let names = self.features.iter().chain([&left.column]);
-                    format!("; to use it as a measurement: --features {}", option(names))
+                    format!("; to use it all the same: --features {}", option(names))
                 }
                 false => String::new(),
             };
@@ -218,15 +218,14 @@ impl Chosen {
             .map(|it| format!("{}, because {}", quoted(&it.column), it.why));
         let left: Vec<String> = left.collect();
         let names = option(usable.iter().map(|it| &it.column));
-        format!(
-            "{why}; left out: {}; to use them as measurements: --features {names}",
-            left.join("; ")
-        )
+        let left = left.join("; ");
+        let them = if usable.len() == 1 { "it" } else { "them" };
+        format!("{why}; left out: {left}; to use {them} all the same: --features {names}")
     }
 }
 
 /// The columns with these names, which must all have numbers.
-pub fn named(names: &[String], show: &mut Csv, faults: &mut Faults) -> Result<Chosen, Stop> {
+fn named(names: &[String], show: &mut Csv, faults: &mut Faults) -> Result<Chosen, Stop> {
     let mut chosen = Chosen::default();
     for name in names {
         let column = show.column(name)?;

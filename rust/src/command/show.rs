@@ -1,5 +1,6 @@
 //! A show: a table whose columns have their roles, and their numbers.
 
+use crate::args::Args;
 use crate::csv::Csv;
 use crate::faults::Faults;
 use crate::fixtures::twice;
@@ -22,6 +23,15 @@ pub struct Show {
 }
 
 impl Show {
+    /// The show of a command that takes one.
+    pub fn read(args: &Args, roles: &Roles) -> Result<Self, Stop> {
+        let mut faults = Faults::default();
+        let mut csv = Csv::read_on(&args.files[0], &args.format()?, &mut faults)?;
+        roles.name_fixtures(&mut csv)?;
+        let chosen = roles.features(&mut csv, &mut faults)?;
+        Show::new(csv, roles, chosen, faults)
+    }
+
     /// A show, unless there is a fault here or before.
     pub fn new(
         mut csv: Csv,
