@@ -257,3 +257,25 @@ fn a_reader_that_stops_early_is_no_error() {
     let line = "standard output: it was closed before everything was written\n";
     assert!(err.ends_with(line), "{err}");
 }
+
+#[test]
+fn a_pipe_whose_reader_stops_early_is_told() {
+    let folder = Folder::new("pipe");
+    let (old, new, pipe) = (show("old-house.csv"), many(&folder), folder.path("pipe"));
+    let made = Command::new("mkfifo").arg(&pipe).status().unwrap();
+    assert!(made.success());
+    let words = ["correct", &old, &new, "--target", "pan", "--n-trees", "3"];
+    let child = command(&[&words[..], &["--out", &pipe]].concat())
+        .stderr(Stdio::piped())
+        .spawn()
+        .unwrap();
+    let mut first = [0; 7];
+    File::open(&pipe).unwrap().read_exact(&mut first).unwrap();
+    let told = told(child.wait_with_output().unwrap());
+    assert_eq!(told.status, Some(1));
+    let why = "the program that reads it stopped before the end; start both again";
+    assert_eq!(
+        told.err,
+        format!("tailboardy: {pipe}: Broken pipe (os error 32); {why}\n")
+    );
+}
