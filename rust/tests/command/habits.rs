@@ -186,6 +186,19 @@ fn a_dash_is_standard_output() {
 }
 
 #[test]
+fn standard_input_is_not_written_over() {
+    let folder = Folder::new("over");
+    let new = folder.write("new.csv", fs::read(show("new-house.csv")).unwrap());
+    let old = show("old-house.csv");
+    let words = ["correct", &old, "-", "--target", "pan", "--out", &new];
+    let from = File::open(&new).unwrap();
+    let told = told(command(&words).stdin(from).output().unwrap());
+    let why = "this file is also read; choose another one";
+    assert_eq!(told.err, format!("tailboardy: --out {new}: {why}\n"));
+    assert_eq!(told.status, Some(2));
+}
+
+#[test]
 fn a_files_mode_is_kept() {
     let folder = Folder::new("mode");
     let out = folder.write("out.csv", "old");
