@@ -5,6 +5,7 @@ use crate::faults::Faults;
 use crate::measure::{self, Holds};
 use crate::number::quoted;
 use crate::numbering::{counted, is_numbering};
+use crate::units::is_known;
 
 /// What a column that was given no role can be used for.
 #[derive(Debug)]
@@ -42,6 +43,7 @@ impl Use {
         let place = || format!("{}, column {name}", csv.file());
         match Holds::of(csv.cells(column), csv.decimal()) {
             Holds::Words => Use::Words,
+            Holds::Unit(unit) if is_known(&unit) => Use::Measured(unit),
             holds if is_numbering(name) => {
                 let usable = matches!(holds, Holds::Numbers | Holds::Unit(_));
                 let why = "its name says that it numbers or names fixtures";
@@ -85,12 +87,18 @@ pub fn tell(csv: &Csv, column: usize, holds: &Holds, remedy: &str, faults: &mut 
         Holds::Numbers | Holds::Unit(_) => return,
         Holds::Words => {
             let filled = |row: &usize| !csv.cell(*row, column).trim().is_empty();
-            let row = (0..csv.rows()).find(filled).unwrap_or(0);
-            let all = match csv.rows() {
-                1 => "",
-                _ => ", and neither is any other cell of the column",
-            };
-            (row, wrong(row) + all)
+            match (0..csv.rows()).find(filled) {
+                row if csv.rows() == 1 => (row.unwrap_or(0), wrong(0)),
+                Some(row) => {
+                    let why = wrong(row) + ", and neither is any other cell of the column";
+                    (row, why)
+                }
+                None => {
+                    let place = format!("{}, column {}", csv.file(), csv.names()[column]);
+                    let why = "every cell is empty; a number is required in each";
+                    return faults.add(&place, &format!("{why}{remedy}"));
+                }
+            }
         }
         Holds::OnlyNumber { row } => {
             let why = format!("{} is the only number in the column", cell(row));
@@ -109,8 +117,8 @@ pub fn tell(csv: &Csv, column: usize, holds: &Holds, remedy: &str, faults: &mut 
             );
             (word, why)
         }
-        Holds::Parts { row } => {
-            let why = "is in two units; write it as one number in one unit";
+        Holds::Odd { row } => {
+            let why = "is not one number in one unit; write it as one";
             (row, format!("{} {why}", cell(row)))
         }
         Holds::Units { row, other } => {
@@ -194,6 +202,7 @@ mod tests {
         );
         assert_eq!(left("trim", &["7.5", "8", "9"]), None);
         assert_eq!(left("fixture", &["a", "b", "c"]), None);
+        assert_eq!(left("line", &["4 m", "5 m", "6 m"]), None);
     }
 
     fn faults(cells: &[&str]) -> Vec<String> {
@@ -249,7 +258,11 @@ mod tests {
             ),
             (
                 &["18'6", "19"],
-                &["2: \"18\\'6\" is in two units; write it as one number in one unit; or so"],
+                &["2: \"18'6\" is not one number in one unit; write it as one; or so"],
+            ),
+            (
+                &["", ""],
+                &["t: every cell is empty; a number is required in each; or so"],
             ),
         ] {
             assert_eq!(faults(cells), told);

@@ -9,8 +9,8 @@ enum Cell<'a> {
     Empty,
     Number,
     Unit(&'a str),
-    /// Several numbers that are one together, each with a unit: feet and inches, or degrees and minutes.
-    Parts,
+    /// A measurement that is not one number: feet and inches, degrees and minutes, `1-4 m`, or with gaps between thousands.
+    Odd,
     Word,
 }
 
@@ -25,8 +25,8 @@ pub enum Holds {
         row: usize,
         other: usize,
     },
-    /// Numbers of which this one is in parts.
-    Parts {
+    /// Numbers, but this measurement is not one number.
+    Odd {
         row: usize,
     },
     Words,
@@ -85,7 +85,7 @@ struct Kinds {
     others: Tally,
     /// Whether any of the units is known.
     known: bool,
-    parts: Tally,
+    odd: Tally,
     words: Tally,
 }
 
@@ -94,7 +94,7 @@ impl Kinds {
         match cell {
             Cell::Empty => (),
             Cell::Number => self.bare.add(row),
-            Cell::Parts => self.parts.add(row),
+            Cell::Odd => self.odd.add(row),
             Cell::Word => self.words.add(row),
             Cell::Unit(unit) => {
                 self.known |= is_known(unit);
@@ -111,11 +111,11 @@ impl Kinds {
 
     fn holds(self) -> Holds {
         let (with, words) = (self.with.and(self.others), self.words);
-        let all = self.bare.and(with).and(self.parts).and(words);
+        let all = self.bare.and(with).and(self.odd).and(words);
         let one = self.others.count == 0 && 2 * with.count > all.count;
         let (numbers, words) = match self.known || one {
-            true => (self.bare.and(with).and(self.parts), words),
-            false => (self.bare.and(self.parts), words.and(with)),
+            true => (self.bare.and(with).and(self.odd), words),
+            false => (self.bare.and(self.odd), words.and(with)),
         };
         match (numbers.first, words.first) {
             (None, _) => Holds::Words,
@@ -129,8 +129,8 @@ impl Kinds {
     /// What is in a column without words.
     fn numbers(self) -> Holds {
         let differs = self.bare.and(self.others).first;
-        match (self.parts.first, self.with.first, differs) {
-            (Some(row), _, _) => Holds::Parts { row },
+        match (self.odd.first, self.with.first, differs) {
+            (Some(row), _, _) => Holds::Odd { row },
             (None, None, _) => Holds::Numbers,
             (None, Some(_), None) => Holds::Unit(self.unit),
             (None, Some(row), Some(other)) => Holds::Units { row, other },
@@ -148,8 +148,8 @@ fn cell(text: &str, decimal: Decimal) -> Cell<'_> {
         Cell::Number
     } else if is_number(front) && is_unit(unit) {
         Cell::Unit(unit)
-    } else if in_parts(text, decimal) {
-        Cell::Parts
+    } else if is_odd(text, decimal) {
+        Cell::Odd
     } else {
         Cell::Word
     }
@@ -165,7 +165,7 @@ fn parts(text: &str) -> (&str, &str) {
 /// Whether a cell is a number, on its own or with a known unit.
 pub fn is_number(text: &str, decimal: Decimal) -> bool {
     match cell(text, decimal) {
-        Cell::Number | Cell::Parts => true,
+        Cell::Number | Cell::Odd => true,
         Cell::Unit(unit) => is_known(unit),
         Cell::Empty | Cell::Word => false,
     }
@@ -174,6 +174,27 @@ pub fn is_number(text: &str, decimal: Decimal) -> bool {
 /// The unit of a cell that is a number with a unit.
 pub fn unit(cell: &str) -> &str {
     parts(cell.trim()).1
+}
+
+/// Whether a cell that cannot be read as a number is a measurement all the same.
+fn is_odd(text: &str, decimal: Decimal) -> bool {
+    let (front, unit) = parts(text);
+    let plain = !front.is_empty() && !front.contains(char::is_alphabetic);
+    let begins = text.starts_with(|it: char| it.is_ascii_digit() || "+-".contains(it));
+    begins && ((plain && is_known(unit)) || in_parts(text, decimal) || has_gaps(text))
+}
+
+/// Whether a cell is a number with gaps between thousands: `4 200`.
+fn has_gaps(text: &str) -> bool {
+    let digits = |text: &str| text.bytes().all(|it| it.is_ascii_digit());
+    let text = text.trim_start_matches(['+', '-']);
+    let whole = text.split(['.', ',']).next().unwrap_or_default();
+    let gaps = [' ', '\u{a0}', '\u{2009}', '\u{202f}', '\'', '’'];
+    let mut groups = whole.split(gaps);
+    let first = groups.next().unwrap_or_default();
+    let begins = (1..=3).contains(&first.len()) && digits(first);
+    let rest: Vec<&str> = groups.collect();
+    begins && !rest.is_empty() && rest.iter().all(|it| it.len() == 3 && digits(it))
 }
 
 /// Whether a cell is several numbers with known units, of which the last may be missing: `18' 6"`, `5 ft 6 in`, `12°30`.
@@ -210,13 +231,18 @@ mod tests {
             ("6\"", Cell::Unit("\"")),
             ("12A", Cell::Unit("A")),
             ("3 m left", Cell::Unit("m left")),
-            ("18'6\"", Cell::Parts),
-            ("5 ft 6 in", Cell::Parts),
-            ("12°30", Cell::Parts),
-            ("4,2 m", Cell::Word),
+            ("18'6\"", Cell::Odd),
+            ("5 ft 6 in", Cell::Odd),
+            ("12°30", Cell::Odd),
+            ("4,2 m", Cell::Odd),
+            ("1-4 m", Cell::Odd),
+            ("-4 200 mm", Cell::Odd),
+            ("4\u{a0}200.5", Cell::Odd),
+            ("1'234'567", Cell::Odd),
+            ("4 20", Cell::Word),
+            ("10.0.0.12", Cell::Word),
             ("m", Cell::Word),
             ("LX12", Cell::Word),
-            ("1-4 m", Cell::Word),
             ("2nd electric of the house", Cell::Word),
             ("1e400", Cell::Word),
             ("4.2 (m)", Cell::Word),
@@ -246,7 +272,8 @@ mod tests {
         assert_eq!(holds(&["4.2 m", "4.3 m", "430 cm"]), units(0, 2));
         assert_eq!(holds(&["4.2", "4.3 m"]), units(1, 0));
         assert_eq!(holds(&["3 m left", "3 m right"]), units(0, 1));
-        assert_eq!(holds(&["4 m", "18'6\""]), Holds::Parts { row: 1 });
+        assert_eq!(holds(&["4 m", "18'6\""]), Holds::Odd { row: 1 });
+        assert_eq!(holds(&["4 200", "5 100"]), Holds::Odd { row: 0 });
         // names, since none of these is a unit
         assert_eq!(holds(&["1A", "1B", "2A", "2B"]), Holds::Words);
         assert_eq!(holds(&["FOH", "3x", "BOX"]), Holds::Words);
