@@ -2,7 +2,7 @@
 
 use crate::decimal::Kind;
 use crate::number::Decimal;
-use crate::record::{Cells, Reader};
+use crate::record::{self, Cells, Reader};
 
 /// The separators, and what the command calls them, one and several.
 const DELIMITERS: [(char, &str, &str); 4] = [
@@ -39,7 +39,7 @@ pub fn decimal(said: &str) -> Option<Decimal> {
 }
 
 /// The name of a separator for more than one of it.
-pub fn several(delimiter: char) -> &'static str {
+fn several(delimiter: char) -> &'static str {
     let named = DELIMITERS.iter().find(|it| it.0 == delimiter);
     named.map_or("separators", |it| it.2)
 }
@@ -108,8 +108,11 @@ impl Split {
 }
 
 /// The separator of a table with these first lines: the one that splits head and rows into the same number of cells, more than one. If
-/// several do, the one that makes the most columns of numbers. The comma, if there is no sign of any.
+/// several do, the one that makes the most columns of numbers. The comma, if there is no sign of any. A table may also name it itself.
 pub fn find_delimiter(first: &[u8]) -> Result<char, String> {
+    if let Some(named) = record::named(first).and_then(|it| delimiter(&it.to_string())) {
+        return Ok(named);
+    }
     let splits = DELIMITERS.map(|it| Split::new(first, it.0));
     let fit = || splits.iter().filter(|it| it.fits());
     let most = fit().map(|it| it.numbers).max();
@@ -154,6 +157,10 @@ mod tests {
             ("a;b;c\n1;2;3\n1;2\n1,5;2;3\n", ';'),
             ("a;b;c\n1,2\n", ';'),
             ("a,b;c\n1\n", ','),
+            // it says so itself
+            ("sep=;\na,b;c,d\n1,2;3,4\n", ';'),
+            ("\u{feff}sep=\t\r\na,b\r\n1,2\r\n", '\t'),
+            ("sep=:\na,b\n1,2\n", ','),
             // a quote that one of them cannot read
             ("a;b\n\"1\";\"2,5\"\n", ';'),
         ] {

@@ -167,6 +167,7 @@ mod tests {
         assert_eq!(read("\"a\",b\n\"1\" ,2\n3,\"\""), plain);
         assert_eq!(read("a;b\r1;2\r3;\r"), plain);
         assert_eq!(read("a\tb\n1\t2\r\n3\t"), plain);
+        assert_eq!(read("sep=;\r\na;b\r\n1;2\r\n3;\r\n"), plain);
         assert_eq!(read("\n |\n\ra|b\r\r\n\n1|2\n  \n|\n3|\n\n"), plain);
         let quotes = table(&[
             &["a", "b"],

@@ -5,6 +5,7 @@ mod habits;
 mod json;
 mod listings;
 mod shows;
+mod tables;
 mod usage;
 
 use std::fs;
