@@ -192,7 +192,8 @@ impl Csv {
             let names = self.names();
             let there: Vec<String> = names.iter().take(20).map(|it| quoted(it)).collect();
             let more = if names.len() > 20 { ", .." } else { "" };
-            let split = format::other_than(self.read.delimiter, &[&self.read.written]);
+            let split = format::more_of(self.read.delimiter, &[&self.read.written]);
+            let split = split.map_or(String::new(), |it| format!("; {it}"));
             Stop::refused(
                 &self.head(),
                 &format!(

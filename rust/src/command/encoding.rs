@@ -2,7 +2,7 @@
 
 use crate::number::quoted;
 
-const ZERO: &str = "there is a zero byte, so this is not text";
+const ZERO: &str = "there is a zero byte, so this is not text; save the table as CSV, in UTF-8";
 
 /// What a file is, if its first bytes tell that it is not a table in UTF-8.
 pub fn other(first: &[u8]) -> Option<String> {

@@ -12,6 +12,9 @@ const DELIMITERS: [(char, &str, &str); 4] = [
     ('|', "bar", "bars"),
 ];
 
+/// How messages begin that name the separator.
+pub const SPLIT: &str = "cells were split at";
+
 /// How many rows are looked at to find out what separates cells.
 const SOME: usize = 100;
 
@@ -38,34 +41,22 @@ pub fn decimal(said: &str) -> Option<Decimal> {
     }
 }
 
-/// The name of a separator for more than one of it.
-fn several(delimiter: char) -> &'static str {
+/// The name of a separator, and that of several.
+pub fn names(delimiter: char) -> (&'static str, &'static str) {
     let named = DELIMITERS.iter().find(|it| it.0 == delimiter);
-    named.map_or("separators", |it| it.2)
+    named.map_or(("separator", "separators"), |it| (it.1, it.2))
 }
 
-/// Says what cells were split at and, if these lines have more of another separator, what they have more of.
-pub fn split_at(delimiter: char, lines: &[&[u8]]) -> String {
-    let split = format!("cells were split at {}", several(delimiter));
-    more_of(delimiter, lines).map_or(split.clone(), |more| format!("{split}, but {more}"))
-}
-
-/// Says the same, but only if there is more of another separator.
-pub fn other_than(delimiter: char, lines: &[&[u8]]) -> String {
-    let more = more_of(delimiter, lines);
-    more.map_or(String::new(), |_| {
-        format!("; {}", split_at(delimiter, lines))
-    })
-}
-
-fn more_of(delimiter: char, lines: &[&[u8]]) -> Option<String> {
+/// What cells were split at, if these lines have more of another separator, and of which.
+pub fn more_of(delimiter: char, lines: &[&[u8]]) -> Option<String> {
     let count = |delimiter: char| {
         let bytes = lines.iter().flat_map(|it| it.iter());
         bytes.filter(|it| char::from(**it) == delimiter).count()
     };
-    let (most, name, names) = DELIMITERS.iter().rev().max_by_key(|it| count(it.0))?;
+    let (most, one, several) = DELIMITERS.iter().rev().max_by_key(|it| count(it.0))?;
+    let taken = names(delimiter).1;
     let more = count(*most) > count(delimiter);
-    more.then(|| format!("there are more {names}; try --delimiter {name}"))
+    more.then(|| format!("{SPLIT} {taken}, but there are more {several}; try --delimiter {one}"))
 }
 
 /// What a separator makes of the first lines.
@@ -121,9 +112,9 @@ pub fn find_delimiter(first: &[u8]) -> Result<char, String> {
         [one] => Ok(one.delimiter),
         [one, other, ..] => Err(format!(
             "its cells could be separated by {} ({} to a row) or by {} ({} to a row); say which with --delimiter",
-            several(one.delimiter),
+            names(one.delimiter).1,
             one.names,
-            several(other.delimiter),
+            names(other.delimiter).1,
             other.names
         )),
         [] => {

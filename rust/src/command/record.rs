@@ -120,7 +120,7 @@ impl<R: BufRead> Reader<R> {
         let mut first = self.line == 0;
         loop {
             let Some(text) = self.text()? else {
-                let open = "a quote is opened but never closed";
+                let open = "a quote is opened but never closed; put one at the end of the cell";
                 return begin.map_or(Ok(None), |line| Err((line, open.into())));
             };
             let named = first && named(text.as_bytes()).is_some();
@@ -185,7 +185,9 @@ impl At {
             (At::Behind, ' ' | '\t') => Ok(At::Behind),
             (At::Behind, _) => {
                 let letter = quoted(&letter.to_string());
-                Err(format!("{letter} follows a closing quote"))
+                Err(format!(
+                    "{letter} follows a closing quote; double the quotes that belong to the text"
+                ))
             }
         }
     }

@@ -217,7 +217,7 @@ fn tables_that_cannot_be_split_are_told_with_their_separator() {
         "fixture;x;pan\na;1,5;2\nb;2\n",
         &[],
         &format!(
-            "SHOW, line 3: {}; cells were split at semicolons",
+            "SHOW, line 3: {}; cells were split at semicolons, so an empty cell needs its semicolon too",
             cells(2, 3)
         ),
     );
@@ -305,8 +305,7 @@ fn all_faults_are_told_up_to_fifty() {
     assert_eq!(lines[50], "tailboardy: 70 more faults are not shown");
     let few = format!("x,z,pan\n5,6,7\n{}", rows(4));
     let told = checked(few, &["--target", "pan"]);
-    let uneven =
-        "the number of cells is 4, but the number of columns is 3; cells were split at commas";
+    let uneven = "the number of cells is 4, but the number of columns is 3; cells were split at commas, so a cell with a comma in it must be in quotes";
     let empty = "column x: the cell is empty; a number is required";
     assert_eq!(
         told.err,
@@ -347,7 +346,10 @@ fn one_file_may_be_standard_input() {
         told.err
     );
     let told = piped(&["check", "-"], b"");
-    assert_eq!(told.err, "tailboardy: standard input: the file is empty\n");
+    assert_eq!(
+        told.err,
+        "tailboardy: standard input: the file is empty; a table has a line of column names, and a row for each fixture\n"
+    );
     for words in [
         &["correct", "-", "-", "--target", "pan"][..],
         &["check", "-", "--listing", "-"],
@@ -362,7 +364,7 @@ fn one_file_may_be_standard_input() {
 /// A file without end is read up to the limit, or not even that far if it cannot be a table.
 #[test]
 fn reading_comes_to_an_end() {
-    let why = "tailboardy: /dev/zero: there is a zero byte, so this is not text\n";
+    let why = "tailboardy: /dev/zero: there is a zero byte, so this is not text; save the table as CSV, in UTF-8\n";
     assert_eq!(run(&["check", "/dev/zero"]).err, why);
     let mut command = command(&["check", "-"]);
     let command = command
@@ -377,6 +379,6 @@ fn reading_comes_to_an_end() {
     });
     let told = told(child.wait_with_output().unwrap());
     endless.join().unwrap();
-    let why = "tailboardy: standard input, line 1: there is more than 512 MiB to read, the most that a table may have\n";
+    let why = "tailboardy: standard input, line 1: there is more than 512 MiB to read, the most that a table may have; leave out what is not needed\n";
     assert_eq!((told.status, told.err.as_str()), (Some(1), why));
 }
