@@ -158,11 +158,11 @@ impl Args {
         let Some(out) = self.get("--out").filter(|out| *out != "-") else {
             return Ok(None);
         };
-        let mut read = self
-            .files
-            .iter()
-            .map(String::as_str)
-            .chain(self.get("--listing"));
+        let read = self.files.iter().map(String::as_str);
+        let mut read = read.chain(self.get("--listing")).map(|file| match file {
+            STANDARD => "/dev/stdin",
+            file => file,
+        });
         if read.any(|file| same_file(file, out)) {
             let why = "this file is also read; choose another one";
             return Err(Stop::Usage(format!("--out {out}: {why}")));

@@ -94,7 +94,7 @@ const JSON: &[Choice] = &[choice(
 const DIGITS: &[Choice] = &[choice(
     "--digits",
     "N",
-    "round what is computed to so many digits after the decimal sign, up to 17; default: exact, so that the same bits are read back",
+    "how many digits to round to after the decimal sign, up to 17; default: as many as it takes to read the same bits back",
 )];
 
 const OUT: &[Choice] = &[choice(
