@@ -23,6 +23,8 @@ const SOME: usize = 100;
 pub struct Format {
     pub delimiter: Option<char>,
     pub decimal: Option<Decimal>,
+    /// Whether rows with empty cells may be left out.
+    pub skip_incomplete: bool,
 }
 
 /// A separator by its character or its name.

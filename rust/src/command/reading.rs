@@ -18,9 +18,10 @@ const EMPTY: &str =
 #[derive(Debug)]
 pub struct Reading {
     pub delimiter: char,
-    /// The names of the columns, the line that they are on, and what that line is.
+    /// The names of the columns, and the line that they are on.
     pub names: Vec<String>,
     pub head: usize,
+    /// That line and the first row, as they are written.
     pub written: Vec<u8>,
     /// The cells of all rows, and the line on which each row begins.
     pub cells: Cells,
@@ -81,6 +82,9 @@ impl Reading {
                 break;
             };
             count += 1;
+            if count == 1 {
+                self.written.extend_from_slice(reader.last_line());
+            }
             if count > MAX_ROWS {
                 let why =
                     format!("there are too many rows: leave some out, the maximum is {MAX_ROWS}");
@@ -108,12 +112,14 @@ impl Reading {
         let names = self.names.len();
         let cells = format!("the number of cells is {is}, but the number of columns is {names}");
         let (one, several) = format::names(self.delimiter);
+        let split = format!("{cells}; {SPLIT} {several}");
         match format::more_of(self.delimiter, &[&self.written, line]) {
             Some(other) => format!("{cells}; {other}"),
-            None if is > names => format!(
-                "{cells}; {SPLIT} {several}, so a cell with a {one} in it must be in quotes"
-            ),
-            None => format!("{cells}; {SPLIT} {several}, so an empty cell needs its {one} too"),
+            None if names == 1 => format!("{split}, so the first line must have a name for each"),
+            None if is > names => {
+                format!("{split}, so a cell with a {one} in it must be in quotes")
+            }
+            None => format!("{split}, so an empty cell needs its {one} too"),
         }
     }
 }
@@ -221,7 +227,7 @@ mod tests {
             let blank = |row: &Vec<String>| row.iter().all(|cell| cell.trim().is_empty());
             let format = Format {
                 delimiter: Some(read.delimiter),
-                decimal: None,
+                ..Format::default()
             };
             let same = || reading(&again, &format).map(|it| rows(&it)) == Ok(rows(&read));
             assert!(
@@ -269,6 +275,12 @@ mod tests {
                 &format!(
                     "t, line 3: the number of cells is 1, but the number of columns is 2; {commas}, so an empty cell needs its comma too\n\
                      t, line 5: the number of cells is 3, but the number of columns is 2; {commas}, so a cell with a comma in it must be in quotes"
+                ),
+            ),
+            (
+                "The house\na,b\n",
+                &format!(
+                    "t, line 2: the number of cells is 2, but the number of columns is 1; {commas}, so the first line must have a name for each"
                 ),
             ),
             (
