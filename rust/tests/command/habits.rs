@@ -32,6 +32,26 @@ fn help_and_version_are_found_where_they_are_looked_for() {
     assert!(run(&["-V"]).out.starts_with("tailboardy "));
 }
 
+/// What docs/COMMAND.md shows after a command with a dollar sign, run from the root of the repository, is what the command writes.
+#[test]
+fn the_page_shows_what_is_written() {
+    let root = format!("{}/..", env!("CARGO_MANIFEST_DIR"));
+    let page = fs::read_to_string(format!("{root}/docs/COMMAND.md")).unwrap();
+    let blocks = page.split("\n    $ tailboardy ").skip(1);
+    let mut runs = 0;
+    for block in blocks {
+        let mut lines = block.lines();
+        let words: Vec<&str> = lines.next().unwrap().split(' ').collect();
+        let shown = lines.map_while(|line| line.strip_prefix("    "));
+        let shown: Vec<&str> = shown.take_while(|line| !line.starts_with("$ ")).collect();
+        let told = told(command(&words).current_dir(&root).output().unwrap());
+        let all = [told.out, told.err].concat();
+        assert_eq!(all.lines().collect::<Vec<_>>(), shown, "{words:?}");
+        runs += 1;
+    }
+    assert!(runs > 0);
+}
+
 #[test]
 fn what_may_be_meant_is_suggested() {
     for (words, why) in [

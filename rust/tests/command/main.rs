@@ -1,9 +1,12 @@
 //! The command, run as a user runs it: on shows/, and on files that are wrong.
 
 mod bad_input;
+mod columns;
+mod faults;
 mod habits;
 mod json;
 mod listings;
+mod outside;
 mod shows;
 mod tables;
 mod usage;

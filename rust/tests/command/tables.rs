@@ -7,7 +7,7 @@ use std::process::Stdio;
 use std::thread;
 
 /// Runs `correct` on files with these texts.
-fn corrected(old: impl AsRef<[u8]>, new: impl AsRef<[u8]>, more: &[&str]) -> Run {
+pub(crate) fn corrected(old: impl AsRef<[u8]>, new: impl AsRef<[u8]>, more: &[&str]) -> Run {
     let folder = Folder::new("tables");
     let (old, new) = (folder.write("old.csv", old), folder.write("new.csv", new));
     let told = run(&[&["correct", &old, &new, "--target", "pan"], more].concat());
@@ -18,7 +18,7 @@ fn corrected(old: impl AsRef<[u8]>, new: impl AsRef<[u8]>, more: &[&str]) -> Run
 }
 
 /// Runs `check` on a file with this text.
-fn checked(text: impl AsRef<[u8]>, more: &[&str]) -> Run {
+pub(crate) fn checked(text: impl AsRef<[u8]>, more: &[&str]) -> Run {
     let folder = Folder::new("table");
     let file = folder.write("show.csv", text);
     let told = run(&[&["check", &file], more].concat());
@@ -232,7 +232,7 @@ fn tables_that_cannot_be_split_are_told_with_their_separator() {
     refused(
         "fixture,x,pan\na,1,2\n",
         &["--delimiter", "tab", "--target", "pan"],
-        "SHOW, line 1: there is no column \"pan\"; there are \"fixture,x,pan\"; \
+        "SHOW: there is no column of measurements besides target and weight; \
          cells were split at tabs, but there are more commas; try --delimiter comma",
     );
     refused(
@@ -269,50 +269,6 @@ fn other_encodings_are_told_with_what_to_do() {
         b"x,pan\n1,\xc3\x28\x01\n",
         &[],
         "SHOW, line 2: the text is not valid UTF-8; save the table as UTF-8",
-    );
-}
-
-#[test]
-fn empty_cells_are_told_by_fixture_and_column() {
-    let told = checked(
-        "fixture,x,pan\nLX1,1,2\nLX2,,3\nLX3,4,\n",
-        &["--target", "pan"],
-    );
-    assert_eq!(
-        told.err,
-        "tailboardy: SHOW, line 4, column pan: the cell of LX3 is empty; a number is required\n\
-         tailboardy: SHOW, line 3, column x: the cell of LX2 is empty; a number is required\n"
-    );
-    let told = checked("bar,pos,x,pan\nFOH,1,5,2\nFOH,2,,3\n", &["--id", "bar,pos"]);
-    assert!(
-        told.err
-            .contains("line 3, column x: the cell of FOH 2 is empty"),
-        "{}",
-        told.err
-    );
-}
-
-#[test]
-fn all_faults_are_told_up_to_fifty() {
-    let rows = |count: usize| -> String {
-        let row = |row: usize| if row % 2 == 0 { ",1,2\n" } else { "1,,2,\n" };
-        (0..count).map(row).collect()
-    };
-    let many = format!("x,z,pan\n5,6,7\n{}", rows(120));
-    let told = checked(&many, &["--target", "pan"]);
-    let lines: Vec<&str> = told.err.lines().collect();
-    assert_eq!((told.status, lines.len()), (Some(1), 51));
-    assert_eq!(lines[50], "tailboardy: 70 more faults are not shown");
-    let few = format!("x,z,pan\n5,6,7\n{}", rows(4));
-    let told = checked(few, &["--target", "pan"]);
-    let uneven = "the number of cells is 4, but the number of columns is 3; cells were split at commas, so a cell with a comma in it must be in quotes";
-    let empty = "column x: the cell is empty; a number is required";
-    assert_eq!(
-        told.err,
-        format!(
-            "tailboardy: SHOW, line 4: {uneven}\ntailboardy: SHOW, line 6: {uneven}\n\
-             tailboardy: SHOW, line 3, {empty}\ntailboardy: SHOW, line 5, {empty}\n"
-        )
     );
 }
 
