@@ -68,19 +68,8 @@ fn free(new: &Csv, target: &str, spread: bool) -> Result<(), Stop> {
 
 /// The prediction for each fixture of the new show.
 pub fn corrections(both: &Both, forest: &RandomForestRegressor) -> Result<Means, Stop> {
-    let new = &both.new;
     let means = forest.predict(&both.x);
-    let means = means.map_err(|refusal| Stop::refused(new.file(), &refusal.to_string()))?;
-    if let Some(row) = means.iter().position(|mean| !mean.is_finite()) {
-        let place = format!("{}, line {}", new.file(), new.line(row));
-        let why = format!(
-            "the correction of {} is not a number: sums overflow because of very large targets or weights in {}",
-            new.fixture(row),
-            both.old.csv.file()
-        );
-        return Err(Stop::refused(&place, &why));
-    }
-    Ok(means)
+    means.map_err(|refusal| Stop::refused(both.new.file(), &refusal.to_string()))
 }
 
 /// The columns of low and high predictions.
