@@ -82,7 +82,7 @@ pub fn required(csv: &Csv, column: usize, faults: &mut Faults) -> Option<String>
 /// Tells what is wrong with a column that does not have a number in every cell. The remedy is what can be done besides correcting it.
 pub fn tell(csv: &Csv, column: usize, holds: &Holds, remedy: &str, faults: &mut Faults) {
     let cell = |row: usize| quoted(csv.cell(row, column).trim());
-    let wrong = |row: usize| csv.number(row, column).err().unwrap_or_default();
+    let wrong = |row: usize| wrong(csv, row, column);
     let (row, why) = match *holds {
         Holds::Numbers | Holds::Unit(_) => return,
         Holds::Words => {
@@ -117,10 +117,7 @@ pub fn tell(csv: &Csv, column: usize, holds: &Holds, remedy: &str, faults: &mut 
             );
             (word, why)
         }
-        Holds::Odd { row } => {
-            let why = "is not one number in one unit; write it as one";
-            (row, format!("{} {why}", cell(row)))
-        }
+        Holds::Odd { row } => (row, wrong(row)),
         Holds::Units { row, other } => {
             let place = format!("line {}", csv.line(other));
             let why = differ(csv.cell(row, column), csv.cell(other, column), &place);
@@ -128,8 +125,23 @@ pub fn tell(csv: &Csv, column: usize, holds: &Holds, remedy: &str, faults: &mut 
         }
     };
     faults.add(&csv.place(row, column), &(why + remedy));
-    if matches!(holds, Holds::OnlyWord { .. } | Holds::Mixed { .. }) {
+    if matches!(
+        holds,
+        Holds::OnlyWord { .. } | Holds::Mixed { .. } | Holds::Odd { .. }
+    ) {
         tell_others(csv, column, row, faults);
+    }
+}
+
+/// Why a cell cannot be read as a number.
+fn wrong(csv: &Csv, row: usize, column: usize) -> String {
+    let cell = csv.cell(row, column);
+    match measure::is_odd_unit(cell, csv.decimal()) {
+        true => format!(
+            "{} is not one number in one unit; write it as one",
+            quoted(cell.trim())
+        ),
+        false => csv.number(row, column).err().unwrap_or_default(),
     }
 }
 
@@ -139,8 +151,7 @@ fn tell_others(csv: &Csv, column: usize, told: usize, faults: &mut Faults) {
     let rows: Vec<usize> = (0..csv.rows()).filter(|row| !is_number(row)).collect();
     if 2 * rows.len() <= csv.rows() {
         for row in rows.into_iter().filter(|row| *row != told) {
-            let why = csv.number(row, column).err().unwrap_or_default();
-            faults.add(&csv.place(row, column), &why);
+            faults.add(&csv.place(row, column), &wrong(csv, row, column));
         }
     }
 }
@@ -257,8 +268,11 @@ mod tests {
                 &["2: \"4.2 m\" is in m, but \"4.3\" in line 3 has no unit; or so"],
             ),
             (
-                &["18'6", "19"],
-                &["2: \"18'6\" is not one number in one unit; write it as one; or so"],
+                &["18'6", "19", "20", "12'3"],
+                &[
+                    "2: \"18'6\" is not one number in one unit; write it as one; or so",
+                    "5: \"12'3\" is not one number in one unit; write it as one",
+                ],
             ),
             (
                 &["", ""],

@@ -9,7 +9,7 @@ enum Cell<'a> {
     Empty,
     Number,
     Unit(&'a str),
-    /// A measurement that is not one number: feet and inches, degrees and minutes, `1-4 m`, or with gaps between thousands.
+    /// A measurement that cannot be read: feet and inches, degrees and minutes, `1-4 m`, or a number that is written otherwise.
     Odd,
     Word,
 }
@@ -25,7 +25,7 @@ pub enum Holds {
         row: usize,
         other: usize,
     },
-    /// Numbers, but this measurement is not one number.
+    /// Numbers, but this measurement cannot be read.
     Odd {
         row: usize,
     },
@@ -162,13 +162,18 @@ fn parts(text: &str) -> (&str, &str) {
     (front, unit.trim())
 }
 
-/// Whether a cell is a number, on its own or with a known unit.
+/// Whether a cell is a number that can be read, on its own or with a known unit.
 pub fn is_number(text: &str, decimal: Decimal) -> bool {
     match cell(text, decimal) {
-        Cell::Number | Cell::Odd => true,
+        Cell::Number => true,
         Cell::Unit(unit) => is_known(unit),
-        Cell::Empty | Cell::Word => false,
+        Cell::Empty | Cell::Odd | Cell::Word => false,
     }
+}
+
+/// Whether a cell is a measurement with units that cannot be read as one number.
+pub fn is_odd_unit(text: &str, decimal: Decimal) -> bool {
+    cell(text, decimal) == Cell::Odd && !number::is_otherwise(text.trim(), decimal)
 }
 
 /// The unit of a cell that is a number with a unit.
@@ -181,20 +186,8 @@ fn is_odd(text: &str, decimal: Decimal) -> bool {
     let (front, unit) = parts(text);
     let plain = !front.is_empty() && !front.contains(char::is_alphabetic);
     let begins = text.starts_with(|it: char| it.is_ascii_digit() || "+-".contains(it));
-    begins && ((plain && is_known(unit)) || in_parts(text, decimal) || has_gaps(text))
-}
-
-/// Whether a cell is a number with gaps between thousands: `4 200`.
-fn has_gaps(text: &str) -> bool {
-    let digits = |text: &str| text.bytes().all(|it| it.is_ascii_digit());
-    let text = text.trim_start_matches(['+', '-']);
-    let whole = text.split(['.', ',']).next().unwrap_or_default();
-    let gaps = [' ', '\u{a0}', '\u{2009}', '\u{202f}', '\'', '’'];
-    let mut groups = whole.split(gaps);
-    let first = groups.next().unwrap_or_default();
-    let begins = (1..=3).contains(&first.len()) && digits(first);
-    let rest: Vec<&str> = groups.collect();
-    begins && !rest.is_empty() && rest.iter().all(|it| it.len() == 3 && digits(it))
+    let otherwise = number::is_otherwise(text, decimal);
+    begins && ((plain && is_known(unit)) || in_parts(text, decimal) || otherwise)
 }
 
 /// Whether a cell is several numbers with known units, of which the last may be missing: `18' 6"`, `5 ft 6 in`, `12°30`.
@@ -241,10 +234,12 @@ mod tests {
             ("1'234'567", Cell::Odd),
             ("4 20", Cell::Word),
             ("10.0.0.12", Cell::Word),
+            ("4,2", Cell::Odd),
+            ("1.234.567", Cell::Odd),
             ("m", Cell::Word),
             ("LX12", Cell::Word),
             ("2nd electric of the house", Cell::Word),
-            ("1e400", Cell::Word),
+            ("1e400", Cell::Odd),
             ("4.2 (m)", Cell::Word),
         ] {
             assert_eq!(cell(text, Point), is, "{text}");
