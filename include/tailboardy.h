@@ -25,7 +25,7 @@
  * Searches are made in this order: first the root; then, as long as a searched node with a cut is left that has not been split,
  * the last of them to be searched is split, and its true child is searched, then its false child. So the false child is split
  * before the true child. A node is searched if its rows' counts add up to at least `split` and the depth limit lets it have
- * children. A search that has no words left, or whose words or thresholds are not as above, is refused (7). What no search takes
+ * children. A search that has too few words left, or whose words or thresholds are not as above, is refused (7). What no search takes
  * is not looked at, so a tape may be longer than needed: features x (2 x kept rows - 1) words, and as many thresholds, are always
  * enough.
  *

@@ -71,7 +71,7 @@ impl Command {
                 option if option.starts_with("--") => {
                     let (name, value) = self.option(option, &mut words)?;
                     if said.iter().any(|(it, _)| *it == name)
-                        && !["--features", "--id"].contains(&name)
+                        && !["--features", "--ignore", "--id"].contains(&name)
                     {
                         return Err(self.bad(&format!("{name} is given twice")));
                     }

@@ -3,7 +3,7 @@
 use crate::{Folder, Run, run, show};
 use std::fs;
 
-const SHOW: &str = "fixture,x,z,pan\na,3,5,0\nb,1,7,1\nc,2,6.5,4\n";
+const SHOW: &str = "fixture,x,z,pan\na,3.5,5,0\nb,1,7,1\nc,2,6.5,4\n";
 
 /// Runs `check` on a listing of the show above.
 fn checked(listing: &str) -> (Run, String, String) {
@@ -85,7 +85,7 @@ const TOLD: &[[&str; 2]] = &[
     ],
     [
         "x,z\n0,0\n1,1\n1,2\n",
-        "LIST, line 3, column x: row 1 (1 in line 3 of SHOW) follows row 0 (3 in line 2 of SHOW), which is higher, \
+        "LIST, line 3, column x: row 1 (1 in line 3 of SHOW) follows row 0 (3.5 in line 2 of SHOW), which is higher, \
          and row 2 is missing, which is line 4 of SHOW (refusal 5, listing)\n\
          LIST, line 4, column z: row 2 (6.5 in line 4 of SHOW) follows row 1 (7 in line 3 of SHOW), which is higher; \
          the listing looks like that of another version of the show; `tailboardy list` writes a fresh one (refusal 5, listing)",
