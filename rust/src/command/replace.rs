@@ -1,6 +1,5 @@
 //! Files that are replaced as a whole: an old file stays complete until the new one is on the disk, and nothing else is left behind.
 
-use crate::number::quoted;
 use crate::stop::Stop;
 use std::fs::{self, File, Metadata};
 use std::io::{self, Write};
@@ -31,7 +30,7 @@ impl Disk for Real {}
 /// Checks, before any work is done, that a file can be written there.
 pub fn place_for(file: &str) -> Result<(), Stop> {
     let path = Path::new(file);
-    let refused = |why: &str| Err(Stop::refused(&quoted(file), why));
+    let refused = |why: &str| Err(Stop::refused(&format!("{file:?}"), why));
     if path.is_dir() {
         return refused("it is a folder; name a file in it");
     }
