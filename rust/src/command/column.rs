@@ -3,7 +3,7 @@
 use crate::csv::Csv;
 use crate::faults::Faults;
 use crate::measure::{self, Holds};
-use crate::number::quoted;
+use crate::number::{self, quoted};
 use crate::numbering::{counted, is_numbering};
 use crate::units::is_known;
 
@@ -118,6 +118,7 @@ pub fn tell(csv: &Csv, column: usize, holds: &Holds, remedy: &str, faults: &mut 
             (word, why)
         }
         Holds::Odd { row } => (row, wrong(row)),
+        Holds::Otherwise { .. } => return tell_otherwise(csv, column, remedy, faults),
         Holds::Units { row, other } => {
             let place = format!("line {}", csv.line(other));
             let why = differ(csv.cell(row, column), csv.cell(other, column), &place);
@@ -136,12 +137,22 @@ pub fn tell(csv: &Csv, column: usize, holds: &Holds, remedy: &str, faults: &mut 
 /// Why a cell cannot be read as a number.
 fn wrong(csv: &Csv, row: usize, column: usize) -> String {
     let cell = csv.cell(row, column);
-    match measure::is_odd_unit(cell, csv.decimal()) {
+    match measure::is_odd(cell, csv.decimal()) {
         true => format!(
             "{} is not one number in one unit; write it as one",
             quoted(cell.trim())
         ),
         false => csv.number(row, column).err().unwrap_or_default(),
+    }
+}
+
+/// Tells all cells whose numbers are written otherwise than the table's.
+fn tell_otherwise(csv: &Csv, column: usize, remedy: &str, faults: &mut Faults) {
+    for row in 0..csv.rows() {
+        let number = measure::otherwise(csv.cell(row, column), csv.decimal());
+        let why = number.and_then(|it| number::read(it, csv.decimal()).err());
+        why.iter()
+            .for_each(|why| faults.add(&csv.place(row, column), &format!("{why}{remedy}")));
     }
 }
 
@@ -277,6 +288,13 @@ mod tests {
             (
                 &["", ""],
                 &["t: every cell is empty; a number is required in each; or so"],
+            ),
+            (
+                &["950", "1 050 m", "1 150"],
+                &[
+                    "3: \"1 050\" is not a number; it looks like 1050 with thousands separators, which are not read: leave them out; or so",
+                    "4: \"1 150\" is not a number; it looks like 1150 with thousands separators, which are not read: leave them out; or so",
+                ],
             ),
         ] {
             assert_eq!(faults(cells), told);

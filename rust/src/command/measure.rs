@@ -9,8 +9,10 @@ enum Cell<'a> {
     Empty,
     Number,
     Unit(&'a str),
-    /// A measurement that cannot be read: feet and inches, degrees and minutes, `1-4 m`, or a number that is written otherwise.
+    /// A measurement that is not one number: feet and inches, degrees and minutes, `1-4 m`.
     Odd,
+    /// A number with another decimal sign than the table's, or with thousands separators.
+    Otherwise,
     Word,
 }
 
@@ -25,8 +27,12 @@ pub enum Holds {
         row: usize,
         other: usize,
     },
-    /// Numbers, but this measurement cannot be read.
+    /// Numbers, but this measurement is not one.
     Odd {
+        row: usize,
+    },
+    /// Numbers of which this one is written otherwise than the table's numbers.
+    Otherwise {
         row: usize,
     },
     Words,
@@ -86,6 +92,7 @@ struct Kinds {
     /// Whether any of the units is known.
     known: bool,
     odd: Tally,
+    otherwise: Tally,
     words: Tally,
 }
 
@@ -95,6 +102,7 @@ impl Kinds {
             Cell::Empty => (),
             Cell::Number => self.bare.add(row),
             Cell::Odd => self.odd.add(row),
+            Cell::Otherwise => self.otherwise.add(row),
             Cell::Word => self.words.add(row),
             Cell::Unit(unit) => {
                 self.known |= is_known(unit);
@@ -111,11 +119,12 @@ impl Kinds {
 
     fn holds(self) -> Holds {
         let (with, words) = (self.with.and(self.others), self.words);
-        let all = self.bare.and(with).and(self.odd).and(words);
+        let bare = self.bare.and(self.odd).and(self.otherwise);
+        let all = bare.and(with).and(words);
         let one = self.others.count == 0 && 2 * with.count > all.count;
         let (numbers, words) = match self.known || one {
-            true => (self.bare.and(with).and(self.odd), words),
-            false => (self.bare.and(self.odd), words.and(with)),
+            true => (bare.and(with), words),
+            false => (bare, words.and(with)),
         };
         match (numbers.first, words.first) {
             (None, _) => Holds::Words,
@@ -129,6 +138,9 @@ impl Kinds {
     /// What is in a column without words.
     fn numbers(self) -> Holds {
         let differs = self.bare.and(self.others).first;
+        if let Some(row) = self.otherwise.first {
+            return Holds::Otherwise { row };
+        }
         match (self.odd.first, self.with.first, differs) {
             (Some(row), _, _) => Holds::Odd { row },
             (None, None, _) => Holds::Numbers,
@@ -148,7 +160,11 @@ fn cell(text: &str, decimal: Decimal) -> Cell<'_> {
         Cell::Number
     } else if is_number(front) && is_unit(unit) {
         Cell::Unit(unit)
-    } else if is_odd(text, decimal) {
+    } else if in_parts(text, decimal) {
+        Cell::Odd
+    } else if number::otherwise(front, decimal) && (unit.is_empty() || is_known(unit)) {
+        Cell::Otherwise
+    } else if is_range(front, unit) {
         Cell::Odd
     } else {
         Cell::Word
@@ -167,13 +183,18 @@ pub fn is_number(text: &str, decimal: Decimal) -> bool {
     match cell(text, decimal) {
         Cell::Number => true,
         Cell::Unit(unit) => is_known(unit),
-        Cell::Empty | Cell::Odd | Cell::Word => false,
+        Cell::Empty | Cell::Odd | Cell::Otherwise | Cell::Word => false,
     }
 }
 
-/// Whether a cell is a measurement with units that cannot be read as one number.
-pub fn is_odd_unit(text: &str, decimal: Decimal) -> bool {
-    cell(text, decimal) == Cell::Odd && !number::is_otherwise(text.trim(), decimal)
+/// The number of a cell without its unit, if it is written otherwise than the table's numbers.
+pub fn otherwise(text: &str, decimal: Decimal) -> Option<&str> {
+    (cell(text, decimal) == Cell::Otherwise).then(|| parts(text.trim()).0)
+}
+
+/// Whether a cell is a measurement that is not one number.
+pub fn is_odd(text: &str, decimal: Decimal) -> bool {
+    cell(text, decimal) == Cell::Odd
 }
 
 /// The unit of a cell that is a number with a unit.
@@ -181,13 +202,10 @@ pub fn unit(cell: &str) -> &str {
     parts(cell.trim()).1
 }
 
-/// Whether a cell that cannot be read as a number is a measurement all the same.
-fn is_odd(text: &str, decimal: Decimal) -> bool {
-    let (front, unit) = parts(text);
-    let plain = !front.is_empty() && !front.contains(char::is_alphabetic);
-    let begins = text.starts_with(|it: char| it.is_ascii_digit() || "+-".contains(it));
-    let otherwise = number::is_otherwise(text, decimal);
-    begins && ((plain && is_known(unit)) || in_parts(text, decimal) || otherwise)
+/// Whether what stands before a known unit is more than a number: `1-4 m`.
+fn is_range(front: &str, unit: &str) -> bool {
+    let begins = front.starts_with(|it: char| it.is_ascii_digit() || "+-".contains(it));
+    begins && !front.contains(char::is_alphabetic) && is_known(unit)
 }
 
 /// Whether a cell is several numbers with known units, of which the last may be missing: `18' 6"`, `5 ft 6 in`, `12°30`.
@@ -227,19 +245,15 @@ mod tests {
             ("18'6\"", Cell::Odd),
             ("5 ft 6 in", Cell::Odd),
             ("12°30", Cell::Odd),
-            ("4,2 m", Cell::Odd),
+            ("4,2 m", Cell::Otherwise),
+            ("1 234.5", Cell::Otherwise),
+            ("1 23", Cell::Word),
             ("1-4 m", Cell::Odd),
-            ("-4 200 mm", Cell::Odd),
-            ("4\u{a0}200.5", Cell::Odd),
-            ("1'234'567", Cell::Odd),
-            ("4 20", Cell::Word),
             ("10.0.0.12", Cell::Word),
-            ("4,2", Cell::Odd),
-            ("1.234.567", Cell::Odd),
             ("m", Cell::Word),
             ("LX12", Cell::Word),
             ("2nd electric of the house", Cell::Word),
-            ("1e400", Cell::Odd),
+            ("1e400", Cell::Word),
             ("4.2 (m)", Cell::Word),
         ] {
             assert_eq!(cell(text, Point), is, "{text}");
@@ -268,7 +282,9 @@ mod tests {
         assert_eq!(holds(&["4.2", "4.3 m"]), units(1, 0));
         assert_eq!(holds(&["3 m left", "3 m right"]), units(0, 1));
         assert_eq!(holds(&["4 m", "18'6\""]), Holds::Odd { row: 1 });
-        assert_eq!(holds(&["4 200", "5 100"]), Holds::Odd { row: 0 });
+        let otherwise = |row| Holds::Otherwise { row };
+        assert_eq!(holds(&["950", "1 050", "1 150"]), otherwise(1));
+        assert_eq!(holds(&["1,050.5 m", "1,150.5 m"]), otherwise(0));
         // names, since none of these is a unit
         assert_eq!(holds(&["1A", "1B", "2A", "2B"]), Holds::Words);
         assert_eq!(holds(&["FOH", "3x", "BOX"]), Holds::Words);
