@@ -2,11 +2,13 @@
 
 mod bad_input;
 mod columns;
+mod faults;
 mod habits;
 mod json;
 mod listings;
 mod outside;
 mod shows;
+mod tables;
 mod usage;
 
 use std::fs;
