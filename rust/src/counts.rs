@@ -1,6 +1,7 @@
 //! Counts: how many times each row is in each tree's bag.
 
-use crate::refusal::{Cause, Fault, Refusal};
+use crate::fault::Fault;
+use crate::refusal::{Cause, Refusal};
 use crate::seed::SplitMix64;
 use crate::sizes;
 use std::ops::Range;

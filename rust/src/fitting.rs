@@ -2,15 +2,16 @@
 
 use crate::counts::Counts;
 use crate::draws::{Draws, Source};
+use crate::fault::Fault;
 use crate::forest::RandomForestRegressor;
 use crate::given::Given;
 use crate::grow::{self, Watch};
 use crate::listings::Listings;
 use crate::matrix::DenseMatrix;
 use crate::parameters::{DecisionTreeRegressorParameters, RandomForestRegressorParameters};
-use crate::refusal::{Cause, Fault, Refusal};
-use crate::sizes;
+use crate::refusal::{Cause, Refusal};
 use crate::tree::DecisionTreeRegressor;
+use crate::{finite, sizes};
 use std::borrow::Cow;
 
 /// A fit from a seed with more options than [`RandomForestRegressor::fit`]: your own listings, weights, and a function that is told
@@ -28,7 +29,7 @@ use std::borrow::Cow;
 ///
 /// let fitting = Fitting::new(&x, &y).with_listings(&listings).with_watch(&watch);
 /// fitting.check()?;
-/// let forest = fitting.forest(&Default::default())?;
+/// let forest = fitting.forest(Default::default())?;
 /// assert_eq!(forest.n_trees(), 100);
 /// assert_eq!(stand.into_inner(), 100);
 /// # Ok::<(), tailboardy::Refusal>(())
@@ -77,17 +78,17 @@ impl<'a> Fitting<'a> {
     /// Checks that the data and listings can be used. The proved library makes all the checks of a fit and then grows only a root.
     pub fn check(&self) -> Result<(), Refusal> {
         let root = DecisionTreeRegressorParameters::default().with_max_depth(1);
-        self.tree(&root).map(|_| ())
+        self.tree(root).map(|_| ())
     }
 
     /// Fits a forest from a seed; see [`RandomForestRegressor::fit`].
     pub fn forest(
         &self,
-        parameters: &RandomForestRegressorParameters,
+        parameters: RandomForestRegressorParameters,
     ) -> Result<RandomForestRegressor, Refusal> {
         let (rows, features) = self.x.shape();
         sizes::check(rows, features, parameters.n_trees)?;
-        let counts = self.counts(parameters)?;
+        let counts = self.counts(&parameters)?;
         let listings = self.listings();
         let given = Given {
             x: self.x,
@@ -100,7 +101,10 @@ impl<'a> Fitting<'a> {
             counts: &counts,
             listings: &listings,
         };
-        let grown = grow::grow(&given, parameters, self.watch)?;
+        let grown = grow::grow(&given, &parameters, self.watch)?;
+        let weighed = !given.weights.is_empty();
+        let masses = grown.reports.iter().map(|report| report.root_mass);
+        finite::grown(&grown.nodes, &grown.starts, masses, weighed)?;
         let kept = parameters.keep_samples.then_some(counts);
         Ok(RandomForestRegressor::grown(features, grown, kept))
     }
@@ -108,7 +112,7 @@ impl<'a> Fitting<'a> {
     /// Fits one tree on all rows; see [`DecisionTreeRegressor::fit`].
     pub fn tree(
         &self,
-        parameters: &DecisionTreeRegressorParameters,
+        parameters: DecisionTreeRegressorParameters,
     ) -> Result<DecisionTreeRegressor, Refusal> {
         let (rows, features) = self.x.shape();
         sizes::check(rows, features, 1)?;
@@ -124,7 +128,11 @@ impl<'a> Fitting<'a> {
         let mut draws = Draws::none();
         let settings = parameters.settings(features);
         Source::new(&given, settings, parameters.seed).draw(0, &mut draws);
-        DecisionTreeRegressor::fit_given(&given, &draws, parameters)
+        let tree = DecisionTreeRegressor::fit_given(&given, &draws, parameters)?;
+        let weighed = !given.weights.is_empty();
+        let mass = tree.report().map(|report| report.root_mass);
+        finite::grown(tree.nodes(), &[0], mass.into_iter(), weighed)?;
+        Ok(tree)
     }
 
     fn listings(&self) -> Cow<'a, Listings> {
@@ -164,7 +172,7 @@ impl RandomForestRegressor {
         y: &[f64],
         parameters: RandomForestRegressorParameters,
     ) -> Result<Self, Refusal> {
-        Fitting::new(x, y).forest(&parameters)
+        Fitting::new(x, y).forest(parameters)
     }
 
     /// Fits a forest with weights. As in smartcore, they decide how often a row is drawn into the bags or, without bags (`bootstrap`
@@ -176,7 +184,7 @@ impl RandomForestRegressor {
         weights: &[f64],
         parameters: RandomForestRegressorParameters,
     ) -> Result<Self, Refusal> {
-        Fitting::new(x, y).with_weights(weights).forest(&parameters)
+        Fitting::new(x, y).with_weights(weights).forest(parameters)
     }
 }
 
@@ -187,7 +195,7 @@ impl DecisionTreeRegressor {
         y: &[f64],
         parameters: DecisionTreeRegressorParameters,
     ) -> Result<Self, Refusal> {
-        Fitting::new(x, y).tree(&parameters)
+        Fitting::new(x, y).tree(parameters)
     }
 
     /// The same with weights, one per row.
@@ -197,6 +205,6 @@ impl DecisionTreeRegressor {
         weights: &[f64],
         parameters: DecisionTreeRegressorParameters,
     ) -> Result<Self, Refusal> {
-        Fitting::new(x, y).with_weights(weights).tree(&parameters)
+        Fitting::new(x, y).with_weights(weights).tree(parameters)
     }
 }

@@ -10,7 +10,7 @@ use crate::parameters::RandomForestRegressorParameters;
 use crate::refusal::Refusal;
 use crate::results::{Importances, Means, OutOfBagMeans, Report};
 use crate::rooms::{self, Grown, Work};
-use crate::{explain, sizes};
+use crate::{explain, finite, parts, sizes};
 
 /// A fitted forest.
 ///
@@ -60,21 +60,21 @@ impl RandomForestRegressor {
     /// let mut draws = Draws::none();
     /// draws.push_tree(&[0, 0, 0], &[]);
     /// let given = Given { x: &x, y: &y, weights: &[], counts: &counts, listings: &listings };
-    /// let forest = RandomForestRegressor::fit_given(&given, &draws, &Default::default())?;
+    /// let forest = RandomForestRegressor::fit_given(&given, &draws, Default::default())?;
     /// assert_eq!(forest.nodes().threshold, [2.5, 1.5, 3.5, 0.0, 0.0, 0.0, 0.0]);
     /// assert_eq!(forest.reports()[0].searches, 3);
     ///
     /// // one order is missing
     /// draws = Draws::none();
     /// draws.push_tree(&[0, 0], &[]);
-    /// let refusal = RandomForestRegressor::fit_given(&given, &draws, &Default::default()).unwrap_err();
+    /// let refusal = RandomForestRegressor::fit_given(&given, &draws, Default::default()).unwrap_err();
     /// assert_eq!(refusal.number(), 7);
     /// # Ok::<(), tailboardy::Refusal>(())
     /// ```
     pub fn fit_given(
         given: &Given,
         draws: &Draws,
-        parameters: &RandomForestRegressorParameters,
+        parameters: RandomForestRegressorParameters,
     ) -> Result<Self, Refusal> {
         let (rows, features) = given.x.shape();
         let trees = given.counts.shape().0;
@@ -132,16 +132,30 @@ impl RandomForestRegressor {
 
     /// The mean of the trees' predictions for each row, as smartcore's `predict_mean`.
     pub fn predict(&self, x: &DenseMatrix) -> Result<Means, Refusal> {
-        let (rows, trees) = (x.shape().0, self.n_trees());
-        let mut out = sizes::room(rows, self.features, trees)?;
+        let (features, trees) = (self.features, self.n_trees());
         let columns = self.nodes.columns();
-        let number = over!(forest_means(
-            rows, self.features, trees, x.values(), &self.starts; columns; &mut out
-        ));
-        match number {
-            0 => Ok(Means(out)),
-            number => Err(Refusal::of(number, explain::reader(x, self.features))),
-        }
+        parts::predict(
+            x,
+            features,
+            |rows, values, out| over!(forest_means(rows, features, trees, values, &self.starts; columns; out)),
+        )
+    }
+
+    /// The predictions of each tree, one after another, which tell how far the trees agree. For many trees and rows this takes a lot of
+    /// memory; [`trees`](Self::trees) gives the trees one by one.
+    ///
+    /// ```
+    /// # use tailboardy::{DenseMatrix, RandomForestRegressor};
+    /// # let x = DenseMatrix::from_2d_array(&[[1.0], [2.0], [3.0], [4.0]])?;
+    /// # let forest = RandomForestRegressor::fit(&x, &[0.0, 0.0, 10.0, 10.0], Default::default())?;
+    /// let each = forest.predict_trees(&x)?;
+    /// let mut of_row: Vec<f64> = each.iter().map(|tree| tree[2]).collect();
+    /// of_row.sort_by(f64::total_cmp);
+    /// assert_eq!((of_row[0], of_row[99]), (0.0, 10.0));
+    /// # Ok::<(), tailboardy::Refusal>(())
+    /// ```
+    pub fn predict_trees(&self, x: &DenseMatrix) -> Result<Vec<Means>, Refusal> {
+        self.trees().map(|tree| tree.predict(x)).collect()
     }
 
     /// For each row that the forest was fitted on, the mean over the trees that left it out, as smartcore's `predict_mean_oob`. It
@@ -155,22 +169,25 @@ impl RandomForestRegressor {
         let number = over!(out_of_bag_means(
             rows, self.features, trees, x.values(), counts, &self.starts; columns; &mut out
         ));
-        match number {
-            0 => Ok(OutOfBagMeans(out)),
-            number @ (9 | 10) => Err(Refusal::of(number, None)),
-            number => Err(Refusal::of(number, explain::reader(x, self.features))),
+        match (number, &self.counts) {
+            (0, Some(counts)) => finite::out_of_bag(out, counts).map(OutOfBagMeans),
+            (9 | 10, _) => Err(Refusal::of(number, None)),
+            _ => Err(Refusal::of(number, explain::reader(x, self.features))),
         }
     }
 
     /// How important each feature is: the mean of the trees' importances. They add up to 1, or to 0 if no tree has a split.
     pub fn compute_feature_importances(&self) -> Result<Importances, Refusal> {
+        for (number, tree) in self.trees().enumerate() {
+            finite::scores(number, tree.scores())?;
+        }
         let mut out = vec![0.0; self.features];
         let columns = self.nodes.columns();
         let number = over!(forest_importances(
             self.features, self.n_trees(), &self.starts; columns; &mut out
         ));
         match number {
-            0 => Ok(Importances(out)),
+            0 => finite::all("importance of feature", out).map(Importances),
             number => Err(Refusal::of(number, None)),
         }
     }

@@ -1,8 +1,9 @@
 //! Listings: for each feature all row numbers in ascending order of value.
 
+use crate::fault::{Breach, Fault, ListingFault};
 use crate::limits::MAX_ROWS;
 use crate::matrix::DenseMatrix;
-use crate::refusal::{Breach, Cause, Fault, ListingFault, Refusal};
+use crate::refusal::{Cause, Refusal};
 use crate::sizes;
 use tailboardy_sys::linked;
 
@@ -197,7 +198,7 @@ mod tests {
     #[test]
     fn rows_of_one_value_stay_in_their_order() {
         let values = [0.0, -0.0, 5e-324, 0.0, -5e-324, -1e300, 1e300, -0.0];
-        let x = DenseMatrix::new(8, 1, values.to_vec()).unwrap();
+        let x = DenseMatrix::new(8, 1, values.to_vec(), false).unwrap();
         let listings = Listings::sorted(&x);
         assert_eq!(listings.column(0), Some(&[5, 4, 0, 1, 3, 7, 2, 6][..]));
         assert_eq!(listings.column(1), None);

@@ -4,7 +4,7 @@ use crate::columns::{Columns, over};
 use crate::matrix::DenseMatrix;
 use crate::refusal::Refusal;
 use crate::results::{Importances, Means};
-use crate::{explain, sizes};
+use crate::{explain, finite, parts};
 
 /// A single node.
 #[derive(Debug, Clone, Copy, PartialEq)]
@@ -93,15 +93,22 @@ impl<'a> Tree<'a> {
         )
     }
 
+    /// The scores of its splits.
+    pub(crate) fn scores(&self) -> impl Iterator<Item = f64> + use<'a> {
+        self.nodes().filter_map(|node| match node.kind {
+            Kind::Leaf => None,
+            Kind::Split(split) => Some(split.score),
+        })
+    }
+
     /// This tree's prediction for each row.
     pub fn predict(&self, x: &DenseMatrix) -> Result<Means, Refusal> {
-        let rows = x.shape().0;
         let features = self.features;
-        let mut out = sizes::room(rows, features, 1)?;
-        match over!(predict_tree(rows, features, x.values(); self.columns; &mut out)) {
-            0 => Ok(Means(out)),
-            number => Err(Refusal::of(number, explain::reader(x, features))),
-        }
+        parts::predict(
+            x,
+            features,
+            |rows, values, out| over!(predict_tree(rows, features, values; self.columns; out)),
+        )
     }
 
     /// This tree's importances: the scores of its splits by feature, divided by their sum.
@@ -110,10 +117,11 @@ impl<'a> Tree<'a> {
     }
 
     pub(crate) fn importances(&self, by_mass: bool, mass: f64) -> Result<Importances, Refusal> {
+        finite::scores(0, self.scores())?;
         let features = self.features;
         let mut out = vec![0.0; features];
         match over!(tree_importances(features, by_mass, mass; self.columns; &mut out)) {
-            0 => Ok(Importances(out)),
+            0 => finite::all("importance of feature", out).map(Importances),
             number => Err(Refusal::of(number, None)),
         }
     }

@@ -25,7 +25,7 @@ pub enum Splitter {
 /// assert_eq!(parameters.n_trees, 200);
 /// assert_eq!(parameters.m, None);
 /// ```
-#[derive(Debug, Clone, PartialEq, Eq)]
+#[derive(Debug, Clone, Copy, PartialEq, Eq)]
 #[must_use]
 pub struct RandomForestRegressorParameters {
     /// The number of trees. Default: 100.
@@ -68,7 +68,7 @@ impl Default for RandomForestRegressorParameters {
 }
 
 /// The parameters of a single tree.
-#[derive(Debug, Clone, PartialEq, Eq)]
+#[derive(Debug, Clone, Copy, PartialEq, Eq)]
 #[must_use]
 pub struct DecisionTreeRegressorParameters {
     /// How many features each search tries. Default: all.

@@ -42,7 +42,7 @@ impl DecisionTreeRegressor {
     pub fn fit_given(
         given: &Given,
         draws: &Draws,
-        parameters: &DecisionTreeRegressorParameters,
+        parameters: DecisionTreeRegressorParameters,
     ) -> Result<Self, Refusal> {
         let (rows, features) = given.x.shape();
         sizes::check(rows, features, 1)?;

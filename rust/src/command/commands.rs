@@ -27,6 +27,19 @@ const COLUMNS: &[Choice] = &[
     ),
 ];
 
+const TABLES: &[Choice] = &[
+    choice(
+        "--delimiter",
+        "NAME",
+        "what separates cells: comma, semicolon, tab or bar; default: found out",
+    ),
+    choice(
+        "--decimal",
+        "point|comma",
+        "the decimal sign of numbers; default: found out",
+    ),
+];
+
 const GROWTH: &[Choice] = &[
     choice(
         "--n-trees",
@@ -71,13 +84,25 @@ const GROWTH: &[Choice] = &[
     ),
 ];
 
+const JSON: &[Choice] = &[choice(
+    "--json",
+    "",
+    "report in JSON: one object on standard output, with the reasons if the input is refused",
+)];
+
+const DIGITS: &[Choice] = &[choice(
+    "--digits",
+    "N",
+    "round what is computed to so many digits after the decimal sign, up to 17; default: exact, so that the same bits are read back",
+)];
+
 const OUT: &[Choice] = &[choice(
     "--out",
     "FILE",
-    "where to write the corrections; default: standard output",
+    "where to write the table; default: standard output, which is also meant by -",
 )];
 
-pub const COMMANDS: [Command; 3] = [
+pub static COMMANDS: [Command; 3] = [
     Command {
         name: "check",
         files: &["SHOW.csv"],
@@ -85,7 +110,7 @@ pub const COMMANDS: [Command; 3] = [
         more: "A listing is a table with a column for each feature, named as in the show. Its cells are row numbers, counted\n\
                from 0, in ascending order of the feature's values. Without --target and --features, the columns of the listing\n\
                are the features.",
-        groups: &[COLUMNS],
+        groups: &[COLUMNS, TABLES, JSON],
         run: check::run,
     },
     Command {
@@ -93,7 +118,7 @@ pub const COMMANDS: [Command; 3] = [
         files: &["SHOW.csv"],
         about: "Fits a forest on a show and reports its out-of-bag error and importances",
         more: "The forest is not saved, since there is no file format for it yet. `correct` fits and predicts in one run.",
-        groups: &[COLUMNS, GROWTH],
+        groups: &[COLUMNS, TABLES, GROWTH, DIGITS, JSON],
         run: fit::fit,
     },
     Command {
@@ -104,7 +129,7 @@ pub const COMMANDS: [Command; 3] = [
                the target. Without --features, the features are the columns of numbers that both shows have. Columns of numbers\n\
                that only the old show has are ignored, unless the new one has others that may be meant instead. A report on the\n\
                forest goes to standard error.",
-        groups: &[COLUMNS, GROWTH, OUT],
+        groups: &[COLUMNS, TABLES, GROWTH, DIGITS, OUT],
         run: fit::correct,
     },
 ];

@@ -1,6 +1,8 @@
-//! Tables with named columns, in comma-separated text.
+//! Tables with named columns, in separated text.
 
-use crate::number::quoted;
+use crate::faults::Faults;
+use crate::format::Format;
+use crate::number::{self, Decimal, quoted};
 use crate::record::{Cells, Reader};
 use crate::stop::Stop;
 use std::collections::HashSet;
@@ -15,17 +17,27 @@ pub struct Csv {
     cells: Cells,
     /// The line on which each row begins.
     lines: Vec<usize>,
+    delimiter: char,
+    decimal: Decimal,
+    /// The columns that name a fixture.
+    named_by: Vec<usize>,
 }
+
+/// Words that a column's name may begin with if its cells name fixtures.
+const NAMING: [&str; 7] = [
+    "fixture", "name", "id", "unit", "channel", "number", "label",
+];
 
 impl Csv {
     /// Reads a file. If something is wrong with it, the message names the file and the line.
-    pub fn read(file: &str) -> Result<Self, Stop> {
-        let opened = File::open(file).map_err(|error| Stop::refused(file, &error.to_string()))?;
-        Csv::read_from(file, BufReader::new(opened))
+    pub fn read(file: &str, format: &Format) -> Result<Self, Stop> {
+        let opened = File::open(file).map_err(|error| Stop::unread(file, &error))?;
+        Csv::read_from(file, BufReader::new(opened), format)
     }
 
-    fn read_from(file: &str, from: impl BufRead) -> Result<Self, Stop> {
-        let mut reader = Reader::new(from);
+    fn read_from(file: &str, from: impl BufRead, format: &Format) -> Result<Self, Stop> {
+        let delimiter = format.delimiter.unwrap_or(',');
+        let mut reader = Reader::new(from, delimiter);
         let wrong =
             |(line, why): (usize, String)| Stop::refused(&format!("{file}, line {line}"), &why);
         let mut head = Cells::default();
@@ -37,13 +49,66 @@ impl Csv {
         if lines.is_empty() {
             return Err(Stop::refused(file, "there are column names but no rows"));
         }
-        let file = file.to_owned();
+        let naming = names.iter().position(|name| names_fixtures(name));
         Ok(Csv {
-            file,
-            names,
+            file: file.to_owned(),
             cells,
             lines,
+            delimiter,
+            decimal: format.decimal.unwrap_or_default(),
+            named_by: naming.into_iter().collect(),
+            names,
         })
+    }
+
+    /// What separates the cells.
+    pub fn delimiter(&self) -> char {
+        self.delimiter
+    }
+
+    /// The decimal sign of the numbers.
+    pub fn decimal(&self) -> Decimal {
+        self.decimal
+    }
+
+    /// The number in a cell, or why there is none.
+    pub fn number(&self, row: usize, column: usize) -> Result<f64, String> {
+        let cell = self.cell(row, column);
+        if cell.trim().is_empty() {
+            return Err(match self.called(row) {
+                Some(name) => format!("the cell of {name} is empty; a number is required"),
+                None => "the cell is empty; a number is required".into(),
+            });
+        }
+        number::read(cell, self.decimal)
+    }
+
+    /// The numbers of a column. A cell that has none is a fault, and counts as 0.
+    pub fn numbers(&self, column: usize, faults: &mut Faults) -> Vec<f64> {
+        let mut number = |row| {
+            self.number(row, column).unwrap_or_else(|why| {
+                faults.add(&self.place(row, column), &why);
+                0.0
+            })
+        };
+        (0..self.rows()).map(&mut number).collect()
+    }
+
+    /// Names fixtures by these columns in messages.
+    pub fn name_by(&mut self, columns: Vec<usize>) {
+        self.named_by = columns;
+    }
+
+    /// What a fixture is called in messages: its cells in the columns that name it, or else its line.
+    pub fn fixture(&self, row: usize) -> String {
+        let line = || format!("line {}", self.line(row));
+        self.called(row).unwrap_or_else(line)
+    }
+
+    fn called(&self, row: usize) -> Option<String> {
+        let cells = self.named_by.iter().map(|it| name(self.cell(row, *it)));
+        let cells: Vec<String> = cells.filter(|cell| !cell.is_empty()).collect();
+        (!cells.is_empty()).then(|| cells.join(" "))
     }
 
     /// The name under which it was opened.
@@ -118,6 +183,13 @@ pub fn name(text: &str) -> String {
     words.join(" ")
 }
 
+/// Whether a column's name says that its cells name fixtures.
+fn names_fixtures(name: &str) -> bool {
+    let name = name.to_lowercase();
+    let mut words = name.split(|letter: char| !letter.is_alphanumeric());
+    words.next().is_some_and(|word| NAMING.contains(&word))
+}
+
 /// The names of all columns, which must be different.
 fn names(head: &Cells) -> Result<Vec<String>, String> {
     let mut names: Vec<String> = Vec::new();
@@ -142,7 +214,7 @@ mod tests {
     use tailboardy::{MAX_ROWS, SplitMix64};
 
     fn read(text: &str) -> Result<Vec<Vec<String>>, String> {
-        match Csv::read_from("t", text.as_bytes()) {
+        match Csv::read_from("t", text.as_bytes(), &Format::default()) {
             Ok(csv) => {
                 let row = |row| {
                     (0..csv.names.len())
@@ -201,7 +273,7 @@ mod tests {
             };
             let mut again = String::new();
             for row in &rows {
-                record::write(row.iter().map(String::as_str), &mut again);
+                record::write(row.iter().map(String::as_str), ',', &mut again);
             }
             let empty = rows
                 .iter()
@@ -214,7 +286,8 @@ mod tests {
 
     #[test]
     fn lines_are_counted_where_rows_begin() {
-        let csv = Csv::read_from("t", "a,b\n\"1\n\n\",2\n3,4\n".as_bytes()).unwrap();
+        let text = "a,b\n\"1\n\n\",2\n3,4\n".as_bytes();
+        let csv = Csv::read_from("t", text, &Format::default()).unwrap();
         assert_eq!((csv.line(0), csv.line(1)), (2, 5));
         assert_eq!(csv.place(1, 1), "t, line 5, column b");
     }
@@ -250,7 +323,7 @@ mod tests {
             assert_eq!(read(text), Err(why.to_owned()));
         }
         let bytes: &[u8] = b"a\n1\n\xff\n";
-        let stop = Csv::read_from("t", bytes).unwrap_err();
+        let stop = Csv::read_from("t", bytes, &Format::default()).unwrap_err();
         assert_eq!(stop.to_string(), "t, line 3: the text is not valid UTF-8");
         let rows = "1\n".repeat(MAX_ROWS);
         assert_eq!(read(&format!("a\n{rows}")).unwrap().len(), MAX_ROWS + 1);

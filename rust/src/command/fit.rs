@@ -2,12 +2,16 @@
 
 use crate::args::Args;
 use crate::csv::Csv;
+use crate::faults::Faults;
+use crate::json::Json;
 use crate::listing::Listing;
-use crate::output::{Output, place_for, same_file};
+use crate::number::{self, Style};
+use crate::output::Output;
 use crate::progress::Progress;
+use crate::record;
 use crate::show::{Roles, Show, matrix};
 use crate::stop::Stop;
-use crate::{number, record, report};
+use crate::summary::Summary;
 use tailboardy::{Fault, Fitting, RandomForestRegressor, RandomForestRegressorParameters, Refusal};
 
 /// The command line, checked before any file is read.
@@ -15,6 +19,7 @@ struct Task<'a> {
     args: &'a Args,
     roles: Roles,
     parameters: RandomForestRegressorParameters,
+    digits: Option<usize>,
 }
 
 impl<'a> Task<'a> {
@@ -28,6 +33,7 @@ impl<'a> Task<'a> {
             args,
             roles,
             parameters: args.parameters()?,
+            digits: args.digits()?,
         })
     }
 }
@@ -35,53 +41,60 @@ impl<'a> Task<'a> {
 /// Fits a forest and reports on it.
 pub fn fit(args: &Args) -> Result<Output, Stop> {
     let task = Task::new(args)?;
-    let csv = Csv::read(&args.files[0])?;
-    task.roles.ids_in(&csv)?;
+    let mut csv = Csv::read(&args.files[0], &args.format()?)?;
+    task.roles.ids_in(&mut csv)?;
     let features = task.roles.features(&csv, None)?;
-    let (_, _, told) = task.fitted(csv, features)?;
-    Ok(Output::told(told))
+    let (_, _, summary) = task.fitted(csv, features)?;
+    Ok(summary.told(args))
 }
 
 /// Fits a forest on the old show and predicts the corrections of the new one.
 pub fn correct(args: &Args) -> Result<Output, Stop> {
     let task = Task::new(args)?;
-    let out = args.get("--out");
-    let listing = args.get("--listing");
-    let mut read = args.files.iter().map(String::as_str).chain(listing);
-    if out.is_some_and(|out| read.any(|file| same_file(file, out))) {
-        return Err(Stop::Usage("--out names a file that is also read".into()));
-    }
-    out.map_or(Ok(()), place_for)?;
-    let (old, new) = (Csv::read(&args.files[0])?, Csv::read(&args.files[1])?);
+    let file = args.out()?;
+    let format = args.format()?;
+    let old = Csv::read(&args.files[0], &format)?;
+    let new = Csv::read(&args.files[1], &format)?;
     let features = task.roles.features(&old, Some(&new))?;
-    let lacking = task.roles.lacking(&old, &new).join(", ");
-    let x = matrix(&new, &features)?;
+    let lacking = task.roles.lacking(&old, &new);
+    let x = matrix(&new, &features, Faults::default())?;
     let (columns, name) = written(&task.roles, &new)?;
-    let (show, forest, mut beside) = task.fitted(old, features)?;
+    let (show, forest, mut summary) = task.fitted(old, features)?;
     if !lacking.is_empty() {
-        beside += &format!(
-            "not used, because {} does not have them: {lacking}\n",
+        let names = lacking.join(", ");
+        let text = format!(
+            "not used, because {} does not have them: {names}",
             new.file()
         );
+        summary.add("lacking", Json::list(&lacking), text);
     }
     let means = forest.predict(&x);
     let means = means.map_err(|refusal| Stop::refused(new.file(), &refusal.to_string()))?;
     if let Some(row) = means.iter().position(|mean| !mean.is_finite()) {
         let place = format!("{}, line {}", new.file(), new.line(row));
-        let why = "its correction is not a number: sums overflow because of very large targets or weights in";
-        return Err(Stop::refused(&place, &format!("{why} {}", show.csv.file())));
+        let why = format!(
+            "the correction of {} is not a number: sums overflow because of very large targets or weights in {}",
+            new.fixture(row),
+            show.csv.file()
+        );
+        return Err(Stop::refused(&place, &why));
     }
     let mut text = String::new();
     let names = columns.iter().map(|column| new.names()[*column].as_str());
-    record::write(names.chain([name.as_str()]), &mut text);
+    record::write(names.chain([name.as_str()]), new.delimiter(), &mut text);
+    let style = Style {
+        decimal: new.decimal(),
+        digits: task.digits,
+    };
     for (row, mean) in means.iter().enumerate() {
         let cells = columns.iter().map(|column| new.cell(row, *column));
-        record::write(cells.chain([number::write(*mean).as_str()]), &mut text);
+        let mean = number::write(*mean, &style);
+        record::write(cells.chain([mean.as_str()]), new.delimiter(), &mut text);
     }
     Ok(Output {
-        beside,
+        beside: summary.text(),
         text,
-        file: out.map(str::to_owned),
+        file,
     })
 }
 
@@ -103,14 +116,16 @@ fn written(roles: &Roles, new: &Csv) -> Result<(Vec<usize>, String), Stop> {
 }
 
 impl Task<'_> {
-    /// The show, its forest, and the report on both.
+    /// The show, its forest, and what is reported of both.
     fn fitted(
         &self,
         csv: Csv,
         features: Vec<String>,
-    ) -> Result<(Show, RandomForestRegressor, String), Stop> {
+    ) -> Result<(Show, RandomForestRegressor, Summary), Stop> {
         let show = Show::new(csv, &self.roles, features)?;
-        let listing = self.args.get("--listing").map(Csv::read).transpose()?;
+        let listing = self.args.get("--listing");
+        let format = self.args.format()?;
+        let listing = listing.map(|it| Csv::read(it, &format)).transpose()?;
         let listing = Listing::of(listing, &show)?;
         let progress = Progress::new();
         let watch = |stand: usize, all: usize| progress.tell(stand, all);
@@ -120,11 +135,13 @@ impl Task<'_> {
         if let Some(listing) = &listing {
             fitting = fitting.with_listings(&listing.listings);
         }
-        let forest = fitting.forest(&self.parameters);
+        let forest = fitting.forest(self.parameters);
         drop(progress);
         let forest = forest.map_err(|refusal| refused(&refusal, &show, listing.as_ref()))?;
-        let told = report::columns(&show) + &report::forest(&show, &forest, &self.parameters)?;
-        Ok((show, forest, told))
+        let mut summary = Summary::new(self.digits);
+        summary.show(&show);
+        summary.forest(&show, &forest, &self.parameters)?;
+        Ok((show, forest, summary))
     }
 }
 

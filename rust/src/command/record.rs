@@ -1,4 +1,5 @@
-//! Records of comma-separated text, as in RFC 4180: cells may be quoted, lines may end either way, and a byte order mark is accepted.
+//! Records of separated text, as in RFC 4180 but with any separator: cells may be quoted, lines may end either way, and a byte order mark
+//! is accepted.
 
 use crate::number::quoted;
 use std::io::BufRead;
@@ -28,6 +29,7 @@ impl Cells {
 
 pub struct Reader<R> {
     from: R,
+    delimiter: char,
     /// How many lines have been read.
     line: usize,
     bytes: Vec<u8>,
@@ -50,9 +52,10 @@ enum At {
 pub type Wrong = (usize, String);
 
 impl<R: BufRead> Reader<R> {
-    pub fn new(from: R) -> Self {
+    pub fn new(from: R, delimiter: char) -> Self {
         Reader {
             from,
+            delimiter,
             line: 0,
             bytes: Vec::new(),
         }
@@ -82,6 +85,7 @@ impl<R: BufRead> Reader<R> {
     /// An empty line is a record with one empty cell, and so is a line with just two quotes.
     pub fn record(&mut self, cells: &mut Cells) -> Result<Option<usize>, Wrong> {
         let begin = self.line + 1;
+        let delimiter = self.delimiter;
         let mut at = At::Start;
         loop {
             let Some(text) = self.text()? else {
@@ -93,7 +97,8 @@ impl<R: BufRead> Reader<R> {
             let line = text.trim_end_matches('\n');
             let line = line.strip_suffix('\r').unwrap_or(line);
             for letter in line.chars() {
-                at = at.step(letter, cells).map_err(|why| (begin, why))?;
+                let step = at.step(letter, delimiter, cells);
+                at = step.map_err(|why| (begin, why))?;
             }
             if matches!(at, At::Quoted) {
                 cells.text.push_str(&text[line.len()..]);
@@ -135,7 +140,7 @@ impl<R: BufRead> Reader<R> {
 }
 
 impl At {
-    fn step(self, letter: char, cells: &mut Cells) -> Result<At, String> {
+    fn step(self, letter: char, delimiter: char, cells: &mut Cells) -> Result<At, String> {
         match (self, letter) {
             (At::Start, '"') => Ok(At::Quoted),
             (At::Quoted, '"') => Ok(At::Behind),
@@ -143,7 +148,7 @@ impl At {
                 cells.text.push(letter);
                 Ok(At::Quoted)
             }
-            (At::Start | At::Bare | At::Behind, ',') => {
+            (At::Start | At::Bare | At::Behind, it) if it == delimiter => {
                 cells.end();
                 Ok(At::Start)
             }
@@ -160,9 +165,9 @@ impl At {
     }
 }
 
-/// The cells of a single record.
+/// The cells of a single record, separated by commas.
 pub fn record(text: &str) -> Result<Vec<String>, String> {
-    let mut reader = Reader::new(text.as_bytes());
+    let mut reader = Reader::new(text.as_bytes(), ',');
     let mut cells = Cells::default();
     reader.record(&mut cells).map_err(|(_, why)| why)?;
     let cell = |at: usize| cells.get(at).to_owned();
@@ -174,12 +179,12 @@ pub fn record(text: &str) -> Result<Vec<String>, String> {
 }
 
 /// Writes a record, with quotes where necessary.
-pub fn write<'a>(cells: impl Iterator<Item = &'a str>, to: &mut String) {
+pub fn write<'a>(cells: impl Iterator<Item = &'a str>, delimiter: char, to: &mut String) {
     for (at, cell) in cells.enumerate() {
         if at > 0 {
-            to.push(',');
+            to.push(delimiter);
         }
-        if cell.contains([',', '"', '\r', '\n']) {
+        if cell.contains([delimiter, '"', '\r', '\n']) {
             to.push('"');
             to.push_str(&cell.replace('"', "\"\""));
             to.push('"');
@@ -198,7 +203,7 @@ mod tests {
     fn what_is_written_reads_back() {
         let cells = ["plain", "a,b", "say \"x\"", "two\nlines", "", " z "];
         let mut text = String::new();
-        write(cells.into_iter(), &mut text);
+        write(cells.into_iter(), ',', &mut text);
         assert_eq!(
             text,
             "plain,\"a,b\",\"say \"\"x\"\"\",\"two\nlines\",, z \n"

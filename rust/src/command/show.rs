@@ -2,6 +2,7 @@
 
 use crate::args::Args;
 use crate::csv::{self, Csv};
+use crate::faults::Faults;
 use crate::number::{self, quoted};
 use crate::stop::Stop;
 use tailboardy::DenseMatrix;
@@ -52,10 +53,14 @@ impl Roles {
         Ok(roles)
     }
 
-    /// Checks that a show has the columns that were given as not being features.
-    pub fn ids_in(&self, show: &Csv) -> Result<(), Stop> {
-        let mut ids = self.ids.iter().flatten();
-        ids.try_for_each(|id| show.column(id).map(|_| ()))
+    /// Checks that a show has the columns that were given as not being features, and names its fixtures by them.
+    pub fn ids_in(&self, show: &mut Csv) -> Result<(), Stop> {
+        let Some(ids) = &self.ids else {
+            return Ok(());
+        };
+        let columns: Result<Vec<usize>, Stop> = ids.iter().map(|id| show.column(id)).collect();
+        show.name_by(columns?);
+        Ok(())
     }
 
     fn is_other(&self, name: &String) -> bool {
@@ -131,7 +136,8 @@ impl Roles {
     }
 
     fn measured<'a>(&'a self, show: &'a Csv) -> impl Iterator<Item = &'a String> {
-        let numeric = |column: usize| show.cells(column).any(|cell| number::read(cell).is_ok());
+        let is_number = |cell| number::read(cell, show.decimal()).is_ok();
+        let numeric = move |column: usize| show.cells(column).any(is_number);
         let columns = show.names().iter().enumerate();
         let measured =
             columns.filter(move |(column, name)| !self.is_other(name) && numeric(*column));
@@ -141,18 +147,21 @@ impl Roles {
 
 impl Show {
     pub fn new(csv: Csv, roles: &Roles, features: Vec<String>) -> Result<Self, Stop> {
-        let list = |name: &Option<String>| match name {
-            Some(name) => numbers(&csv, name).map(Some),
+        let mut faults = Faults::default();
+        let mut list = |name: &Option<String>| match name {
+            Some(name) => csv
+                .column(name)
+                .map(|it| Some(csv.numbers(it, &mut faults))),
             None => Ok(None),
         };
         let y = list(&roles.target)?;
         let weights = list(&roles.weight)?.unwrap_or_default();
+        let x = matrix(&csv, &features, faults)?;
         if let (Some(weight), true) = (&roles.weight, weights.iter().all(|it| *it == 0.0)) {
             let place = format!("{}, column {weight}", csv.file());
             let why = "all weights are 0, so there is nothing to fit on";
             return Err(Stop::refused(&place, why));
         }
-        let x = matrix(&csv, &features)?;
         Ok(Show {
             y: y.unwrap_or_else(|| vec![0.0; csv.rows()]),
             target: roles.target.clone(),
@@ -180,25 +189,18 @@ impl Show {
 }
 
 fn read(csv: &Csv, row: usize, column: usize) -> Result<f64, Stop> {
-    let read = number::read(csv.cell(row, column));
+    let read = csv.number(row, column);
     read.map_err(|why| Stop::refused(&csv.place(row, column), &why))
 }
 
-fn numbers(csv: &Csv, name: &str) -> Result<Vec<f64>, Stop> {
-    let column = csv.column(name)?;
-    (0..csv.rows()).map(|row| read(csv, row, column)).collect()
-}
-
-/// The numbers of the features, row after row.
-pub fn matrix(csv: &Csv, features: &[String]) -> Result<DenseMatrix, Stop> {
+/// The numbers of the features, unless there is a fault here or before.
+pub fn matrix(csv: &Csv, features: &[String], mut faults: Faults) -> Result<DenseMatrix, Stop> {
     let columns: Result<Vec<usize>, Stop> = features.iter().map(|it| csv.column(it)).collect();
-    let columns = columns?;
-    let mut values = Vec::with_capacity(csv.rows() * columns.len());
-    for row in 0..csv.rows() {
-        for column in &columns {
-            values.push(read(csv, row, *column)?);
-        }
+    let mut values = Vec::with_capacity(csv.rows() * features.len());
+    for column in columns? {
+        values.append(&mut csv.numbers(column, &mut faults));
     }
-    let matrix = DenseMatrix::new(csv.rows(), columns.len(), values);
+    faults.end()?;
+    let matrix = DenseMatrix::new(csv.rows(), features.len(), values, true);
     matrix.map_err(|refusal| Stop::refused(csv.file(), &refusal.to_string()))
 }

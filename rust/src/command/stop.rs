@@ -1,6 +1,8 @@
 //! Why the command stops.
 
+use crate::nearest::nearest_file;
 use std::fmt;
+use std::io::{Error, ErrorKind};
 
 /// Why the command stopped without a result.
 #[derive(Debug)]
@@ -15,6 +17,37 @@ impl Stop {
     /// One line: where something is wrong, and what.
     pub fn refused(place: &str, why: &str) -> Self {
         Stop::Refused(vec![format!("{place}: {why}")])
+    }
+
+    /// A file that cannot be read.
+    pub fn unread(file: &str, error: &Error) -> Self {
+        let why = match error.kind() {
+            ErrorKind::NotFound => match nearest_file(file) {
+                Some(meant) => format!("there is no such file; did you mean {meant}?"),
+                None => "there is no such file; check its name and folder".to_owned(),
+            },
+            ErrorKind::PermissionDenied => {
+                format!("{error}; get permission to read it, or use a copy")
+            }
+            ErrorKind::IsADirectory => "it is a folder; name a file in it".to_owned(),
+            _ => error.to_string(),
+        };
+        Stop::refused(file, &why)
+    }
+
+    /// A file that cannot be written.
+    pub fn unwritten(file: &str, error: &Error) -> Self {
+        let advice = match error.kind() {
+            ErrorKind::PermissionDenied | ErrorKind::ReadOnlyFilesystem => {
+                "get permission to write there, or choose another place with --out"
+            }
+            ErrorKind::StorageFull | ErrorKind::QuotaExceeded | ErrorKind::FileTooLarge => {
+                "make room, or choose another place with --out"
+            }
+            ErrorKind::BrokenPipe => "the program that reads it stopped before the end",
+            _ => "choose another place with --out",
+        };
+        Stop::refused(file, &format!("{error}; {advice}"))
     }
 }
 

@@ -93,7 +93,9 @@ fn old_shows() {
         "OLD, line 2: the text is not valid UTF-8",
     );
     let huge = "x,pan\n1,1e308\n2,1e308\n3,1e308\n";
-    let why = "NEW, line 2: its correction is not a number: sums overflow because of very large targets or weights in OLD";
+    let why = "OLD: refusal 100 (not finite): the value of node 0 of tree 0 is inf; \
+               the targets or weights are too large, or the weights too small, to calculate with: \
+               multiply or divide all of them by a constant";
     corrected(huge, "x\n1\n", &[], why);
 }
 
@@ -218,7 +220,7 @@ const NAMED: &[[&str; 3]] = &[
     [
         "--listing",
         "/nowhere",
-        "/nowhere: No such file or directory (os error 2)",
+        "/nowhere: there is no such file; check its name and folder",
     ],
 ];
 
@@ -315,7 +317,7 @@ fn files_that_are_not_there() {
     for (file, why) in [
         (
             "/nowhere.csv",
-            "/nowhere.csv: No such file or directory (os error 2)",
+            "/nowhere.csv: there is no such file; check its name and folder",
         ),
         ("/", "/, line 1: Is a directory (os error 21)"),
     ] {

@@ -1,6 +1,8 @@
 //! The command, run as a user runs it: on shows/, and on files that are wrong.
 
 mod bad_input;
+mod habits;
+mod json;
 mod shows;
 mod usage;
 

@@ -1,0 +1,84 @@
+//! Signals that would end the program in the middle of something, such as replacing a file.
+
+use std::sync::atomic::{AtomicU32, Ordering};
+use std::sync::{Mutex, PoisonError};
+
+// the numbers and the action that Linux has on x86-64 and aarch64
+const SIGHUP: i32 = 1;
+const SIGINT: i32 = 2;
+const SIGQUIT: i32 = 3;
+const SIGTERM: i32 = 15;
+const SIGXCPU: i32 = 24;
+const SIGXFSZ: i32 = 25;
+const IGNORE: usize = 1;
+
+/// Signals that are noted while they are held back. They come from outside, and end a program that does nothing about them.
+const NOTED: [i32; 5] = [SIGHUP, SIGINT, SIGQUIT, SIGTERM, SIGXCPU];
+const ALL: usize = NOTED.len() + 1;
+
+unsafe extern "C" {
+    fn signal(number: i32, action: usize) -> usize;
+    fn raise(number: i32) -> i32;
+}
+
+/// The signals that have come while they were held back, a bit each.
+static CAME: AtomicU32 = AtomicU32::new(0);
+/// How many calls of [`held`] are running, and the actions from before the first of them.
+static HELD: Mutex<(usize, [usize; ALL])> = Mutex::new((0, [0; ALL]));
+
+extern "C" fn note(number: i32) {
+    CAME.fetch_or(1 << number, Ordering::SeqCst);
+}
+
+/// Sets the actions of all signals and returns those from before.
+fn set(actions: [usize; ALL]) -> [usize; ALL] {
+    let mut before = actions;
+    for (number, action) in NOTED.into_iter().chain([SIGXFSZ]).zip(&mut before) {
+        // the action is to ignore the signal, or the address of `note`, which only touches an atomic number, or it was in force before
+        *action = unsafe { signal(number, *action) };
+    }
+    before
+}
+
+struct Hold;
+
+impl Hold {
+    fn new() -> Self {
+        let mut held = HELD.lock().unwrap_or_else(PoisonError::into_inner);
+        if held.0 == 0 {
+            let note = note as extern "C" fn(i32) as usize;
+            let mut actions = [note; ALL];
+            actions[NOTED.len()] = IGNORE;
+            held.1 = set(actions);
+        }
+        held.0 += 1;
+        Hold
+    }
+}
+
+impl Drop for Hold {
+    fn drop(&mut self) {
+        let mut held = HELD.lock().unwrap_or_else(PoisonError::into_inner);
+        held.0 -= 1;
+        if held.0 > 0 {
+            return;
+        }
+        set(held.1);
+        let came = CAME.swap(0, Ordering::SeqCst);
+        for number in NOTED.into_iter().filter(|it| came & (1 << it) != 0) {
+            // the signal takes the action that was in force before
+            unsafe { raise(number) };
+        }
+    }
+}
+
+/// Runs `work` while SIGHUP, SIGINT, SIGQUIT, SIGTERM and SIGXCPU are held back, in all threads. Those that came are let through afterwards,
+/// which ends the program unless it ignores them. SIGXFSZ is ignored meanwhile, so that a file that grows too large is an error of the
+/// write and not the end of the program.
+///
+/// Calls may be nested, and made from several threads: signals are held back until the last of them is done. Handlers that other
+/// code has installed for these signals come back afterwards, without their flags and masks.
+pub fn held<T>(work: impl FnOnce() -> T) -> T {
+    let _hold = Hold::new();
+    work()
+}
