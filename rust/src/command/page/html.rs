@@ -35,12 +35,11 @@ pub fn name(text: &str) -> String {
     format!("<bdi>{}</bdi>", text.replace('_', "_<wbr>"))
 }
 
-/// A number and its unit, if it has one.
+/// A number and its unit, if it has one. A unit that is a sign, such as that of degrees, follows without a space.
 pub fn with_unit(number: &str, unit: &str) -> String {
-    match unit {
-        "" => number.to_owned(),
-        _ => format!("{number}&nbsp;{}", escaped(&short(unit, LONG))),
-    }
+    let word = unit.starts_with(char::is_alphabetic);
+    let space = if word { "&nbsp;" } else { "" };
+    format!("{number}{space}{}", escaped(&short(unit, LONG)))
 }
 
 /// A part of the page, with a heading.
@@ -99,7 +98,8 @@ mod tests {
         assert_eq!(escaped("a\nb\tc\0d\u{85}"), "a b c\u{fffd}d\u{fffd}");
         assert_eq!(name("</bdi>"), "<bdi>&lt;/bdi&gt;</bdi>");
         assert_eq!(name("a_b"), "<bdi>a_<wbr>b</bdi>");
-        assert_eq!(with_unit("4.2", "<m>"), "4.2&nbsp;&lt;m&gt;");
+        assert_eq!(with_unit("4.2", "m<"), "4.2&nbsp;m&lt;");
+        assert_eq!(with_unit("4.2", "°"), "4.2°");
         assert_eq!(with_unit("4.2", ""), "4.2");
     }
 

@@ -13,6 +13,8 @@ mod round;
 mod scale;
 mod step;
 mod svg;
+#[cfg(test)]
+mod tests;
 mod weigh;
 
 use crate::page::data::Page;
@@ -24,7 +26,7 @@ use std::path::Path;
 const STYLE: &str = include_str!("style.css");
 
 /// The page as HTML: what is most urgent comes first.
-pub fn html(page: &Page) -> String {
+pub fn write(page: &Page) -> String {
     let wide = Wide::of(page);
     let parts = [
         head(page),

@@ -77,7 +77,7 @@ fn about(page: &Page) -> String {
             "Each mark is a fixture of the new show, with the sign and the tint of its correction; the larger the mark, the larger the correction."
         }
         _ => {
-            "Each dot is a fixture of the new show, in the tint of its correction: round from zero on, square below zero. There are too many of them for marks that tell more."
+            "Each dot is a fixture of the new show, in the tint of its correction: round from zero on, square below zero. There are too many of them for marks that tell more, and where they cover each other, the larger correction is on top."
         }
     };
     let mut places: Vec<[u64; 2]> = page
@@ -113,7 +113,7 @@ fn range(page: &Page, plot: &Plot) -> String {
     )
 }
 
-/// The place of each fixture. In a strip it is in the first row in which it covers no other fixture, or in the row that ends first.
+/// The place of each fixture. In a strip it is in the first row in which it covers no other fixture; if there is none, rows take turns.
 fn places(page: &Page, plot: &Plot) -> Vec<Place> {
     let fixtures = page.fixtures.iter();
     let mut places: Vec<Place> = fixtures.map(|it| plot.place(it.at[0], it.at[1])).collect();
@@ -123,11 +123,10 @@ fn places(page: &Page, plot: &Plot) -> Vec<Place> {
     let mut order: Vec<usize> = (0..places.len()).collect();
     order.sort_by(|a, b| places[*a].0.total_cmp(&places[*b].0));
     let mut last = [f64::NEG_INFINITY; LANES.len()];
-    for at in order {
+    for (turn, at) in order.into_iter().enumerate() {
         let left = places[at].0;
         let free = last.iter().position(|it| left - it >= APART);
-        let earliest = || (0..LANES.len()).min_by(|a, b| last[*a].total_cmp(&last[*b]));
-        let lane = free.or_else(earliest).unwrap_or(0);
+        let lane = free.unwrap_or(turn % LANES.len());
         last[lane] = left;
         places[at].1 = LANES[lane];
     }
