@@ -26,7 +26,7 @@ pub fn all(page: &Page, wide: &Wide) -> String {
         ("Correction", true),
         ("Low", true),
         ("High", true),
-        ("Outside", false),
+        ("Outside or wide", false),
     ];
     let caption = format!(
         "Corrections of {}, in the order of {}",
