@@ -1,6 +1,7 @@
 //! The command line, and the help text that is made from the same list of options.
 
 use crate::format::{self, Format};
+use crate::input::STANDARD;
 use crate::nearest::nearest;
 use crate::number::quoted;
 use crate::output::Output;
@@ -84,6 +85,11 @@ impl Command {
         }
         if files.len() != self.files.len() {
             return Err(self.bad(&format!("the files required are {}", self.files.join(" "))));
+        }
+        let listing = said.iter().find(|(it, _)| *it == "--listing");
+        let read = files.iter().chain(listing.map(|(_, file)| file));
+        if read.filter(|file| *file == STANDARD).count() > 1 {
+            return Err(self.bad("standard input, `-`, can be only one of the files"));
         }
         Ok(Some(Args { files, said }))
     }

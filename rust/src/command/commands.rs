@@ -1,7 +1,7 @@
 //! The commands, their options, and the functions that run them.
 
 use crate::args::{Choice, Command, choice};
-use crate::{check, fit};
+use crate::{check, fit, list};
 
 const COLUMNS: &[Choice] = &[
     choice("--target", "NAME", "the column to predict"),
@@ -20,12 +20,13 @@ const COLUMNS: &[Choice] = &[
         "A,B,..",
         "columns that are not features, even if they hold numbers",
     ),
-    choice(
-        "--listing",
-        "FILE",
-        "your own listings, instead of sorted ones: a column of row numbers for each feature",
-    ),
 ];
+
+const LISTING: &[Choice] = &[choice(
+    "--listing",
+    "FILE",
+    "your own listings, instead of sorted ones: a column of row numbers for each feature",
+)];
 
 const TABLES: &[Choice] = &[
     choice(
@@ -102,7 +103,7 @@ const OUT: &[Choice] = &[choice(
     "where to write the table; default: standard output, which is also meant by -",
 )];
 
-pub static COMMANDS: [Command; 3] = [
+pub static COMMANDS: [Command; 4] = [
     Command {
         name: "check",
         files: &["SHOW.csv"],
@@ -110,7 +111,7 @@ pub static COMMANDS: [Command; 3] = [
         more: "A listing is a table with a column for each feature, named as in the show. Its cells are row numbers, counted\n\
                from 0, in ascending order of the feature's values. Without --target and --features, the columns of the listing\n\
                are the features.",
-        groups: &[COLUMNS, TABLES, JSON],
+        groups: &[COLUMNS, LISTING, TABLES, JSON],
         run: check::run,
     },
     Command {
@@ -118,7 +119,7 @@ pub static COMMANDS: [Command; 3] = [
         files: &["SHOW.csv"],
         about: "Fits a forest on a show and reports its out-of-bag error and importances",
         more: "The forest is not saved, since there is no file format for it yet. `correct` fits and predicts in one run.",
-        groups: &[COLUMNS, TABLES, GROWTH, DIGITS, JSON],
+        groups: &[COLUMNS, LISTING, TABLES, GROWTH, DIGITS, JSON],
         run: fit::fit,
     },
     Command {
@@ -129,7 +130,16 @@ pub static COMMANDS: [Command; 3] = [
                the target. Without --features, the features are the columns of numbers that both shows have. Columns of numbers\n\
                that only the old show has are ignored, unless the new one has others that may be meant instead. A report on the\n\
                forest goes to standard error.",
-        groups: &[COLUMNS, TABLES, GROWTH, DIGITS, OUT],
+        groups: &[COLUMNS, LISTING, TABLES, GROWTH, DIGITS, OUT],
         run: fit::correct,
+    },
+    Command {
+        name: "list",
+        files: &["SHOW.csv"],
+        about: "Writes a fresh listing of a show, which --listing of the other commands takes",
+        more: "For each feature the rows are sorted by value, and rows with the same value by number. Row numbers count from 0, not\n\
+               counting the line of names. Which columns are listed goes to standard error.",
+        groups: &[COLUMNS, TABLES, OUT],
+        run: list::run,
     },
 ];

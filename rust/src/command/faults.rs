@@ -15,23 +15,44 @@ pub struct Faults {
 impl Faults {
     /// Adds a fault: where something is wrong, and what.
     pub fn add(&mut self, place: &str, why: &str) {
+        self.add_line(format!("{place}: {why}"));
+    }
+
+    fn add_line(&mut self, line: String) {
         if self.lines.len() < TOLD {
-            self.lines.push(format!("{place}: {why}"));
+            self.lines.push(line);
         } else {
             self.more += 1;
         }
     }
 
+    /// Stops the run with all faults so far and with one after which nothing more can be found out.
+    pub fn stop(&mut self, last: Stop) -> Stop {
+        let mut all = std::mem::take(self);
+        match last {
+            Stop::Usage(_) => last,
+            Stop::Refused(lines) => {
+                lines.into_iter().for_each(|line| all.add_line(line));
+                Stop::Refused(all.lines())
+            }
+        }
+    }
+
     /// Stops the run if there is any fault.
     pub fn end(self) -> Result<(), Stop> {
-        let mut lines = self.lines;
-        match self.more {
-            0 if lines.is_empty() => return Ok(()),
-            0 => (),
-            1 => lines.push("1 more fault is not shown".into()),
-            more => lines.push(format!("{more} more faults are not shown")),
+        match self.lines.is_empty() {
+            true => Ok(()),
+            false => Err(Stop::Refused(self.lines())),
         }
-        Err(Stop::Refused(lines))
+    }
+
+    fn lines(mut self) -> Vec<String> {
+        match self.more {
+            0 => (),
+            1 => self.lines.push("1 more fault is not shown".into()),
+            more => self.lines.push(format!("{more} more faults are not shown")),
+        }
+        self.lines
     }
 }
 
@@ -56,6 +77,12 @@ mod tests {
         assert_eq!(told(50).lines().count(), 50);
         assert!(told(50).ends_with("\nt, line 49: bad"));
         assert!(told(51).ends_with("\nt, line 49: bad\n1 more fault is not shown"));
+        let mut faults = Faults::default();
+        faults.add("t", "bad");
+        assert_eq!(
+            faults.stop(Stop::refused("u", "worse")).to_string(),
+            "t: bad\nu: worse"
+        );
         assert!(told(1050).ends_with("\nt, line 49: bad\n1000 more faults are not shown"));
     }
 }

@@ -9,7 +9,7 @@ pub enum Decimal {
 }
 
 impl Decimal {
-    fn sign(self) -> char {
+    pub fn sign(self) -> char {
         match self {
             Decimal::Point => '.',
             Decimal::Comma => ',',
@@ -36,12 +36,16 @@ impl Style {
 /// Reads a finite decimal number. Rust itself would also accept `inf` and `nan`, which a cell should not contain.
 pub fn read(cell: &str, sign: Decimal) -> Result<f64, String> {
     let text = cell.trim();
-    let number = match decimal(text, sign.sign()) {
+    let number = match decimal(text, sign) {
         true => text.replace(sign.sign(), ".").parse().unwrap_or(f64::NAN),
         false => f64::NAN,
     };
     if number.is_nan() {
-        Err(format!("{} is not a number", quoted(text)))
+        Err(format!(
+            "{} is not a number{}",
+            quoted(text),
+            hint(text, sign)
+        ))
     } else if number.is_infinite() {
         Err(format!("{} is too large", quoted(text)))
     } else {
@@ -49,22 +53,73 @@ pub fn read(cell: &str, sign: Decimal) -> Result<f64, String> {
     }
 }
 
+/// Without its sign.
+pub fn unsigned(text: &str) -> &str {
+    text.strip_prefix(['+', '-']).unwrap_or(text)
+}
+
 /// Whether the text is a decimal number: an optional sign, digits with an optional decimal sign, and an optional exponent.
-fn decimal(text: &str, sign: char) -> bool {
-    let digits = |text: &str| text.bytes().all(|byte| byte.is_ascii_digit());
-    let unsigned = |text: &str| match text.as_bytes() {
-        [b'+' | b'-', ..] => text[1..].to_owned(),
-        _ => text.to_owned(),
-    };
+pub fn decimal(text: &str, sign: Decimal) -> bool {
     let (front, exponent) = match text.split_once(['e', 'E']) {
         Some((front, exponent)) => (front, Some(unsigned(exponent))),
         None => (text, None),
     };
     let front = unsigned(front);
-    let (whole, part) = front.split_once(sign).unwrap_or((&front, ""));
+    let (whole, part) = front.split_once(sign.sign()).unwrap_or((front, ""));
     let some = whole.len() + part.len() > 0;
-    let power = exponent.is_none_or(|it| !it.is_empty() && digits(&it));
+    let power = exponent.is_none_or(|it| !it.is_empty() && digits(it));
     some && digits(whole) && digits(part) && power
+}
+
+fn digits(text: &str) -> bool {
+    text.bytes().all(|byte| byte.is_ascii_digit())
+}
+
+/// What a text that is not a number looks like, if it looks like one that is written otherwise.
+fn hint(text: &str, sign: Decimal) -> String {
+    let (here, other) = match sign {
+        Decimal::Point => ("point", Decimal::Comma),
+        Decimal::Comma => ("comma", Decimal::Point),
+    };
+    if decimal(text, other) {
+        format!(
+            "; the decimal sign of this table is the {here}, and thousands separators are not read"
+        )
+    } else if let Some(plain) = without_thousands(text, sign) {
+        format!(
+            "; it looks like {plain} with thousands separators, which are not read: leave them out"
+        )
+    } else {
+        String::new()
+    }
+}
+
+/// The number without the separators between its thousands, if it has any.
+fn without_thousands(text: &str, sign: Decimal) -> Option<String> {
+    let front = unsigned(text);
+    let minus = if text.starts_with('-') { "-" } else { "" };
+    let separator = |letter: &char| !letter.is_ascii_digit();
+    let first = front.chars().find(separator)?;
+    let known = ".,'’_ \u{a0}\u{2009}\u{202f}".contains(first);
+    let last = front
+        .chars()
+        .rfind(separator)
+        .filter(|it| ".,".contains(*it));
+    let (whole, part) = match last.filter(|it| *it != first) {
+        Some(last) => front.split_once(last)?,
+        None => (front, ""),
+    };
+    let mut groups = whole.split(first);
+    let start = groups.next().is_some_and(|it| (1..=3).contains(&it.len()));
+    let rest = groups.all(|it| it.len() == 3);
+    let whole = whole.replace(first, "");
+    let fraction = if part.is_empty() {
+        String::new()
+    } else {
+        format!("{}{part}", sign.sign())
+    };
+    (known && start && rest && digits(&whole) && digits(part))
+        .then(|| format!("{minus}{whole}{fraction}"))
 }
 
 /// A number in this style: with an exponent if there would be many digits before the decimal sign, or without a number of digits many
@@ -148,6 +203,40 @@ mod tests {
         assert!(read("1.5", COMMA).is_err());
         assert_eq!(read("1e999", POINT), Err("\"1e999\" is too large".into()));
         assert_eq!(read("a\nb", POINT), Err("\"a\\nb\" is not a number".into()));
+    }
+
+    #[test]
+    fn numbers_that_are_written_otherwise_are_told_as_that() {
+        let comma =
+            "; the decimal sign of this table is the point, and thousands separators are not read";
+        let point = comma.replace("point", "comma");
+        let plain = |it: &str| {
+            format!(
+                "; it looks like {it} with thousands separators, which are not read: leave them out"
+            )
+        };
+        for (text, sign, why) in [
+            ("4,25", POINT, comma.to_owned()),
+            ("1,234", POINT, comma.to_owned()),
+            ("4.25", COMMA, point),
+            ("1.234,5", POINT, plain("1234.5")),
+            ("-1.234,5", COMMA, plain("-1234,5")),
+            ("1,234.5", COMMA, plain("1234,5")),
+            ("12 345", POINT, plain("12345")),
+            ("1\u{a0}234\u{a0}567,25", COMMA, plain("1234567,25")),
+            ("1.234.567", POINT, plain("1234567")),
+            ("1'234.5", POINT, plain("1234.5")),
+            ("1 23", POINT, String::new()),
+            ("1234 567", POINT, String::new()),
+            ("1.23,4", POINT, String::new()),
+            ("1.234.5", POINT, String::new()),
+            ("1.234,5,6", POINT, String::new()),
+            ("4 m", POINT, String::new()),
+            ("low", POINT, String::new()),
+        ] {
+            let told = format!("{} is not a number{why}", quoted(text));
+            assert_eq!(read(text, sign), Err(told));
+        }
     }
 
     #[test]

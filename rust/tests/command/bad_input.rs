@@ -32,15 +32,11 @@ const OLD_SHOWS: &[[&str; 2]] = &[
     ["x,,pan\n1,1,1\n", "OLD, line 1: column 2 has no name"],
     [
         "x,pan\n1,2\n3\n",
-        "OLD, line 3: the number of cells is 1, but the number of columns is 2",
+        "OLD, line 3: the number of cells is 1, but the number of columns is 2; cells were split at commas",
     ],
     [
         "x,pan\n1,2\n3,4,5\n",
-        "OLD, line 3: the number of cells is 3, but the number of columns is 2",
-    ],
-    [
-        "x,pan\n1,2\n\n3,4\n",
-        "OLD, line 3: an empty line before further rows",
+        "OLD, line 3: the number of cells is 3, but the number of columns is 2; cells were split at commas",
     ],
     [
         "x,pan\n1,\"2\n",
@@ -90,7 +86,8 @@ fn old_shows() {
         bytes,
         "x\n1\n",
         &[],
-        "OLD, line 2: the text is not valid UTF-8",
+        "OLD, line 2: the text is not UTF-8 but seems to be Windows-1252 (Latin-1), in which it has the word \"é\"; \
+         save the table as UTF-8, or convert it with `iconv -f WINDOWS-1252 -t UTF-8`",
     );
     let huge = "x,pan\n1,1e308\n2,1e308\n3,1e308\n";
     let why = "OLD: refusal 100 (not finite): the value of node 0 of tree 0 is inf; \
@@ -164,7 +161,7 @@ const NEW_SHOWS: &[[&str; 2]] = &[
     ],
     [
         "x,z\n1\n",
-        "NEW, line 2: the number of cells is 1, but the number of columns is 2",
+        "NEW, line 2: the number of cells is 1, but the number of columns is 2; cells were split at commas",
     ],
     [
         "q\nlow\n",
@@ -176,7 +173,7 @@ const NEW_SHOWS: &[[&str; 2]] = &[
     ],
     [
         "x,z\n1,2\n\"\"\n",
-        "NEW, line 3: the number of cells is 1, but the number of columns is 2",
+        "NEW, line 3: the number of cells is 1, but the number of columns is 2; cells were split at commas",
     ],
     [
         "x,z,pan_correction\n1,5,2\n",
@@ -256,9 +253,9 @@ fn weights() {
 const LISTINGS: &[[&str; 2]] = &[
     ["x,z\n0,0\n1,1\n2,2\n", ""],
     [
-        "x,z\n0,0\n1,1\n",
-        "LIST, column x: it ends after 2 of 3 rows, and row 2 is missing, which is line 4 of OLD (refusal 2, lengths)\n\
-         LIST, column z: it ends after 2 of 3 rows, and row 2 is missing, which is line 4 of OLD (refusal 2, lengths)",
+        "x,z\n0,0\n2,2\n",
+        "LIST, column x: it ends after 2 of 3 rows, and row 1 is missing, which is line 3 of OLD (refusal 2, lengths)\n\
+         LIST, column z: it ends after 2 of 3 rows, and row 1 is missing, which is line 3 of OLD (refusal 2, lengths)",
     ],
     [
         "x,z\n0,0\n2,1\n2,2\n",
@@ -267,10 +264,6 @@ const LISTINGS: &[[&str; 2]] = &[
     [
         "x,z\n0,0\n1,1\n2,3\n",
         "LIST, line 4, column z: there is no row 3; the last row is 2, and row 2 is missing, which is line 4 of OLD (refusal 5, listing)",
-    ],
-    [
-        "x,z\n1,0\n0,1\n2,2\n",
-        "LIST, line 3, column x: the value of row 0 is lower than that of row 1 before it (refusal 5, listing)",
     ],
     [
         "x\n0\n1\n2\n0\n",
@@ -319,7 +312,7 @@ fn files_that_are_not_there() {
             "/nowhere.csv",
             "/nowhere.csv: there is no such file; check its name and folder",
         ),
-        ("/", "/, line 1: Is a directory (os error 21)"),
+        ("/", "/: it is a folder; name a file in it"),
     ] {
         let told = run(&["check", file]);
         assert_eq!(told.err, format!("tailboardy: {why}\n"));

@@ -3,6 +3,7 @@
 mod bad_input;
 mod habits;
 mod json;
+mod listings;
 mod shows;
 mod usage;
 

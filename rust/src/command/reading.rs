@@ -1,0 +1,272 @@
+//! Reading a table: its names, and its rows with a cell for each of them.
+
+use crate::encoding;
+use crate::faults::Faults;
+use crate::format::{self, Format};
+use crate::input::{Input, MOST};
+use crate::number::quoted;
+use crate::record::{Cells, Reader};
+use crate::stop::Stop;
+use std::collections::HashSet;
+use std::io::{BufRead, Read};
+use tailboardy::MAX_ROWS;
+
+/// What was read.
+#[derive(Debug)]
+pub struct Reading {
+    pub delimiter: char,
+    /// The names of the columns, the line that they are on, and what that line is.
+    pub names: Vec<String>,
+    pub head: usize,
+    pub written: Vec<u8>,
+    /// The cells of all rows, and the line on which each row begins.
+    pub cells: Cells,
+    pub lines: Vec<usize>,
+}
+
+/// Reads a table. Names that cannot be used and rows with another number of cells are faults, and those rows are left out.
+pub fn read(
+    file: &str,
+    from: impl Read,
+    format: &Format,
+    faults: &mut Faults,
+) -> Result<Reading, Stop> {
+    let input = Input::new(from, MOST).map_err(|error| faults.stop(Stop::unread(file, &error)))?;
+    if let Some(why) = encoding::other(input.first()) {
+        return Err(faults.stop(Stop::refused(file, &why)));
+    }
+    let found = match format.delimiter {
+        Some(said) => Ok(said),
+        None => format::find_delimiter(input.first()),
+    };
+    let delimiter = found.map_err(|why| faults.stop(Stop::refused(file, &why)))?;
+    let mut reader = Reader::new(input.all(), delimiter);
+    let mut head = Cells::default();
+    let wrong = |(line, why): (usize, String)| (format!("{file}, line {line}"), why);
+    let line = match reader.record(&mut head).map_err(wrong) {
+        Ok(Some(line)) => line,
+        Ok(None) => return Err(faults.stop(Stop::refused(file, "the file is empty"))),
+        Err((place, why)) => return Err(faults.stop(Stop::refused(&place, &why))),
+    };
+    let mut reading = Reading {
+        delimiter,
+        names: names(&head, &format!("{file}, line {line}"), faults),
+        head: line,
+        written: reader.last_line().to_owned(),
+        cells: Cells::default(),
+        lines: Vec::new(),
+    };
+    reading.rows(&mut reader, file, faults)?;
+    Ok(reading)
+}
+
+impl Reading {
+    fn rows(
+        &mut self,
+        reader: &mut Reader<impl BufRead>,
+        file: &str,
+        faults: &mut Faults,
+    ) -> Result<(), Stop> {
+        let place = |line: usize| format!("{file}, line {line}");
+        let mut count = 0;
+        loop {
+            let before = self.cells.len();
+            let read = reader.record(&mut self.cells);
+            let read =
+                read.map_err(|(line, why)| faults.stop(Stop::refused(&place(line), &why)))?;
+            let Some(line) = read else {
+                break;
+            };
+            count += 1;
+            if count > MAX_ROWS {
+                let why = format!("there are too many rows: the maximum is {MAX_ROWS}");
+                return Err(faults.stop(Stop::refused(&place(line), &why)));
+            }
+            let is = self.cells.len() - before;
+            if is == self.names.len() {
+                self.lines.push(line);
+            } else {
+                self.cells.truncate(before);
+                faults.add(&place(line), &self.uneven(is, reader.last_line()));
+            }
+        }
+        match count {
+            0 => Err(faults.stop(Stop::refused(file, "there are column names but no rows"))),
+            _ => Ok(()),
+        }
+    }
+
+    /// Why a row of so many cells cannot be used.
+    fn uneven(&self, is: usize, line: &[u8]) -> String {
+        let split = format::split_at(self.delimiter, &[&self.written, line]);
+        let names = self.names.len();
+        format!("the number of cells is {is}, but the number of columns is {names}; {split}")
+    }
+}
+
+/// A column's name on a single line: without the spaces around it, and with one space between words or lines. A byte order mark counts
+/// as a space, since it is invisible.
+pub fn name(text: &str) -> String {
+    let parts =
+        |letter: char| letter.is_whitespace() || letter.is_control() || letter == '\u{feff}';
+    let words = text.split(parts);
+    let words: Vec<&str> = words.filter(|word| !word.is_empty()).collect();
+    words.join(" ")
+}
+
+/// The names of all columns, which must be different.
+fn names(head: &Cells, place: &str, faults: &mut Faults) -> Vec<String> {
+    let mut met = HashSet::new();
+    let names: Vec<String> = (0..head.len()).map(|it| name(head.get(it))).collect();
+    for (at, name) in names.iter().enumerate() {
+        if name.is_empty() {
+            faults.add(place, &format!("column {} has no name", at + 1));
+        } else if !met.insert(name) {
+            faults.add(
+                place,
+                &format!("two columns have the name {}", quoted(name)),
+            );
+        }
+    }
+    names
+}
+#[cfg(test)]
+mod tests {
+    use super::*;
+    use crate::record;
+    use tailboardy::SplitMix64;
+
+    fn reading(text: impl AsRef<[u8]>, format: &Format) -> Result<Reading, String> {
+        let mut faults = Faults::default();
+        let read = super::read("t", text.as_ref(), format, &mut faults);
+        let read = read.and_then(|it| faults.end().map(|()| it));
+        read.map_err(|stop| stop.to_string())
+    }
+
+    fn rows(read: &Reading) -> Vec<Vec<String>> {
+        let cells = (0..read.cells.len()).map(|it| read.cells.get(it).to_owned());
+        let cells: Vec<String> = read.names.iter().cloned().chain(cells).collect();
+        let rows = cells.chunks(read.names.len());
+        rows.map(<[String]>::to_vec).collect()
+    }
+
+    fn read(text: &str) -> Result<Vec<Vec<String>>, String> {
+        reading(text, &Format::default()).map(|it| rows(&it))
+    }
+
+    fn table(rows: &[&[&str]]) -> Result<Vec<Vec<String>>, String> {
+        let row = |row: &&[&str]| row.iter().map(|it| (*it).to_owned()).collect();
+        Ok(rows.iter().map(row).collect())
+    }
+
+    #[test]
+    fn tables_are_read() {
+        let plain = table(&[&["a", "b"], &["1", "2"], &["3", ""]]);
+        assert_eq!(read("a,b\n1,2\n3,\n"), plain);
+        assert_eq!(read("\u{feff} a ,b\t\r\n1,2\r\n3,\r\n\r\n\n"), plain);
+        assert_eq!(read("\"a\",b\n\"1\" ,2\n3,\"\""), plain);
+        assert_eq!(read("a;b\r1;2\r3;\r"), plain);
+        assert_eq!(read("a\tb\n1\t2\r\n3\t"), plain);
+        assert_eq!(read("\n |\n\ra|b\r\r\n\n1|2\n  \n|\n3|\n\n"), plain);
+        let quotes = table(&[
+            &["a", "b"],
+            &["x, \"y\"", "two\r\nlines"],
+            &["5\" bar", " z "],
+        ]);
+        assert_eq!(
+            read("a,b\n\"x, \"\"y\"\"\",\"two\r\nlines\"\n5\" bar, z \n"),
+            quotes
+        );
+        assert_eq!(read("a\n1\n2\n\n"), table(&[&["a"], &["1"], &["2"]]));
+        assert_eq!(read("\" a\r\n  b\t\"\n1\n"), table(&[&["a b"], &["1"]]));
+    }
+
+    /// Any text is either read or refused, and a table that is read and written again stays the same.
+    #[test]
+    fn any_text_is_read_or_told() {
+        let mut draws = SplitMix64::new(17);
+        let letters = [
+            'a', 'b', ',', ',', ';', '"', '"', '\n', '\n', '\r', ' ', '1', '\t', '\u{feff}', 'é',
+        ];
+        let mut tables = 0;
+        for _ in 0..50_000 {
+            let length = draws.up_to(14);
+            let letter = |_| letters[draws.up_to(letters.len() as u64 - 1) as usize];
+            let text: String = (0..length).map(letter).collect();
+            let Ok(read) = reading(&text, &Format::default()) else {
+                continue;
+            };
+            let mut again = String::new();
+            for row in rows(&read) {
+                record::write(row.iter().map(String::as_str), read.delimiter, &mut again);
+            }
+            let blank = |row: &Vec<String>| row.iter().all(|cell| cell.trim().is_empty());
+            let format = Format {
+                delimiter: Some(read.delimiter),
+                decimal: None,
+            };
+            let same = || reading(&again, &format).map(|it| rows(&it)) == Ok(rows(&read));
+            assert!(
+                rows(&read).iter().any(blank) || same(),
+                "{text:?} {again:?}"
+            );
+            tables += 1;
+        }
+        assert!(tables > 500, "{tables}");
+    }
+
+    #[test]
+    fn lines_are_counted_where_rows_begin() {
+        for (text, lines) in [
+            ("a,b\n\"1\n\n\",2\n3,4\n", [1, 2, 5]),
+            ("\r\n\ra,b\r\"1\r\r\n\",2\r\n\n3,4\n", [3, 4, 8]),
+        ] {
+            let read = reading(text, &Format::default()).unwrap();
+            assert_eq!([read.head, read.lines[0], read.lines[1]], lines);
+        }
+    }
+
+    #[test]
+    fn uneven_tables_are_not() {
+        let commas = "cells were split at commas";
+        for (text, why) in [
+            ("", "t: the file is empty"),
+            ("\n\n", "t: the file is empty"),
+            ("a,b\n", "t: there are column names but no rows"),
+            (
+                "a,,c,a,a\n1,2,3,4,5\n",
+                "t, line 1: column 2 has no name\nt, line 1: two columns have the name \"a\"\nt, line 1: two columns have the name \"a\"",
+            ),
+            (
+                "a,b\n1,2\n3\n4,5\n6,7,8\n",
+                &format!(
+                    "t, line 3: the number of cells is 1, but the number of columns is 2; {commas}\n\
+                     t, line 5: the number of cells is 3, but the number of columns is 2; {commas}"
+                ),
+            ),
+            (
+                "a,b\n1;2;3\n",
+                &format!(
+                    "t, line 2: the number of cells is 1, but the number of columns is 2; {commas}, but there are more semicolons; try --delimiter semicolon"
+                ),
+            ),
+            (
+                "a,b\n1,\"2\n3,4\n",
+                "t, line 2: a quote is opened but never closed",
+            ),
+            (
+                "a,b\n1\n1,\"2\"x\n",
+                &format!(
+                    "t, line 2: the number of cells is 1, but the number of columns is 2; {commas}\n\
+                     t, line 3: \"x\" follows a closing quote"
+                ),
+            ),
+        ] {
+            assert_eq!(read(text), Err(why.to_owned()));
+        }
+        let rows = "1\n".repeat(MAX_ROWS);
+        assert_eq!(read(&format!("a\n{rows}")).unwrap().len(), MAX_ROWS + 1);
+        let many = "t, line 65537: there are too many rows: the maximum is 65535";
+        assert_eq!(read(&format!("a\n{rows}1\n")), Err(many.to_owned()));
+    }
+}
