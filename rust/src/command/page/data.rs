@@ -1,6 +1,6 @@
 //! What a page shows, as plain data.
 
-/// Everything that a page shows. All numbers are finite, except for importances and the error.
+/// Everything that a page shows. All numbers are finite, but what is computed from them need not be.
 #[derive(Debug)]
 pub struct Page {
     /// The column that was predicted.

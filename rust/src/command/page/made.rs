@@ -78,7 +78,6 @@ fn error(page: &Page) -> String {
     };
     match page.forest.error {
         _ if told == 0 => "none, because no tree left a fixture out".into(),
-        error if !error.is_finite() => format!("too large to be a number, {over}"),
         error => format!(
             "{}, {over}; its square root is {}",
             rounded(error, 3),

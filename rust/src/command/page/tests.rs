@@ -209,11 +209,13 @@ fn fixtures_at_the_same_place_are_counted() {
 #[test]
 fn what_is_no_number_is_told_in_words() {
     let mut page = rig(30, 1.0);
-    page.measurements.iter_mut().for_each(|it| it.importance = f64::NAN);
-    page.forest.error = f64::INFINITY;
+    let measurements = page.measurements.iter_mut();
+    measurements.for_each(|it| it.importance = 0.0);
+    page.fixtures[0].low = -1.7e308;
+    page.fixtures[0].high = 1.7e308;
     let (_, elements) = read(&page);
-    assert!(part(&elements, "weigh").contains("No measurement weighs more"));
-    assert!(part(&elements, "made").contains("too large to be a number, over 24 of 30"));
+    assert!(part(&elements, "weigh").contains("no tree has a split"));
+    assert!(part(&elements, "wide").contains("1.7e308not a number"));
     page.focused.iter_mut().for_each(|it| it.mean = None);
     let (text, elements) = read(&page);
     assert!(part(&elements, "made").contains("none, because no tree left a fixture out"));

@@ -11,15 +11,12 @@ const BARS: usize = 20;
 pub fn weigh(page: &Page) -> String {
     let mut all: Vec<&Measurement> = page.measurements.iter().collect();
     all.sort_by(|a, b| b.importance.total_cmp(&a.importance));
-    let known = all.iter().all(|it| it.importance.is_finite());
-    let body = match known && all.iter().any(|it| it.importance > 0.0) {
+    let body = match all.iter().any(|it| it.importance > 0.0) {
         true => {
-            paragraph("The share of each measurement in what the splits of all trees gain.")
-                + &bars(&all)
+            let told = "The share of each measurement in what the splits of all trees gain.";
+            paragraph(told) + &bars(&all)
         }
-        false => paragraph(
-            "No measurement weighs more than another: the trees could not be split, or the scores of their splits are too large to be added up.",
-        ),
+        false => paragraph("Nothing: no tree has a split, so every fixture gets the same correction."),
     };
     section("weigh", "What decides", &body)
 }
