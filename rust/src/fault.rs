@@ -4,6 +4,16 @@ use crate::limits::{MAX_FEATURES, MAX_ROWS, MAX_TREES};
 use std::fmt;
 
 /// What is wrong, and where. Rows, features, trees, nodes and positions are counted from 0.
+///
+/// ```
+/// use tailboardy::{DenseMatrix, Fault, RandomForestRegressor};
+///
+/// let x = DenseMatrix::from_2d_array(&[[1.0], [2.0]])?;
+/// let y = [0.0, f64::INFINITY];
+/// let refusal = RandomForestRegressor::fit(&x, &y, Default::default()).unwrap_err();
+/// assert_eq!(refusal.fault(), Some(&Fault::Target { row: 1, value: f64::INFINITY }));
+/// # Ok::<(), tailboardy::Refusal>(())
+/// ```
 #[derive(Debug, Clone, PartialEq)]
 #[non_exhaustive]
 #[allow(missing_docs)]
@@ -66,6 +76,15 @@ pub enum Fault {
 }
 
 /// The first position where a feature's listing is wrong.
+///
+/// ```
+/// use tailboardy::{DenseMatrix, Listings};
+///
+/// let x = DenseMatrix::from_2d_array(&[[7.5], [6.8], [7.1]])?;
+/// let fault = Listings::from_columns(&[[1, 2, 2]])?.fault(&x, 0).unwrap();
+/// assert_eq!((fault.feature, fault.place, fault.missing), (0, 2, Some(0)));
+/// # Ok::<(), tailboardy::Refusal>(())
+/// ```
 #[derive(Debug, Clone, PartialEq, Eq)]
 pub struct ListingFault {
     /// The feature.
@@ -79,6 +98,15 @@ pub struct ListingFault {
 }
 
 /// What is wrong with a listing. At each position the variants are tried in this order.
+///
+/// ```
+/// use tailboardy::{Breach, DenseMatrix, Listings};
+///
+/// let x = DenseMatrix::from_2d_array(&[[7.5], [6.8], [7.1]])?;
+/// let fault = Listings::from_columns(&[[2, 1, 0]])?.fault(&x, 0).unwrap();
+/// assert_eq!(fault.breach, Breach::Falls { row: 1, after: 2 });
+/// # Ok::<(), tailboardy::Refusal>(())
+/// ```
 #[derive(Debug, Clone, Copy, PartialEq, Eq)]
 #[non_exhaustive]
 pub enum Breach {

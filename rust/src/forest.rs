@@ -71,6 +71,10 @@ impl RandomForestRegressor {
     /// assert_eq!(refusal.number(), 7);
     /// # Ok::<(), tailboardy::Refusal>(())
     /// ```
+    ///
+    /// # Errors
+    ///
+    /// The library's refusals 1 to 5 and 7, and no other: whatever is grown is returned, even if a value or a score in it is not finite.
     pub fn fit_given(
         given: &Given,
         draws: &Draws,
@@ -114,6 +118,10 @@ impl RandomForestRegressor {
     /// assert_eq!(refusal.number(), 8);
     /// # Ok::<(), tailboardy::Refusal>(())
     /// ```
+    ///
+    /// # Errors
+    ///
+    /// Refusal 1 if the number of features or trees is out of range, and 8 if the table is damaged.
     pub fn from_table(
         features: usize,
         starts: Vec<u32>,
@@ -130,7 +138,27 @@ impl RandomForestRegressor {
         })
     }
 
-    /// The mean of the trees' predictions for each row, as smartcore's `predict_mean`.
+    /// The mean of the trees' predictions for each row, as smartcore's `predict_mean`. There may be any number of rows: the library takes
+    /// [`MAX_ROWS`](crate::MAX_ROWS) at a time, so more are predicted by several calls.
+    ///
+    /// ```
+    /// use tailboardy::{DenseMatrix, MAX_ROWS, RandomForestRegressor};
+    ///
+    /// let x = DenseMatrix::from_2d_array(&[[1.0], [2.0], [3.0], [4.0]])?;
+    /// let forest = RandomForestRegressor::fit(&x, &[0.0, 0.0, 10.0, 10.0], Default::default())?;
+    /// let rows = MAX_ROWS + 1;
+    /// let many = DenseMatrix::new(rows, 1, vec![1.0; rows], false)?;
+    /// assert_eq!(forest.predict(&many)?.len(), rows);
+    ///
+    /// let wide = DenseMatrix::from_2d_array(&[[1.0, 2.0]])?;
+    /// assert_eq!(forest.predict(&wide).unwrap_err().number(), 2);
+    /// # Ok::<(), tailboardy::Refusal>(())
+    /// ```
+    ///
+    /// # Errors
+    ///
+    /// Refusal 1 if there are no rows, 2 if they do not have [`n_features`](Self::n_features) values each, and 100 if a mean is not
+    /// finite.
     pub fn predict(&self, x: &DenseMatrix) -> Result<Means, Refusal> {
         let (features, trees) = (self.features, self.n_trees());
         let columns = self.nodes.columns();
@@ -154,13 +182,35 @@ impl RandomForestRegressor {
     /// assert_eq!((of_row[0], of_row[99]), (0.0, 10.0));
     /// # Ok::<(), tailboardy::Refusal>(())
     /// ```
+    ///
+    /// # Errors
+    ///
+    /// As [`predict`](Self::predict).
     pub fn predict_trees(&self, x: &DenseMatrix) -> Result<Vec<Means>, Refusal> {
         self.trees().map(|tree| tree.predict(x)).collect()
     }
 
     /// For each row that the forest was fitted on, the mean over the trees that left it out, as smartcore's `predict_mean_oob`. It
-    /// requires `keep_samples` (otherwise refusal 9) and the same rows as the fit; a different number of rows is refused (10), but
-    /// different rows of the same number cannot be detected.
+    /// requires `keep_samples` and the same rows as the fit; different rows of the same number cannot be detected.
+    ///
+    /// ```
+    /// use tailboardy::{DenseMatrix, RandomForestRegressor, RandomForestRegressorParameters};
+    ///
+    /// let x = DenseMatrix::from_2d_array(&[[1.0], [2.0], [3.0], [4.0]])?;
+    /// let y = [0.0, 0.0, 10.0, 10.0];
+    /// let parameters = RandomForestRegressorParameters::default().with_keep_samples(true);
+    /// let means = RandomForestRegressor::fit(&x, &y, parameters)?.predict_oob(&x)?;
+    /// assert!(means.get(0) < means.get(3));
+    ///
+    /// let not_kept = RandomForestRegressor::fit(&x, &y, Default::default())?;
+    /// assert_eq!(not_kept.predict_oob(&x).unwrap_err().number(), 9);
+    /// # Ok::<(), tailboardy::Refusal>(())
+    /// ```
+    ///
+    /// # Errors
+    ///
+    /// Refusal 1 if the number of rows is out of range, 9 without `keep_samples`, 10 if there are not as many rows as in the fit, 2 if they
+    /// do not have [`n_features`](Self::n_features) values each, and 100 if a mean is not finite.
     pub fn predict_oob(&self, x: &DenseMatrix) -> Result<OutOfBagMeans, Refusal> {
         let (rows, trees) = (x.shape().0, self.n_trees());
         let mut out = sizes::room(rows, self.features, trees)?;
@@ -177,6 +227,20 @@ impl RandomForestRegressor {
     }
 
     /// How important each feature is: the mean of the trees' importances. They add up to 1, or to 0 if no tree has a split.
+    ///
+    /// ```
+    /// use tailboardy::{DenseMatrix, RandomForestRegressor};
+    ///
+    /// // the second feature is the same everywhere
+    /// let x = DenseMatrix::from_2d_array(&[[1.0, 7.0], [2.0, 7.0], [3.0, 7.0]])?;
+    /// let forest = RandomForestRegressor::fit(&x, &[5.0, 6.0, 7.0], Default::default())?;
+    /// assert_eq!(&*forest.compute_feature_importances()?, [1.0, 0.0]);
+    /// # Ok::<(), tailboardy::Refusal>(())
+    /// ```
+    ///
+    /// # Errors
+    ///
+    /// Refusal 100 if the scores of a tree, or their sum, are not finite.
     pub fn compute_feature_importances(&self) -> Result<Importances, Refusal> {
         for (number, tree) in self.trees().enumerate() {
             finite::scores(number, tree.scores())?;

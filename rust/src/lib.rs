@@ -37,6 +37,8 @@
 //!   range would be refused, and every other draw is as good as the next;
 //! - growing a forest a few trees at a time on several threads, and joining these trees into one forest
 //!   ([`RandomForestRegressor::fit_given`] is a single call of the library, and gives the same forest bit for bit);
+//! - predicting more than [`MAX_ROWS`] rows in parts, and joining these;
+//! - refusing results that are not finite ([`Cause::NotFinite`]), which the library returns as smartcore does;
 //! - finding the place of what was refused ([`Fault`]);
 //! - the list of calls through which the library is linked, in `tailboardy-sys`, the only place with `unsafe`.
 //!

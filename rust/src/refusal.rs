@@ -26,7 +26,20 @@ pub struct Refusal {
     fault: Option<Fault>,
 }
 
-/// The refusals. 1 to 10 are the proved library's, numbered as in the table of docs/RULES.md; 100 is this crate's own.
+/// The refusals, each with a number, a name and advice.
+///
+/// ```
+/// use tailboardy::{Cause, DenseMatrix, RandomForestRegressor};
+///
+/// let x = DenseMatrix::from_2d_array(&[[1.0], [2.0]])?;
+/// match RandomForestRegressor::fit(&x, &[0.0], Default::default()) {
+///     Err(refusal) if refusal.cause() == Cause::Lengths => println!("{}", refusal.cause().advice()),
+///     answer => panic!("{answer:?}"),
+/// }
+/// # Ok::<(), tailboardy::Refusal>(())
+/// ```
+///
+/// 1 to 10 are the proved library's, numbered as in the table of docs/RULES.md; 100 is this crate's own.
 #[derive(Debug, Clone, Copy, PartialEq, Eq, Hash)]
 #[non_exhaustive]
 pub enum Cause {
