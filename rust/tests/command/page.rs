@@ -136,13 +136,25 @@ fn the_measurements_of_the_picture_can_be_chosen() {
         ["↑ truss_offset", "mounting_angle →"]
     );
     assert_eq!(sides(&["--plot", "trim_height"]), ["trim_height →"]);
-    for (plot, why) in [
-        ("truss", "--plot truss: the forest does not go by this column; it goes by trim_height, truss_offset, mounting_angle"),
-        ("trim_height,trim_height", "--plot trim_height,trim_height: one measurement or two different ones are required"),
-        ("trim_height,truss_offset,mounting_angle", "one measurement or two different ones are required"),
+    for (plot, status, why) in [
+        (
+            "truss",
+            1,
+            "--plot truss: the forest does not go by this column; it goes by trim_height, truss_offset, mounting_angle",
+        ),
+        (
+            "trim_height,trim_height",
+            2,
+            "--plot trim_height,trim_height: one measurement or two different ones are required",
+        ),
+        (
+            "trim_height,truss_offset,mounting_angle",
+            2,
+            "one measurement or two different ones are required",
+        ),
     ] {
         let told = report(&["--plot", plot]);
-        assert_eq!((told.status, told.out.as_str()), (Some(2), ""), "{plot}");
+        assert_eq!((told.status, told.out.as_str()), (Some(status), ""), "{plot}");
         assert!(told.err.contains(why), "{}", told.err);
     }
 }
