@@ -12,7 +12,7 @@ use std::ops::Range;
 /// let x = DenseMatrix::from_2d_array(&[[1.0], [2.0]])?;
 /// let tree = DecisionTreeRegressor::fit(&x, &[5.0, 7.0], Default::default())?;
 /// let nodes = tree.nodes();
-/// assert_eq!(nodes.len(), 3);
+/// assert!(!nodes.is_empty() && nodes.len() == 3);
 /// assert_eq!(nodes.value, [6.0, 5.0, 7.0]);
 /// assert_eq!((nodes.feature[0], nodes.threshold[0]), (0, 1.5));
 /// assert_eq!((nodes.true_child[0], nodes.false_child[0]), (1, 2));

@@ -27,7 +27,10 @@ use std::borrow::Cow;
 /// let stand = AtomicUsize::new(0);
 /// let watch = |trees: usize, _all: usize| { stand.fetch_max(trees, Ordering::Relaxed); };
 ///
-/// let fitting = Fitting::new(&x, &y).with_listings(&listings).with_watch(&watch);
+/// let fitting = Fitting::new(&x, &y)
+///     .with_weights(&[1.0, 1.0, 2.0, 1.0])
+///     .with_listings(&listings)
+///     .with_watch(&watch);
 /// fitting.check()?;
 /// let forest = fitting.forest(Default::default())?;
 /// assert_eq!(forest.n_trees(), 100);

@@ -26,13 +26,15 @@ use crate::{explain, finite, parts, sizes};
 ///
 /// let parameters = RandomForestRegressorParameters::default().with_keep_samples(true);
 /// let forest = RandomForestRegressor::fit(&x, &y, parameters)?;
+/// assert_eq!((forest.n_trees(), forest.n_features()), (100, 2));
 ///
 /// // the next house
 /// let new = DenseMatrix::from_2d_array(&[[7.0, -2.0], [7.0, 2.0]])?;
 /// let pan = forest.predict(&new)?;
 /// assert!(pan[0] < -5.0 && pan[1] > 5.0);
 ///
-/// // how far off the trees are on fixtures that they did not see, and which feature matters most
+/// // how far off the trees are on fixtures that they did not see, which were in none of their bags, and which feature matters most
+/// assert_eq!(forest.samples().map(|bags| bags.shape()), Some((100, 8)));
 /// let error = forest.predict_oob(&x)?.error(&y)?;
 /// assert!(error.sqrt() < 15.0);
 /// assert_eq!(forest.compute_feature_importances()?.ranked()[0].0, 1);

@@ -18,6 +18,7 @@ use tailboardy_sys::linked;
 ///
 /// let x = DenseMatrix::from_2d_array(&[[7.5], [6.8], [7.1], [7.1]])?;
 /// let listings = Listings::sorted(&x);
+/// assert_eq!(listings.features(), 1);
 /// assert_eq!(listings.column(0), Some(&[1, 2, 3, 0][..]));
 /// listings.check(&x)?;
 ///

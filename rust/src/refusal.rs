@@ -36,6 +36,7 @@ pub struct Refusal {
 ///     Err(refusal) if refusal.cause() == Cause::Lengths => println!("{}", refusal.cause().advice()),
 ///     answer => panic!("{answer:?}"),
 /// }
+/// assert_eq!((Cause::Lengths.number(), Cause::Lengths.name()), (2, "lengths"));
 /// # Ok::<(), tailboardy::Refusal>(())
 /// ```
 ///

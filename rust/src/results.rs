@@ -49,8 +49,10 @@ pub struct Report {
 /// for (row, mean) in (&means).into_iter().enumerate() {
 ///     println!("row {row}: {mean:.1}");
 /// }
-/// let halves: Vec<f64> = means.into_iter().map(|mean| mean / 2.0).collect();
+/// let halves: Vec<f64> = means.iter().map(|mean| mean / 2.0).collect();
 /// assert_eq!(halves, [2.5, 3.0, 3.5]);
+/// let numbers: Vec<f64> = means.into_vec();
+/// assert_eq!(numbers, [5.0, 6.0, 7.0]);
 /// # Ok::<(), tailboardy::Refusal>(())
 /// ```
 #[derive(Debug, Clone, PartialEq)]
@@ -96,6 +98,12 @@ macro_rules! list {
             }
         }
 
+        impl From<$name> for Vec<f64> {
+            fn from(of: $name) -> Self {
+                of.0
+            }
+        }
+
         impl IntoIterator for $name {
             type Item = f64;
             type IntoIter = vec::IntoIter<f64>;
@@ -137,6 +145,7 @@ impl Importances {
 ///     .with_keep_samples(true);
 /// let means = RandomForestRegressor::fit(&x, &y, parameters)?.predict_oob(&x)?;
 /// assert_eq!(means.len(), 4);
+/// assert!(!means.is_empty() && means.as_slice().len() == 4);
 /// assert_eq!(means.count(), means.iter().flatten().count());
 /// for (row, mean) in means.into_iter().enumerate() {
 ///     match mean {

@@ -60,6 +60,7 @@ fn means_iterate() {
     let forest = RandomForestRegressor::fit(&x, &[4.0; 3], Default::default()).unwrap();
     let means = forest.predict(&x).unwrap();
     assert_eq!((means.len(), means.iter().len()), (3, 3));
+    assert_eq!(Vec::from(means.clone()), means.clone().into_vec());
     let mut sum = 0.0;
     for mean in &means {
         sum += mean;

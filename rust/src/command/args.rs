@@ -71,7 +71,7 @@ impl Command {
                 option if option.starts_with("--") => {
                     let (name, value) = self.option(option, &mut words)?;
                     if said.iter().any(|(it, _)| *it == name)
-                        && !["--features", "--id"].contains(&name)
+                        && !["--features", "--ignore", "--id"].contains(&name)
                     {
                         return Err(self.bad(&format!("{name} is given twice")));
                     }
@@ -158,11 +158,11 @@ impl Args {
         let Some(out) = self.get("--out").filter(|out| *out != "-") else {
             return Ok(None);
         };
-        let mut read = self
-            .files
-            .iter()
-            .map(String::as_str)
-            .chain(self.get("--listing"));
+        let read = self.files.iter().map(String::as_str);
+        let mut read = read.chain(self.get("--listing")).map(|file| match file {
+            STANDARD => "/dev/stdin",
+            file => file,
+        });
         if read.any(|file| same_file(file, out)) {
             let why = "this file is also read; choose another one";
             return Err(Stop::Usage(format!("--out {out}: {why}")));

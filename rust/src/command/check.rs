@@ -5,24 +5,22 @@ use crate::csv::Csv;
 use crate::fit::refused;
 use crate::listing::Listing;
 use crate::output::Output;
-use crate::show::{Roles, Show};
+use crate::roles::Roles;
+use crate::show::Show;
 use crate::stop::Stop;
 use crate::summary::Summary;
 use tailboardy::Fitting;
 
 /// Makes the proved checks of a fit on the data in the files.
 pub fn run(args: &Args) -> Result<Output, Stop> {
-    let roles = Roles::said(args)?;
+    let mut roles = Roles::said(args)?;
     let format = args.format()?;
-    let mut csv = Csv::read(&args.files[0], &format)?;
-    roles.ids_in(&mut csv)?;
     let listed = args.get("--listing");
     let listed = listed.map(|it| Csv::read(it, &format)).transpose()?;
-    let features = match (&roles.features, &roles.target, &listed) {
-        (None, None, Some(listed)) => roles.listed(listed)?,
-        _ => roles.features(&csv, None)?,
-    };
-    let show = Show::new(csv, &roles, features)?;
+    if let (None, None, Some(listed)) = (&roles.features, &roles.target, &listed) {
+        roles.features = Some(roles.listed(listed)?);
+    }
+    let show = Show::read(args, &roles)?;
     let listing = Listing::of(listed, &show)?;
     let mut fitting = Fitting::new(&show.x, &show.y).with_weights(&show.weights);
     if let Some(listing) = &listing {
@@ -40,5 +38,6 @@ pub fn run(args: &Args) -> Result<Output, Stop> {
             "can be used: every column has each row exactly once, in ascending order of value";
         summary.add("listing", file, format!("{file} {text}"));
     }
+    summary.notes(&show.notes);
     Ok(summary.told(args))
 }

@@ -1,7 +1,7 @@
 //! The commands, their options, and the functions that run them.
 
 use crate::args::{Choice, Command, choice};
-use crate::{check, fit, list};
+use crate::{check, correct, fit, list};
 
 const COLUMNS: &[Choice] = &[
     choice("--target", "NAME", "the column to predict"),
@@ -13,12 +13,17 @@ const COLUMNS: &[Choice] = &[
     choice(
         "--features",
         "A,B,..",
-        "the columns to use as features; default: all other columns of numbers",
+        "the columns to use as features; default: all other columns of measurements",
+    ),
+    choice(
+        "--ignore",
+        "A,B,..",
+        "columns that are not features, even if they hold measurements",
     ),
     choice(
         "--id",
         "A,B,..",
-        "columns that are not features, even if they hold numbers",
+        "the columns that name a fixture in messages; they are not features",
     ),
 ];
 
@@ -91,10 +96,29 @@ const JSON: &[Choice] = &[choice(
     "report in JSON: one object on standard output, with the reasons if the input is refused",
 )];
 
+const RANGE: &[Choice] = &[
+    choice(
+        "--strict",
+        "",
+        "refuse fixtures outside the range of the old show, and fixtures with the same name",
+    ),
+    choice(
+        "--extrapolate",
+        "",
+        "let a column pass of which every fixture is outside the range of the old show",
+    ),
+];
+
+const SPREAD: &[Choice] = &[choice(
+    "--spread",
+    "",
+    "add columns NAME_low and NAME_high: the tenth and ninetieth percentile of the trees' predictions",
+)];
+
 const DIGITS: &[Choice] = &[choice(
     "--digits",
     "N",
-    "round what is computed to so many digits after the decimal sign, up to 17; default: exact, so that the same bits are read back",
+    "how many digits to round to after the decimal sign, up to 17; default: as many as it takes to read the same bits back",
 )];
 
 const OUT: &[Choice] = &[choice(
@@ -126,12 +150,12 @@ pub static COMMANDS: [Command; 4] = [
         name: "correct",
         files: &["OLD.csv", "NEW.csv"],
         about: "Fits a forest on the old show and writes a correction for each fixture of the new one",
-        more: "The output has the columns of the new show, or only those named by --id, and a column NAME_correction, where NAME is\n\
-               the target. Without --features, the features are the columns of numbers that both shows have. Columns of numbers\n\
-               that only the old show has are ignored, unless the new one has others that may be meant instead. A report on the\n\
-               forest goes to standard error.",
-        groups: &[COLUMNS, LISTING, TABLES, GROWTH, DIGITS, OUT],
-        run: fit::correct,
+        more: "The output has the columns of the new show, a column NAME_correction, where NAME is the target, and a column outside\n\
+               that names the measurements outside the range of the old show. Without --features, the features are the columns of\n\
+               measurements that both shows have. Those that only the old show has are ignored, unless the new one has others that\n\
+               may be meant instead. Notes and a report on the forest go to standard error.",
+        groups: &[COLUMNS, LISTING, TABLES, RANGE, GROWTH, SPREAD, DIGITS, OUT],
+        run: correct::correct,
     },
     Command {
         name: "list",

@@ -5,8 +5,10 @@ use crate::faults::Faults;
 use crate::format::{self, Format};
 use crate::input;
 use crate::number::{self, Decimal, quoted};
+use crate::numbering;
 use crate::reading::{self, Reading};
 use crate::stop::Stop;
+use crate::units;
 use std::io::Read;
 
 pub use crate::reading::name;
@@ -20,12 +22,9 @@ pub struct Csv {
     decimal: Option<Decimal>,
     /// The columns that name a fixture.
     named_by: Vec<usize>,
+    /// What follows the number in each cell of a column; empty for most columns.
+    units: Vec<String>,
 }
-
-/// Words that a column's name may begin with if its cells name fixtures.
-const NAMING: [&str; 7] = [
-    "fixture", "name", "id", "unit", "channel", "number", "label",
-];
 
 impl Csv {
     /// Reads a file. If anything is wrong with it, the messages name the file and the lines.
@@ -36,7 +35,8 @@ impl Csv {
         Ok(csv)
     }
 
-    /// Reads a file. Rows with another number of cells than there are columns are faults, and left out of the table.
+    /// Reads a file. Rows with another number of cells than there are columns are faults, and left out of the table; it stops if none is
+    /// left.
     pub fn read_on(file: &str, format: &Format, faults: &mut Faults) -> Result<Self, Stop> {
         let called = input::called(file);
         let from = input::open(file).map_err(|error| faults.stop(Stop::unread(called, &error)))?;
@@ -50,12 +50,17 @@ impl Csv {
         faults: &mut Faults,
     ) -> Result<Self, Stop> {
         let read = reading::read(file, from, format, faults)?;
-        let naming = read.names.iter().position(|name| names_fixtures(name));
+        if read.lines.is_empty() {
+            return Err(faults.stop(Stop::Refused(Vec::new())));
+        }
+        let naming = numbering::naming(&read.names);
+        let units = vec![String::new(); read.names.len()];
         let mut csv = Csv {
             file: file.to_owned(),
             read,
             decimal: format.decimal,
             named_by: naming.into_iter().collect(),
+            units,
         };
         if csv.decimal.is_none() {
             csv.decimal = csv.find_decimal(faults)?;
@@ -115,7 +120,17 @@ impl Csv {
                 None => "the cell is empty; a number is required".into(),
             });
         }
-        number::read(cell, self.decimal())
+        number::read(units::bare(cell, &self.units[column]), self.decimal())
+    }
+
+    /// The unit that the cells of a column are known to have; empty if they have none.
+    pub fn unit(&self, column: usize) -> &str {
+        &self.units[column]
+    }
+
+    /// Makes it known that the cells of a column have this unit.
+    pub fn set_unit(&mut self, column: usize, unit: String) {
+        self.units[column] = unit;
     }
 
     /// The numbers of a column. A cell that has none is a fault, and counts as 0.
@@ -140,7 +155,8 @@ impl Csv {
         self.called(row).unwrap_or_else(line)
     }
 
-    fn called(&self, row: usize) -> Option<String> {
+    /// The name of a fixture, if it has one.
+    pub fn called(&self, row: usize) -> Option<String> {
         let cells = self.named_by.iter().map(|it| name(self.cell(row, *it)));
         let cells: Vec<String> = cells.filter(|cell| !cell.is_empty()).collect();
         (!cells.is_empty()).then(|| cells.join(" "))
@@ -215,12 +231,15 @@ impl Csv {
     }
 }
 
-/// Whether a column's name says that its cells name fixtures.
-fn names_fixtures(name: &str) -> bool {
-    let name = name.to_lowercase();
-    let mut words = name.split(|letter: char| !letter.is_alphanumeric());
-    words.next().is_some_and(|word| NAMING.contains(&word))
+#[cfg(test)]
+impl Csv {
+    /// A table named `t`, for tests.
+    pub fn of(text: &str) -> Csv {
+        let format = Format::default();
+        Csv::read_from("t", text.as_bytes(), &format, &mut Faults::default()).expect("a table")
+    }
 }
+
 #[cfg(test)]
 mod tests {
     use super::*;
@@ -267,8 +286,8 @@ mod tests {
     }
 
     #[test]
-    fn fixtures_are_named_by_the_first_column_that_says_so() {
-        let text = "x,Unit no,fixture\n1,7,a\n,,b\n,8,c\n";
+    fn fixtures_are_named_by_the_column_that_says_so() {
+        let text = "x,Unit no,truss\n1,7,a\n,,b\n,8,c\n";
         let mut csv = csv(text, &Format::default()).unwrap();
         assert_eq!([csv.fixture(0), csv.fixture(1)], ["7", "line 3"]);
         assert_eq!(csv.number(0, 0), Ok(1.0));
@@ -278,7 +297,7 @@ mod tests {
         assert_eq!(csv.number(2, 0), Err(empty.into()));
         csv.name_by(vec![2, 1]);
         assert_eq!([csv.fixture(0), csv.fixture(1)], ["a 7", "b"]);
-        assert_eq!(csv.place(1, 2), "t, line 3, column fixture");
+        assert_eq!(csv.place(1, 2), "t, line 3, column truss");
     }
 
     #[test]

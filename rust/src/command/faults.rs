@@ -26,6 +26,10 @@ impl Faults {
         }
     }
 
+    pub fn is_empty(&self) -> bool {
+        self.lines.is_empty()
+    }
+
     /// Stops the run with all faults so far and with one after which nothing more can be found out.
     pub fn stop(&mut self, last: Stop) -> Stop {
         let mut all = std::mem::take(self);

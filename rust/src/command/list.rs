@@ -1,11 +1,11 @@
 //! The command `list`.
 
 use crate::args::Args;
-use crate::csv::Csv;
 use crate::fit::refused;
 use crate::output::Output;
 use crate::record;
-use crate::show::{Roles, Show};
+use crate::roles::Roles;
+use crate::show::Show;
 use crate::stop::Stop;
 use crate::summary::Summary;
 use tailboardy::{Fitting, Listings};
@@ -14,10 +14,7 @@ use tailboardy::{Fitting, Listings};
 pub fn run(args: &Args) -> Result<Output, Stop> {
     let roles = Roles::said(args)?;
     let file = args.out()?;
-    let mut csv = Csv::read(&args.files[0], &args.format()?)?;
-    roles.ids_in(&mut csv)?;
-    let features = roles.features(&csv, None)?;
-    let show = Show::new(csv, &roles, features)?;
+    let show = Show::read(args, &roles)?;
     let listings = Listings::sorted(&show.x);
     let fitting = Fitting::new(&show.x, &show.y)
         .with_weights(&show.weights)
@@ -26,11 +23,14 @@ pub fn run(args: &Args) -> Result<Output, Stop> {
     checked.map_err(|refusal| refused(&refusal, &show, None))?;
     let mut summary = Summary::new(None);
     summary.show(&show);
-    Ok(Output {
-        beside: summary.text(),
+    let mut output = Output {
         text: table(&show, &listings),
         file,
-    })
+        ..Output::default()
+    };
+    output.note(&show.notes);
+    output.beside += &summary.text();
+    Ok(output)
 }
 
 fn table(show: &Show, listings: &Listings) -> String {

@@ -107,11 +107,7 @@ impl Listing {
             }
             Breach::Falls { row, after } => {
                 let value = |row| value(row, fault.feature, show);
-                format!(
-                    "{} comes after {}, which is higher",
-                    value(row),
-                    value(after)
-                )
+                format!("{} follows {}, which is higher", value(row), value(after))
             }
             _ => format!("it ends after {} of {rows} rows", fault.place),
         };
@@ -169,7 +165,7 @@ impl Listing {
 
 fn counts_from(first: u32) -> String {
     format!(
-        "row numbers count from {first}, but have to count from 0; `tailboardy list` writes a fresh listing"
+        "row numbers are counted from {first} instead of 0; `tailboardy list` writes a fresh listing"
     )
 }
 

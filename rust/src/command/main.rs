@@ -3,28 +3,38 @@
 #![forbid(unsafe_code)]
 
 mod args;
+mod both;
 mod check;
+mod column;
 mod commands;
+mod correct;
 mod csv;
 mod decimal;
 mod encoding;
 mod faults;
 mod fit;
+mod fixtures;
 mod format;
 mod input;
 mod json;
 mod list;
 mod listing;
+mod measure;
 mod nearest;
 mod number;
+mod numbering;
 mod output;
+mod outside;
 mod progress;
 mod reading;
 mod record;
 mod replace;
+mod roles;
 mod show;
+mod spread;
 mod stop;
 mod summary;
+mod units;
 
 use args::Command;
 use commands::COMMANDS;

@@ -48,19 +48,27 @@ fn plain(word: &str) -> String {
 fn edits(one: &str, other: &str) -> usize {
     let (one, other): (Vec<char>, Vec<char>) = (one.chars().collect(), other.chars().collect());
     let mut rows: Vec<Vec<usize>> = vec![(0..=other.len()).collect()];
-    for (i, a) in one.iter().enumerate() {
-        let mut row = vec![i + 1];
-        for (j, b) in other.iter().enumerate() {
-            let replaced = rows[i][j] + usize::from(a != b);
-            let mut least = replaced.min(rows[i][j + 1] + 1).min(row[j] + 1);
-            if i > 0 && j > 0 && *a == other[j - 1] && one[i - 1] == *b {
-                least = least.min(rows[i - 1][j - 1] + 1);
-            }
-            row.push(least);
-        }
+    for at in 0..one.len() {
+        let row = next_row(&one[..=at], &other, &rows);
         rows.push(row);
     }
     rows[one.len()][other.len()]
+}
+
+/// The numbers of edits from the beginning of one word to each beginning of the other, from those for shorter beginnings.
+fn next_row(one: &[char], other: &[char], rows: &[Vec<usize>]) -> Vec<usize> {
+    let i = one.len();
+    let mut row = vec![i];
+    for j in 1..=other.len() {
+        let replaced = rows[i - 1][j - 1] + usize::from(one[i - 1] != other[j - 1]);
+        let least = replaced.min(rows[i - 1][j] + 1).min(row[j - 1] + 1);
+        let swapped = i > 1 && j > 1 && one[i - 1] == other[j - 2] && one[i - 2] == other[j - 1];
+        row.push(match swapped {
+            true => least.min(rows[i - 2][j - 2] + 1),
+            false => least,
+        });
+    }
+    row
 }
 
 #[cfg(test)]

@@ -21,6 +21,13 @@ impl Output {
         }
     }
 
+    /// Adds notes to what goes to standard error.
+    pub fn note(&mut self, notes: &[String]) {
+        for note in notes {
+            self.beside += &format!("tailboardy: note: {note}\n");
+        }
+    }
+
     /// Writes the text first and then what goes beside it. It is not an error if the reader of standard output stops reading early, but
     /// what it has is not complete.
     pub fn write(mut self) -> Result<(), Stop> {

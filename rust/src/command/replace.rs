@@ -35,7 +35,7 @@ pub fn place_for(file: &str) -> Result<(), Stop> {
     if path.is_dir() {
         return refused("it is a folder; name a file in it");
     }
-    if path.file_name().is_none() {
+    if path.file_name().is_none() || file.ends_with('/') {
         return refused("it is not the name of a file");
     }
     if !folder_of(path).is_dir() {

@@ -44,7 +44,9 @@ impl Stop {
             ErrorKind::StorageFull | ErrorKind::QuotaExceeded | ErrorKind::FileTooLarge => {
                 "make room, or choose another place with --out"
             }
-            ErrorKind::BrokenPipe => "the program that reads it stopped before the end",
+            ErrorKind::BrokenPipe => {
+                "the program that reads it stopped before the end; start both again"
+            }
             _ => "choose another place with --out",
         };
         Stop::refused(file, &format!("{error}; {advice}"))
@@ -57,5 +59,31 @@ impl fmt::Display for Stop {
             Stop::Usage(why) => f.write_str(why),
             Stop::Refused(lines) => f.write_str(&lines.join("\n")),
         }
+    }
+}
+
+#[cfg(test)]
+mod tests {
+    use super::*;
+
+    #[test]
+    fn what_to_do_about_a_file_is_told() {
+        let (denied, full) = (13, 28);
+        let unread = |number| Stop::unread("a.csv", &Error::from_raw_os_error(number)).to_string();
+        assert_eq!(
+            unread(denied),
+            "a.csv: Permission denied (os error 13); get permission to read it, or use a copy"
+        );
+        assert_eq!(unread(5), "a.csv: Input/output error (os error 5)");
+        let unwritten =
+            |number| Stop::unwritten("a.csv", &Error::from_raw_os_error(number)).to_string();
+        assert_eq!(
+            unwritten(denied),
+            "a.csv: Permission denied (os error 13); get permission to write there, or choose another place with --out"
+        );
+        assert_eq!(
+            unwritten(full),
+            "a.csv: No space left on device (os error 28); make room, or choose another place with --out"
+        );
     }
 }

@@ -90,10 +90,26 @@ impl Summary {
         if let Some(weight) = &show.weight {
             self.add("weight", weight, format!("weight: {weight}"));
         }
+        let units = show.units();
+        if !units.is_empty() {
+            let text = units.iter().map(|(name, unit)| format!("{name} {unit}"));
+            let text = format!("units: {}", text.collect::<Vec<_>>().join(", "));
+            let units = units.into_iter().map(|(name, unit)| (name, unit.into()));
+            self.add("units", Json::object(units), text);
+        }
         let passed = show.passed();
         if !passed.is_empty() {
             let text = format!("not used: {}", passed.join(", "));
             self.add("not_used", Json::list(passed), text);
+        }
+    }
+
+    /// What should be known about the columns and fixtures of a show.
+    pub fn notes(&mut self, notes: &[String]) {
+        if !notes.is_empty() {
+            let text = notes.iter().map(|note| format!("note: {note}"));
+            let text = text.collect::<Vec<_>>().join("\n");
+            self.add("notes", Json::list(notes), text);
         }
     }
 

@@ -82,3 +82,22 @@ pub fn held<T>(work: impl FnOnce() -> T) -> T {
     let _hold = Hold::new();
     work()
 }
+
+#[cfg(test)]
+mod tests {
+    use super::*;
+
+    /// Calls may be nested, and a signal that was ignored before is ignored afterwards, as it is under `nohup`.
+    #[test]
+    fn signals_wait_for_the_last_call_and_then_take_their_own_action() {
+        // nothing else in this program depends on this signal
+        let before = unsafe { signal(SIGHUP, IGNORE) };
+        let came = || CAME.load(Ordering::SeqCst) & (1 << SIGHUP) != 0;
+        held(|| {
+            held(|| unsafe { raise(SIGHUP) });
+            assert!(came());
+        });
+        assert!(!came());
+        assert_eq!(unsafe { signal(SIGHUP, before) }, IGNORE);
+    }
+}

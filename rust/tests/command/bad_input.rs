@@ -3,7 +3,7 @@
 
 use crate::{Folder, run};
 
-const GOOD: &str = "fixture,x,z,pan\na,1,5,0\nb,2,6,1\nc,3,7,4\n";
+const GOOD: &str = "fixture,x,z,pan\na,1,5,0\nb,2,6,1\nc,3.5,7.5,4\n";
 
 /// Runs `correct` on files with these texts and checks the message.
 fn corrected(old: impl AsRef<[u8]>, new: impl AsRef<[u8]>, more: &[&str], why: &str) {
@@ -13,7 +13,11 @@ fn corrected(old: impl AsRef<[u8]>, new: impl AsRef<[u8]>, more: &[&str], why: &
     let words = ["correct", &old, &new, "--target", "pan", "--out", &out];
     let told = run(&[&words[..], more].concat());
     let why = why.replace("OLD", &old).replace("NEW", &new);
-    assert_eq!(told.err, format!("tailboardy: {why}\n"));
+    let lines: String = why
+        .lines()
+        .map(|it| format!("tailboardy: {it}\n"))
+        .collect();
+    assert_eq!(told.err, lines);
     assert_eq!((told.status, told.out.as_str()), (Some(1), ""));
     assert_eq!(folder.files(), 2);
 }
@@ -48,7 +52,7 @@ const OLD_SHOWS: &[[&str; 2]] = &[
     ],
     [
         "x,pan\n1,2\n2,NaN\n",
-        "OLD, line 3, column pan: \"NaN\" is not a number",
+        "OLD, line 3, column pan: \"NaN\" is not a number; it is the only such cell of the column",
     ],
     [
         "x,pan\n1,inf\n",
@@ -64,15 +68,19 @@ const OLD_SHOWS: &[[&str; 2]] = &[
     ],
     [
         "x,pan\n1,1\n\"a\nb\",2\n",
-        "OLD, line 3, column x: \"a\\nb\" is not a number",
+        "OLD, line 3, column x: \"a\\nb\" is not a number; it is the only such cell of the column; correct it, or leave the column out: --ignore x",
     ],
     [
         "x,pan\n1,1\n0x10,2\n",
-        "OLD, line 3, column x: \"0x10\" is not a number",
+        "OLD, line 3, column x: \"0x10\" is not a number; it is the only such cell of the column; correct it, or leave the column out: --ignore x",
+    ],
+    [
+        "y,pan\nup,1\n",
+        "NEW, line 1: there is no column of measurements in common with OLD",
     ],
     [
         "x,pan\nup,1\n",
-        "OLD: there is no column of numbers besides target and weight",
+        "OLD, line 2, column x: \"up\" is not a number",
     ],
 ];
 
@@ -89,7 +97,7 @@ fn old_shows() {
         "OLD, line 2: the text is not UTF-8 but seems to be Windows-1252 (Latin-1), in which it has the word \"é\"; \
          save the table as UTF-8, or convert it with `iconv -f WINDOWS-1252 -t UTF-8`",
     );
-    let huge = "x,pan\n1,1e308\n2,1e308\n3,1e308\n";
+    let huge = "x,pan\n1,1e308\n2,1e308\n3.5,1e308\n";
     let why = "OLD: refusal 100 (not finite): the value of node 0 of tree 0 is inf; \
                the targets or weights are too large, or the weights too small, to calculate with: \
                multiply or divide all of them by a constant";
@@ -117,9 +125,9 @@ fn shows_that_measure_otherwise() {
     let old = "trim,x,pan\n7,1,1\n8,2,2\n";
     let why = "NEW, line 1: there is no column \"trim\", which OLD has, while that file has no column \"Trim\"; name the features with --features";
     corrected(old, "Trim,x\n7,1\n", &[], why);
-    let feet = "trim,x,pan\n7m,1,1\n8m,2,2\n";
-    let why = "OLD, line 2, column trim: \"7m\" is not a number";
-    corrected(feet, "trim,x\n7,1\n", &[], why);
+    let words = "trim,x,pan\nlow,1,1\nhigh,2,2\n";
+    let why = "OLD, line 2, column trim: \"low\" is not a number, and neither is any other cell of the column";
+    corrected(words, "trim,x\n7,1\n", &[], why);
 }
 
 /// A listing that a fit would refuse cannot be used; without a target the columns of the listing are the features.
@@ -153,7 +161,7 @@ const NEW_SHOWS: &[[&str; 2]] = &[
     ["", "NEW: the file is empty"],
     [
         "x,z\n1,2\nlow,3\n",
-        "NEW, line 3, column x: \"low\" is not a number",
+        "NEW, line 3, column x: \"low\" is not a number; it is the only such cell of the column",
     ],
     [
         "x,z\n1,2\n,3\n",
@@ -165,7 +173,7 @@ const NEW_SHOWS: &[[&str; 2]] = &[
     ],
     [
         "q\nlow\n",
-        "NEW, line 1: there is no column of numbers in common with OLD",
+        "NEW, line 1: there is no column of measurements in common with OLD",
     ],
     [
         "x\n1\n\"\"\n",
@@ -177,7 +185,7 @@ const NEW_SHOWS: &[[&str; 2]] = &[
     ],
     [
         "x,z,pan_correction\n1,5,2\n",
-        "NEW, line 1: there is already a column pan_correction; name the columns to write with --id",
+        "NEW, line 1: there is already a column \"pan_correction\", which is added to the corrected show; give it another name or take it out",
     ],
 ];
 
@@ -197,7 +205,8 @@ const NAMED: &[[&str; 3]] = &[
     [
         "--features",
         "fixture,x",
-        "NEW, line 2, column fixture: \"a\" is not a number",
+        "NEW, line 2, column fixture: \"a\" is not a number\n\
+         OLD, line 2, column fixture: \"a\" is not a number, and neither is any other cell of the column",
     ],
     [
         "--features",

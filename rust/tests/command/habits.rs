@@ -32,6 +32,26 @@ fn help_and_version_are_found_where_they_are_looked_for() {
     assert!(run(&["-V"]).out.starts_with("tailboardy "));
 }
 
+/// What docs/COMMAND.md shows after a command with a dollar sign, run from the root of the repository, is what the command writes.
+#[test]
+fn the_page_shows_what_is_written() {
+    let root = format!("{}/..", env!("CARGO_MANIFEST_DIR"));
+    let page = fs::read_to_string(format!("{root}/docs/COMMAND.md")).unwrap();
+    let blocks = page.split("\n    $ tailboardy ").skip(1);
+    let mut runs = 0;
+    for block in blocks {
+        let mut lines = block.lines();
+        let words: Vec<&str> = lines.next().unwrap().split(' ').collect();
+        let shown = lines.map_while(|line| line.strip_prefix("    "));
+        let shown: Vec<&str> = shown.take_while(|line| !line.starts_with("$ ")).collect();
+        let told = told(command(&words).current_dir(&root).output().unwrap());
+        let all = [told.out, told.err].concat();
+        assert_eq!(all.lines().collect::<Vec<_>>(), shown, "{words:?}");
+        runs += 1;
+    }
+    assert!(runs > 0);
+}
+
 #[test]
 fn what_may_be_meant_is_suggested() {
     for (words, why) in [
@@ -186,6 +206,19 @@ fn a_dash_is_standard_output() {
 }
 
 #[test]
+fn standard_input_is_not_written_over() {
+    let folder = Folder::new("over");
+    let new = folder.write("new.csv", fs::read(show("new-house.csv")).unwrap());
+    let old = show("old-house.csv");
+    let words = ["correct", &old, "-", "--target", "pan", "--out", &new];
+    let from = File::open(&new).unwrap();
+    let told = told(command(&words).stdin(from).output().unwrap());
+    let why = "this file is also read; choose another one";
+    assert_eq!(told.err, format!("tailboardy: --out {new}: {why}\n"));
+    assert_eq!(told.status, Some(2));
+}
+
+#[test]
 fn a_files_mode_is_kept() {
     let folder = Folder::new("mode");
     let out = folder.write("out.csv", "old");
@@ -256,4 +289,26 @@ fn a_reader_that_stops_early_is_no_error() {
     let err = fs::read_to_string(folder.path("err")).unwrap();
     let line = "standard output: it was closed before everything was written\n";
     assert!(err.ends_with(line), "{err}");
+}
+
+#[test]
+fn a_pipe_whose_reader_stops_early_is_told() {
+    let folder = Folder::new("pipe");
+    let (old, new, pipe) = (show("old-house.csv"), many(&folder), folder.path("pipe"));
+    let made = Command::new("mkfifo").arg(&pipe).status().unwrap();
+    assert!(made.success());
+    let words = ["correct", &old, &new, "--target", "pan", "--n-trees", "3"];
+    let child = command(&[&words[..], &["--out", &pipe]].concat())
+        .stderr(Stdio::piped())
+        .spawn()
+        .unwrap();
+    let mut first = [0; 7];
+    File::open(&pipe).unwrap().read_exact(&mut first).unwrap();
+    let told = told(child.wait_with_output().unwrap());
+    assert_eq!(told.status, Some(1));
+    let why = "the program that reads it stopped before the end; start both again";
+    assert_eq!(
+        told.err,
+        format!("tailboardy: {pipe}: Broken pipe (os error 32); {why}\n")
+    );
 }

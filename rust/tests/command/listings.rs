@@ -3,7 +3,7 @@
 use crate::{Folder, Run, run, show};
 use std::fs;
 
-const SHOW: &str = "fixture,x,z,pan\na,3,5,0\nb,1,7,1\nc,2,6.5,4\n";
+const SHOW: &str = "fixture,x,z,pan\na,3.5,5,0\nb,1,7,1\nc,2,6.5,4\n";
 
 /// Runs `check` on a listing of the show above.
 fn checked(listing: &str) -> (Run, String, String) {
@@ -56,19 +56,19 @@ fn a_fresh_listing_is_accepted() {
 const TOLD: &[[&str; 2]] = &[
     [
         "x,z\n2,1\n3,3\n1,2\n",
-        "LIST: row numbers count from 1, but have to count from 0; `tailboardy list` writes a fresh listing (refusal 5, listing)",
+        "LIST: row numbers are counted from 1 instead of 0; `tailboardy list` writes a fresh listing (refusal 5, listing)",
     ],
     [
         "x,z\n3,2\n4,4\n2,3\n",
-        "LIST: row numbers count from 2, but have to count from 0; `tailboardy list` writes a fresh listing (refusal 5, listing)",
+        "LIST: row numbers are counted from 2 instead of 0; `tailboardy list` writes a fresh listing (refusal 5, listing)",
     ],
     [
         "x,z\n2,0\n3,2\n1,1\n",
-        "LIST, line 3, column x: row numbers count from 1, but have to count from 0; `tailboardy list` writes a fresh listing (refusal 5, listing)",
+        "LIST, line 3, column x: row numbers are counted from 1 instead of 0; `tailboardy list` writes a fresh listing (refusal 5, listing)",
     ],
     [
         "x,z\n1,0\n2,1\n0,2\n",
-        "LIST, line 4, column z: row 2 (6.5 in line 4 of SHOW) comes after row 1 (7 in line 3 of SHOW), which is higher; \
+        "LIST, line 4, column z: row 2 (6.5 in line 4 of SHOW) follows row 1 (7 in line 3 of SHOW), which is higher; \
          the listing looks like that of another version of the show; `tailboardy list` writes a fresh one (refusal 5, listing)",
     ],
     [
@@ -80,14 +80,14 @@ const TOLD: &[[&str; 2]] = &[
         "x,z\n1,0\n3,3\n2,1\n0,2\n",
         "LIST: it has 4 rows, but SHOW has 3; \
          the listing looks like that of another version of the show; `tailboardy list` writes a fresh one (refusal 2, lengths)\n\
-         LIST, line 5, column z: row 2 (6.5 in line 4 of SHOW) comes after row 1 (7 in line 3 of SHOW), which is higher; \
+         LIST, line 5, column z: row 2 (6.5 in line 4 of SHOW) follows row 1 (7 in line 3 of SHOW), which is higher; \
          the listing looks like that of another version of the show; `tailboardy list` writes a fresh one (refusal 2, lengths)",
     ],
     [
         "x,z\n0,0\n1,1\n1,2\n",
-        "LIST, line 3, column x: row 1 (1 in line 3 of SHOW) comes after row 0 (3 in line 2 of SHOW), which is higher, \
+        "LIST, line 3, column x: row 1 (1 in line 3 of SHOW) follows row 0 (3.5 in line 2 of SHOW), which is higher, \
          and row 2 is missing, which is line 4 of SHOW (refusal 5, listing)\n\
-         LIST, line 4, column z: row 2 (6.5 in line 4 of SHOW) comes after row 1 (7 in line 3 of SHOW), which is higher; \
+         LIST, line 4, column z: row 2 (6.5 in line 4 of SHOW) follows row 1 (7 in line 3 of SHOW), which is higher; \
          the listing looks like that of another version of the show; `tailboardy list` writes a fresh one (refusal 5, listing)",
     ],
     [

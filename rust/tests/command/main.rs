@@ -1,9 +1,11 @@
 //! The command, run as a user runs it: on shows/, and on files that are wrong.
 
 mod bad_input;
+mod columns;
 mod habits;
 mod json;
 mod listings;
+mod outside;
 mod shows;
 mod usage;
 

@@ -136,6 +136,7 @@ fn no_place_for_a_file_is_told_before_a_fit() {
         ),
         (".", "\".\": it is a folder; name a file in it"),
         ("", "\"\": it is not the name of a file"),
+        ("no-folder/", "\"no-folder/\": it is not the name of a file"),
     ] {
         let told = run(&["correct", &old, &new, "--target", "pan", "--out", out]);
         assert_eq!(
