@@ -130,7 +130,7 @@ fn table(new: &Csv, added: &[Added]) -> String {
 
 impl Both {
     /// Adds what is reported of the new show.
-    fn report(&self, summary: &mut Summary) {
+    pub fn report(&self, summary: &mut Summary) {
         let (new, old) = (self.new.file(), self.old.csv.file());
         if !self.lacking.is_empty() {
             let names = self.lacking.join(", ");

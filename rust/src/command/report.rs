@@ -5,6 +5,7 @@ use crate::both::Both;
 use crate::correct::corrections;
 use crate::csv::Csv;
 use crate::fit::Task;
+use crate::fixtures::twice;
 use crate::number::Decimal;
 use crate::output::Output;
 use crate::page::data::{Fixture, Focused, Forest, Measurement, Outside, Page, Source};
@@ -80,8 +81,11 @@ fn filled(
         correction: old.y[row],
         mean,
     });
+    let target = task.roles.target.clone().unwrap_or_default();
+    let column = old.csv.find(&target);
     Ok(Page {
-        target: task.roles.target.clone().unwrap_or_default(),
+        unit: column.map_or("", |it| old.csv.unit(it)).to_owned(),
+        target,
         old: source(&old.csv),
         new: source(new),
         forest: Forest {
@@ -123,9 +127,14 @@ fn measurements(both: &Both, importances: &[f64]) -> Vec<Measurement> {
             importance: *importance,
             low: range.least,
             high: range.greatest,
+            units: None,
         }
     };
-    named.map(measurement).collect()
+    let mut measurements: Vec<Measurement> = named.map(measurement).collect();
+    for beyond in &both.beyond {
+        measurements[beyond.feature].units = beyond.units;
+    }
+    measurements
 }
 
 fn fixtures(
@@ -157,9 +166,17 @@ fn fixtures(
     Ok(fixtures)
 }
 
-/// What was noted about the tables, and how the page differs from them.
+/// What the reader should know about the tables, apart from what lies outside, and how the page differs from them.
 fn notes(both: &Both) -> Vec<String> {
-    let mut notes = both.notes.clone();
+    let mut notes = both.old.notes.clone();
+    if !both.lacking.is_empty() {
+        let names = both.lacking.join(", ");
+        notes.push(format!(
+            "not used, because {} does not have them: {names}",
+            both.new.file()
+        ));
+    }
+    notes.extend(twice(&both.new));
     if both.new.decimal() == Decimal::Comma {
         notes.push("numbers on this page have a decimal point".into());
     }

@@ -5,7 +5,9 @@ mod columns;
 mod habits;
 mod json;
 mod listings;
+mod markup;
 mod outside;
+mod page;
 mod shows;
 mod usage;
 

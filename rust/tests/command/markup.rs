@@ -124,7 +124,11 @@ pub fn linked(elements: &[Element]) -> Result<(), String> {
         let names = element.get("aria-labelledby").unwrap_or_default();
         let link = element.get("href");
         let inside = link.map(|it| it.strip_prefix('#').unwrap_or("not an id"));
-        if let Some(name) = names.split(' ').chain(inside).find(|it| !it.is_empty() && !ids.contains(it)) {
+        if let Some(name) = names
+            .split(' ')
+            .chain(inside)
+            .find(|it| !it.is_empty() && !ids.contains(it))
+        {
             return Err(format!("{name} is referred to, but not there"));
         }
     }

@@ -2,7 +2,7 @@
 
 use crate::page::data::{Fixture, Page};
 use crate::page::first::Wide;
-use crate::page::html::{name, section, table};
+use crate::page::html::{in_unit, name, section, table};
 use crate::page::round::Column;
 
 /// The part of the page with the table of all corrections.
@@ -30,7 +30,7 @@ pub fn all(page: &Page, wide: &Wide) -> String {
     ];
     let caption = format!(
         "Corrections of {}, in the order of {}",
-        name(&page.target),
+        in_unit(&page.target, &page.unit),
         name(&page.new.file)
     );
     section(

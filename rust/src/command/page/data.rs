@@ -3,8 +3,9 @@
 /// Everything that a page shows. All numbers are finite, but what is computed from them need not be.
 #[derive(Debug)]
 pub struct Page {
-    /// The column that was predicted.
+    /// The column that was predicted, and the unit of its cells, or nothing.
     pub target: String,
+    pub unit: String,
     pub old: Source,
     pub new: Source,
     pub forest: Forest,
@@ -43,6 +44,8 @@ pub struct Measurement {
     pub importance: f64,
     pub low: f64,
     pub high: f64,
+    /// The unit that the values of the new show seem to have, and that of the old show's, if many lie outside and this would explain it.
+    pub units: Option<(&'static str, &'static str)>,
 }
 
 /// A fixture of the new show.

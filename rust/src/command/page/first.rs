@@ -37,10 +37,11 @@ impl<'a> Wide<'a> {
 
 /// The part of the page with the fixtures that lie outside.
 pub fn outside(page: &Page) -> String {
-    let mut all: Vec<(&Fixture, &Outside)> = Vec::new();
-    for fixture in &page.fixtures {
-        all.extend(fixture.outside.iter().map(|outside| (fixture, outside)));
-    }
+    let all = page.fixtures.iter().flat_map(|fixture| {
+        let outside = fixture.outside.iter();
+        outside.map(move |outside| (fixture, outside))
+    });
+    let all: Vec<Beyond> = all.collect();
     let body = match page.outside().count() {
         0 => paragraph(
             "None: every measurement of the new show lies within the range of the old one.",
@@ -52,17 +53,44 @@ pub fn outside(page: &Page) -> String {
                 "fixtures of the new show lie",
             );
             let told = format!(
-                "{lie} outside the range that the old show has. The forest knows nothing about such values: it treats them like the nearest ones that it has seen. Check the measurement first, then the correction."
+                "{lie} outside the range of the old show. The forest knows nothing about such values: it treats them like the nearest ones that it has seen. Check the measurement first, then the correction."
             );
-            paragraph(&told) + &beyond(page, all)
+            paragraph(&told) + &ranges(page, &all) + &beyond(page, all)
         }
     };
     section("outside", "Outside the old show", &body)
 }
 
+/// A fixture and a measurement of it that lies outside.
+type Beyond<'a> = (&'a Fixture, &'a Outside);
+
+/// For each measurement that has values outside: of how many fixtures, the range of the old show, and whether the units may differ.
+fn ranges(page: &Page, all: &[Beyond]) -> String {
+    let mut text = String::from("<ul class=\"notes\">\n");
+    for (at, it) in page.measurements.iter().enumerate() {
+        let within = all.iter().filter(|(_, outside)| outside.measurement == at);
+        let number = within.count();
+        if number == 0 {
+            continue;
+        }
+        let units = it.units.map(|(new, old)| {
+            format!("; its values look like {new}, those of the old show like {old}")
+        });
+        text += &format!(
+            "<li>{}: {}; the old show has {} to {}{}</li>\n",
+            name(&it.name),
+            counted(number, "fixture", "fixtures"),
+            rounded(it.low, 9),
+            with_unit(&rounded(it.high, 9), &it.unit),
+            units.unwrap_or_default()
+        );
+    }
+    text + "</ul>\n"
+}
+
 /// What lies outside, the farthest first, as a part of the old show's range.
-fn beyond(page: &Page, mut all: Vec<(&Fixture, &Outside)>) -> String {
-    let far = |(_, outside): &(&Fixture, &Outside)| {
+fn beyond(page: &Page, mut all: Vec<Beyond>) -> String {
+    let far = |(_, outside): &Beyond| {
         let range = &page.measurements[outside.measurement];
         page.beyond(outside) / (range.high - range.low)
     };
@@ -70,22 +98,13 @@ fn beyond(page: &Page, mut all: Vec<(&Fixture, &Outside)>) -> String {
     let column = Column::of(page.fixtures.iter().map(|it| it.correction));
     let rows = all.iter().take(LISTED).map(|(fixture, outside)| {
         let it = &page.measurements[outside.measurement];
-        let side = if outside.value > it.high {
-            "above"
-        } else {
-            "below"
-        };
+        let above = outside.value > it.high;
         let by = rounded(page.beyond(outside), 3);
+        let value = rounded(outside.value, 9);
         [
             name(&fixture.name),
-            format!(
-                "{} {} <small>old show: {} to {}</small>",
-                name(&it.name),
-                with_unit(&rounded(outside.value, 9), &it.unit),
-                rounded(it.low, 9),
-                with_unit(&rounded(it.high, 9), &it.unit)
-            ),
-            format!("{} {side}", with_unit(&by, &it.unit)),
+            format!("{} {}", name(&it.name), with_unit(&value, &it.unit)),
+            with_unit(&by, &it.unit) + if above { " above" } else { " below" },
             column.signed(fixture.correction),
         ]
     });
@@ -95,12 +114,8 @@ fn beyond(page: &Page, mut all: Vec<(&Fixture, &Outside)>) -> String {
         ("Outside by", false),
         ("Correction", true),
     ];
-    table(
-        "outside",
-        "Measurements outside, the farthest first",
-        heads,
-        rows,
-    ) + &more(all.len())
+    let caption = "Measurements outside, the farthest first";
+    table("outside", caption, heads, rows) + &more(all.len())
 }
 
 /// The part of the page with the fixtures whose spread is wide.

@@ -42,6 +42,14 @@ pub fn with_unit(number: &str, unit: &str) -> String {
     format!("{number}{space}{}", escaped(&short(unit, LONG)))
 }
 
+/// A name and the unit of what has it, if there is one.
+pub fn in_unit(text: &str, unit: &str) -> String {
+    match unit {
+        "" => name(text),
+        _ => format!("{} in {}", name(text), escaped(&short(unit, LONG))),
+    }
+}
+
 /// A part of the page, with a heading.
 pub fn section(id: &str, heading: &str, body: &str) -> String {
     format!(

@@ -1,7 +1,7 @@
 //! The marks of fixtures, and the legend that explains them.
 
 use crate::page::data::Page;
-use crate::page::html::name;
+use crate::page::html::in_unit;
 use crate::page::round::counted;
 use crate::page::scale::{Class, Scale};
 use crate::page::svg::MANY;
@@ -38,7 +38,7 @@ pub fn legend(page: &Page, scale: &Scale) -> String {
     let many = page.fixtures.len() > MANY;
     let mut text = format!(
         "<figcaption>Correction of {}\n<ul class=\"legend\">\n",
-        name(&page.target)
+        in_unit(&page.target, &page.unit)
     );
     for class in &scale.classes {
         let within = page.fixtures.iter();

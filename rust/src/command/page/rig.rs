@@ -2,7 +2,7 @@
 
 use crate::page::axis::Axis;
 use crate::page::data::{Fixture, Page};
-use crate::page::html::{escaped, name, paragraph, section};
+use crate::page::html::{in_unit, paragraph, section};
 use crate::page::legend::{self, drawn, sign, tinted};
 use crate::page::round::{Column, counted, rounded};
 use crate::page::scale::{Class, Scale};
@@ -23,26 +23,22 @@ pub fn rig(page: &Page) -> String {
         ..=MANY => marks(page, &places, &scale),
         _ => dots(page, &places, &scale),
     };
-    let [across, up] = [Some(page.across), page.up].map(|side| side.map(|side| label(page, side)));
-    let up = up.map(|up| format!("<p class=\"side\">↑ {up}</p>\n"));
+    let label = |side: usize| {
+        let it = &page.measurements[side];
+        in_unit(&it.name, &it.unit)
+    };
+    let up = page
+        .up
+        .map(|up| format!("<p class=\"side\">↑ {}</p>\n", label(up)));
     let body = format!(
         "{}<figure class=\"rig\">\n{}{}<p class=\"side across\">{} →</p>\n{}</figure>\n",
         paragraph(&about(page)),
         up.unwrap_or_default(),
         plot.draw(&(range(page, &plot) + &inside)),
-        across.unwrap_or_default(),
+        label(page.across),
         legend::legend(page, &scale),
     );
     section("rig", "The rig", &body)
-}
-
-/// A measurement with its unit.
-fn label(page: &Page, side: usize) -> String {
-    let it = &page.measurements[side];
-    match it.unit.as_str() {
-        "" => name(&it.name),
-        unit => format!("{} in {}", name(&it.name), escaped(unit)),
-    }
 }
 
 fn plot(page: &Page) -> Plot<'static> {

@@ -34,7 +34,7 @@ impl Plot<'_> {
     pub fn draw(&self, inside: &str) -> String {
         let (across, up) = (
             self.across.ticks_across(),
-            self.up.map(|axis| axis.ticks(7)),
+            self.up.map(|axis| axis.ticks(8)),
         );
         let up = up.unwrap_or_default();
         let letters = up.iter().map(|tick| tick.label.len()).max().unwrap_or(0);

@@ -16,7 +16,9 @@ pub fn weigh(page: &Page) -> String {
             let told = "The share of each measurement in what the splits of all trees gain.";
             paragraph(told) + &bars(&all)
         }
-        false => paragraph("Nothing: no tree has a split, so every fixture gets the same correction."),
+        false => {
+            paragraph("Nothing: no tree has a split, so every fixture gets the same correction.")
+        }
     };
     section("weigh", "What decides", &body)
 }
