@@ -1,7 +1,7 @@
 //! The command line, and the help text that is made from the same list of options.
 
 use crate::format::{self, Format};
-use crate::input::STANDARD;
+use crate::input::{MOST, STANDARD};
 use crate::nearest::nearest;
 use crate::number::quoted;
 use crate::output::Output;
@@ -9,7 +9,7 @@ use crate::replace::{place_for, same_file};
 use crate::stop::Stop;
 use crate::{csv, record};
 use std::fmt::Write;
-use tailboardy::{MAX_TREES, RandomForestRegressorParameters, Splitter};
+use tailboardy::{MAX_ROWS, MAX_TREES, RandomForestRegressorParameters, Splitter};
 
 /// More digits than this no number needs that is not very small.
 const MAX_DIGITS: u64 = 17;
@@ -57,6 +57,10 @@ impl Command {
             let said = format!("{} {}", choice.name, choice.value);
             let _ = writeln!(text, "  {said:<24}{}", choice.help);
         }
+        text += &format!(
+            "\n- in place of a file that is read is standard input. A table has at most {MAX_ROWS} rows and {} MiB.\n",
+            MOST >> 20
+        );
         text + "\nExit status: 0 if done, 1 if the input is refused, with the reason on standard error, 2 if the command line is wrong.\n"
     }
 
@@ -198,6 +202,7 @@ impl Args {
         Ok(Format {
             delimiter: delimiter.transpose()?,
             decimal: decimal.transpose()?,
+            skip_incomplete: self.has("--skip-incomplete"),
         })
     }
 

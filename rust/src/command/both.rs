@@ -4,6 +4,7 @@ use crate::csv::Csv;
 use crate::faults::Faults;
 use crate::fit::Task;
 use crate::fixtures::{listed, twice};
+use crate::incomplete::leave_out;
 use crate::number::{self, Style};
 use crate::outside::{self, Beyond, Range};
 use crate::show::{Show, matrix};
@@ -33,21 +34,19 @@ impl Both {
             let why = "--strict refuses what --extrapolate lets pass; give one of them";
             return Err(Stop::Usage(why.into()));
         }
-        let format = args.format()?;
         let mut faults = Faults::default();
-        let mut old = Csv::read_on(&args.files[0], &format, &mut faults)?;
-        let mut new = Csv::read_on(&args.files[1], &format, &mut faults)?;
-        task.roles.name_fixtures(&mut new)?;
-        // the old show may name its fixtures otherwise
-        let _ = task.roles.name_fixtures(&mut old);
-        let mut chosen = task.roles.common(&mut old, &mut new, &mut faults)?;
+        let (mut old, mut new) = tables(task, &mut faults)?;
+        let common = task.roles.common(&mut old, &mut new, &mut faults);
+        let mut chosen = common.map_err(|stop| faults.stop(stop))?;
+        let incomplete = leave_out(&mut new, chosen.features.iter(), "no correction for");
+        let incomplete = incomplete.map_err(|stop| faults.stop(stop))?;
         let x = matrix(&new, &chosen.features, &mut faults)?;
         let lacking = std::mem::take(&mut chosen.lacking);
         let old = Show::new(old, &task.roles, chosen, faults)?;
         let ranges = outside::ranges(&old.x, &old.weights);
         let mut both = Both {
             beyond: outside::of(&ranges, &x),
-            notes: old.notes.clone(),
+            notes: old.notes.iter().cloned().chain(incomplete).collect(),
             old,
             new,
             x,
@@ -109,6 +108,18 @@ impl Both {
         };
         (format!("{}, column {name}", new.file()), why)
     }
+}
+
+/// The old and the new table.
+fn tables(task: &Task, faults: &mut Faults) -> Result<(Csv, Csv), Stop> {
+    let format = task.args.format()?;
+    let mut old = Csv::read_on(&task.args.files[0], &format, faults)?;
+    let mut new = Csv::read_on(&task.args.files[1], &format, faults)?;
+    let named = task.roles.name_fixtures(&mut new);
+    named.map_err(|stop| faults.stop(stop))?;
+    // the old show may name its fixtures otherwise
+    let _ = task.roles.name_fixtures(&mut old);
+    Ok((old, new))
 }
 
 /// A value in its unit, to six digits, as the show writes numbers.

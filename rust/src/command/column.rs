@@ -225,7 +225,7 @@ mod tests {
                 &["1", "low", "2", ""],
                 &[
                     "3: \"low\" is not a number; it is the only such cell of the column; or so",
-                    "5: the cell is empty; a number is required",
+                    "5: the cell is empty; fill it in, or leave out such rows with --skip-incomplete",
                 ],
             ),
             (

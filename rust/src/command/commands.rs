@@ -44,6 +44,11 @@ const TABLES: &[Choice] = &[
         "point|comma",
         "the decimal sign of numbers; default: found out",
     ),
+    choice(
+        "--skip-incomplete",
+        "",
+        "leave out rows with empty cells, and tell which; default: they are refused",
+    ),
 ];
 
 const GROWTH: &[Choice] = &[

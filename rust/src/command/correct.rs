@@ -26,7 +26,7 @@ pub fn correct(args: &Args) -> Result<Output, Stop> {
     let (forest, mut summary) = task.fitted(&both.old)?;
     both.report(&mut summary);
     let style = Style {
-        decimal: both.new.decimal(),
+        decimal: both.new.decimal_or(&both.old.csv),
         digits: task.digits,
     };
     let means = corrections(&both, &forest)?;
@@ -56,7 +56,7 @@ fn free(new: &Csv, target: &str, spread: bool) -> Result<(), Stop> {
         .find(|it| new.find(it).is_some())
     {
         Some(name) => Err(Stop::refused(
-            &format!("{}, line 1", new.file()),
+            &new.head(),
             &format!(
                 "there is already a column {}, which is added to the corrected show; give it another name or take it out",
                 number::quoted(&name)
@@ -68,19 +68,8 @@ fn free(new: &Csv, target: &str, spread: bool) -> Result<(), Stop> {
 
 /// The prediction for each fixture of the new show.
 pub fn corrections(both: &Both, forest: &RandomForestRegressor) -> Result<Means, Stop> {
-    let new = &both.new;
     let means = forest.predict(&both.x);
-    let means = means.map_err(|refusal| Stop::refused(new.file(), &refusal.to_string()))?;
-    if let Some(row) = means.iter().position(|mean| !mean.is_finite()) {
-        let place = format!("{}, line {}", new.file(), new.line(row));
-        let why = format!(
-            "the correction of {} is not a number: sums overflow because of very large targets or weights in {}",
-            new.fixture(row),
-            both.old.csv.file()
-        );
-        return Err(Stop::refused(&place, &why));
-    }
-    Ok(means)
+    means.map_err(|refusal| Stop::refused(both.new.file(), &refusal.to_string()))
 }
 
 /// The columns of low and high predictions.
@@ -115,14 +104,16 @@ fn outsides(both: &Both) -> Vec<String> {
     cells
 }
 
-/// The new show with the columns that are added to it.
+/// The new show with the columns that are added to it, which are empty where a row was left out.
 fn table(new: &Csv, added: &[Added]) -> String {
     let mut text = String::new();
     let names = new.names().iter().chain(added.iter().map(|(name, _)| name));
     record::write(names.map(String::as_str), new.delimiter(), &mut text);
-    for row in 0..new.rows() {
-        let cells = (0..new.names().len()).map(|column| new.cell(row, column));
-        let more = added.iter().map(|(_, cells)| cells[row].as_str());
+    for (record, row) in new.records() {
+        let cells = (0..new.names().len()).map(|column| new.text(record, column));
+        let more = added
+            .iter()
+            .map(|(_, cells)| row.map_or("", |row| cells[row].as_str()));
         record::write(cells.chain(more), new.delimiter(), &mut text);
     }
     text

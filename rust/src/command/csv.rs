@@ -18,6 +18,10 @@ pub use crate::reading::name;
 pub struct Csv {
     file: String,
     read: Reading,
+    /// Which of the records that were read are rows: all, until some are left out.
+    rows: Vec<usize>,
+    /// Whether rows with empty cells may be left out.
+    skips: bool,
     /// The decimal sign, if it was said or any number has one.
     decimal: Option<Decimal>,
     /// The columns that name a fixture.
@@ -57,7 +61,9 @@ impl Csv {
         let units = vec![String::new(); read.names.len()];
         let mut csv = Csv {
             file: file.to_owned(),
+            rows: (0..read.lines.len()).collect(),
             read,
+            skips: format.skip_incomplete,
             decimal: format.decimal,
             named_by: naming.into_iter().collect(),
             units,
@@ -106,6 +112,11 @@ impl Csv {
         self.read.delimiter
     }
 
+    /// The decimal sign of the numbers, or if none of them has one, that of another table.
+    pub fn decimal_or(&self, other: &Csv) -> Decimal {
+        self.decimal.unwrap_or_else(|| other.decimal())
+    }
+
     /// The decimal sign of the numbers.
     pub fn decimal(&self) -> Decimal {
         self.decimal.unwrap_or_default()
@@ -115,9 +126,10 @@ impl Csv {
     pub fn number(&self, row: usize, column: usize) -> Result<f64, String> {
         let cell = self.cell(row, column);
         if cell.trim().is_empty() {
+            let how = "fill it in, or leave out such rows with --skip-incomplete";
             return Err(match self.called(row) {
-                Some(name) => format!("the cell of {name} is empty; a number is required"),
-                None => "the cell is empty; a number is required".into(),
+                Some(name) => format!("the cell of {name} is empty; {how}"),
+                None => format!("the cell is empty; {how}"),
             });
         }
         number::read(units::bare(cell, &self.units[column]), self.decimal())
@@ -179,17 +191,49 @@ impl Csv {
 
     /// The number of rows.
     pub fn rows(&self) -> usize {
-        self.read.lines.len()
+        self.rows.len()
     }
 
     /// The line on which a row begins.
     pub fn line(&self, row: usize) -> usize {
-        self.read.lines[row]
+        self.read.lines[self.rows[row]]
     }
 
     /// The text of a cell.
     pub fn cell(&self, row: usize, column: usize) -> &str {
-        self.read.cells.get(row * self.names().len() + column)
+        self.text(self.rows[row], column)
+    }
+
+    /// The text of a cell of a record, which may be left out.
+    pub fn text(&self, record: usize, column: usize) -> &str {
+        self.read.cells.get(record * self.names().len() + column)
+    }
+
+    /// All records, and the row that each is, unless it is left out.
+    pub fn records(&self) -> impl Iterator<Item = (usize, Option<usize>)> {
+        let row = |record: usize| self.rows.binary_search(&record).ok();
+        (0..self.read.lines.len()).map(move |record| (record, row(record)))
+    }
+
+    /// Leaves out the rows that have empty cells in these columns, if that may be done. Returns for each what it is called and the names
+    /// of the columns.
+    pub fn leave_out(&mut self, columns: &[usize]) -> Vec<String> {
+        let empty = |row: usize| {
+            let empty = columns
+                .iter()
+                .filter(|it| self.cell(row, **it).trim().is_empty());
+            let names: Vec<&str> = empty.map(|it| self.names()[*it].as_str()).collect();
+            names.join(", ")
+        };
+        let (mut rows, mut left) = (Vec::new(), Vec::new());
+        for row in 0..self.rows() {
+            match empty(row) {
+                names if names.is_empty() || !self.skips => rows.push(self.rows[row]),
+                names => left.push(format!("{} ({names})", self.fixture(row))),
+            }
+        }
+        self.rows = rows;
+        left
     }
 
     /// All cells of a column.
@@ -202,13 +246,19 @@ impl Csv {
         self.names().iter().position(|it| it == name)
     }
 
+    /// What to say where a column is missing, if the first lines have more of another separator.
+    pub fn split(&self) -> String {
+        let more = format::more_of(self.read.delimiter, &[&self.read.written]);
+        more.map_or(String::new(), |it| format!("; {it}"))
+    }
+
     /// The column with this name, or a message that there is none.
     pub fn column(&self, name: &str) -> Result<usize, Stop> {
         self.find(name).ok_or_else(|| {
             let names = self.names();
             let there: Vec<String> = names.iter().take(20).map(|it| quoted(it)).collect();
             let more = if names.len() > 20 { ", .." } else { "" };
-            let split = format::other_than(self.read.delimiter, &[&self.read.written]);
+            let split = self.split();
             Stop::refused(
                 &self.head(),
                 &format!(
@@ -267,8 +317,8 @@ mod tests {
             assert_eq!(csv.number(0, 1), Ok(number), "{text}");
         }
         let said = |decimal| Format {
-            delimiter: None,
             decimal: Some(decimal),
+            ..Format::default()
         };
         let thousands = "x;z\n1,050;5\n950;4\n";
         assert_eq!(csv(thousands, &said(Comma)).unwrap().number(0, 0), Ok(1.05));
@@ -291,20 +341,37 @@ mod tests {
         let mut csv = csv(text, &Format::default()).unwrap();
         assert_eq!([csv.fixture(0), csv.fixture(1)], ["7", "line 3"]);
         assert_eq!(csv.number(0, 0), Ok(1.0));
-        let empty = "the cell is empty; a number is required";
-        assert_eq!(csv.number(1, 0), Err(empty.into()));
-        let empty = "the cell of 8 is empty; a number is required";
-        assert_eq!(csv.number(2, 0), Err(empty.into()));
+        let how = "fill it in, or leave out such rows with --skip-incomplete";
+        let empty = format!("the cell is empty; {how}");
+        assert_eq!(csv.number(1, 0), Err(empty));
+        let empty = format!("the cell of 8 is empty; {how}");
+        assert_eq!(csv.number(2, 0), Err(empty));
         csv.name_by(vec![2, 1]);
         assert_eq!([csv.fixture(0), csv.fixture(1)], ["a 7", "b"]);
         assert_eq!(csv.place(1, 2), "t, line 3, column truss");
     }
 
     #[test]
+    fn rows_with_empty_cells_may_be_left_out() {
+        let text = "fixture,x,z\na,1,\nb,,4\n,,\nc,5,6\n, ,\t\nd,,\n";
+        let mut csv = csv(text, &Format::default()).unwrap();
+        assert_eq!(csv.leave_out(&[1]), [""; 0]);
+        assert_eq!(csv.rows(), 4);
+        csv.skips = true;
+        assert_eq!(csv.leave_out(&[1]), ["b (x)", "d (x)"]);
+        assert_eq!((csv.rows(), csv.line(1), csv.cell(1, 0)), (2, 5, "c"));
+        let records = [(0, Some(0)), (1, None), (2, Some(1)), (3, None)];
+        assert_eq!(csv.records().collect::<Vec<_>>(), records);
+        assert_eq!([csv.text(1, 0), csv.text(2, 2)], ["b", "6"]);
+        assert_eq!(csv.leave_out(&[2, 1]), ["a (z)"]);
+        assert_eq!((csv.rows(), csv.cell(0, 0)), (1, "c"));
+    }
+
+    #[test]
     fn a_column_that_is_not_there_is_told_with_those_that_are() {
         let said = |delimiter| Format {
             delimiter: Some(delimiter),
-            decimal: None,
+            ..Format::default()
         };
         let stop = |text, delimiter| {
             let stop = csv(text, &said(delimiter)).unwrap().column("z");
@@ -313,6 +380,10 @@ mod tests {
         assert_eq!(
             stop("\nx,y\n1,2\n", ','),
             "t, line 2: there is no column \"z\"; there are \"x\", \"y\""
+        );
+        assert_eq!(
+            stop("The house\nx;z\n1;2\n", ','),
+            "t, line 1: there is no column \"z\"; there are \"The house\"; cells were split at commas, but there are more semicolons; try --delimiter semicolon"
         );
         assert_eq!(
             stop("x,y\n1,2\n", ';'),

@@ -2,6 +2,8 @@
 
 use crate::number::quoted;
 
+const ZERO: &str = "there is a zero byte, so this is not text; save the table as CSV, in UTF-8";
+
 /// What a file is, if its first bytes tell that it is not a table in UTF-8.
 pub fn other(first: &[u8]) -> Option<String> {
     let utf16 = |form: &str| {
@@ -27,6 +29,7 @@ pub fn other(first: &[u8]) -> Option<String> {
             match first.len() / 4 {
                 most if odd > most && even == 0 => utf16("UTF-16LE"),
                 most if even > most && odd == 0 => utf16("UTF-16BE"),
+                _ if even + odd > 0 => Some(ZERO.into()),
                 _ => None,
             }
         }
@@ -36,7 +39,7 @@ pub fn other(first: &[u8]) -> Option<String> {
 /// The text of a line, or why it has none.
 pub fn text(line: &[u8]) -> Result<&str, String> {
     if line.contains(&0) {
-        return Err("there is a zero byte, so this is not text".into());
+        return Err(ZERO.into());
     }
     std::str::from_utf8(line).map_err(|error| match windows(line, error.valid_up_to()) {
         Some(word) => format!(
@@ -100,7 +103,7 @@ mod tests {
             let told = other(&first).unwrap();
             assert!(told.contains(has), "{told}");
         }
-        for first in ["", "a", "a,b\n1,2\n", "\u{feff}a,b\n", "PK\n", "\0\0\0\0"] {
+        for first in ["", "a", "a,b\n1,2\n", "\u{feff}a,b\n", "PK\n"] {
             assert_eq!(other(first.as_bytes()), None, "{first:?}");
         }
     }

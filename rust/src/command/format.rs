@@ -2,7 +2,7 @@
 
 use crate::decimal::Kind;
 use crate::number::Decimal;
-use crate::record::{Cells, Reader};
+use crate::record::{self, Cells, Reader};
 
 /// The separators, and what the command calls them, one and several.
 const DELIMITERS: [(char, &str, &str); 4] = [
@@ -12,6 +12,9 @@ const DELIMITERS: [(char, &str, &str); 4] = [
     ('|', "bar", "bars"),
 ];
 
+/// How messages begin that name the separator.
+pub const SPLIT: &str = "cells were split at";
+
 /// How many rows are looked at to find out what separates cells.
 const SOME: usize = 100;
 
@@ -20,6 +23,8 @@ const SOME: usize = 100;
 pub struct Format {
     pub delimiter: Option<char>,
     pub decimal: Option<Decimal>,
+    /// Whether rows with empty cells may be left out.
+    pub skip_incomplete: bool,
 }
 
 /// A separator by its character or its name.
@@ -38,34 +43,22 @@ pub fn decimal(said: &str) -> Option<Decimal> {
     }
 }
 
-/// The name of a separator for more than one of it.
-pub fn several(delimiter: char) -> &'static str {
+/// The name of a separator, and that of several.
+pub fn names(delimiter: char) -> (&'static str, &'static str) {
     let named = DELIMITERS.iter().find(|it| it.0 == delimiter);
-    named.map_or("separators", |it| it.2)
+    named.map_or(("separator", "separators"), |it| (it.1, it.2))
 }
 
-/// Says what cells were split at and, if these lines have more of another separator, what they have more of.
-pub fn split_at(delimiter: char, lines: &[&[u8]]) -> String {
-    let split = format!("cells were split at {}", several(delimiter));
-    more_of(delimiter, lines).map_or(split.clone(), |more| format!("{split}, but {more}"))
-}
-
-/// Says the same, but only if there is more of another separator.
-pub fn other_than(delimiter: char, lines: &[&[u8]]) -> String {
-    let more = more_of(delimiter, lines);
-    more.map_or(String::new(), |_| {
-        format!("; {}", split_at(delimiter, lines))
-    })
-}
-
-fn more_of(delimiter: char, lines: &[&[u8]]) -> Option<String> {
+/// What cells were split at, if these lines have more of another separator, and of which.
+pub fn more_of(delimiter: char, lines: &[&[u8]]) -> Option<String> {
     let count = |delimiter: char| {
         let bytes = lines.iter().flat_map(|it| it.iter());
         bytes.filter(|it| char::from(**it) == delimiter).count()
     };
-    let (most, name, names) = DELIMITERS.iter().rev().max_by_key(|it| count(it.0))?;
+    let (most, one, several) = DELIMITERS.iter().rev().max_by_key(|it| count(it.0))?;
+    let taken = names(delimiter).1;
     let more = count(*most) > count(delimiter);
-    more.then(|| format!("there are more {names}; try --delimiter {name}"))
+    more.then(|| format!("{SPLIT} {taken}, but there are more {several}; try --delimiter {one}"))
 }
 
 /// What a separator makes of the first lines.
@@ -108,8 +101,11 @@ impl Split {
 }
 
 /// The separator of a table with these first lines: the one that splits head and rows into the same number of cells, more than one. If
-/// several do, the one that makes the most columns of numbers. The comma, if there is no sign of any.
+/// several do, the one that makes the most columns of numbers. The comma, if there is no sign of any. A table may also name it itself.
 pub fn find_delimiter(first: &[u8]) -> Result<char, String> {
+    if let Some(named) = record::named(first).and_then(|it| delimiter(&it.to_string())) {
+        return Ok(named);
+    }
     let splits = DELIMITERS.map(|it| Split::new(first, it.0));
     let fit = || splits.iter().filter(|it| it.fits());
     let most = fit().map(|it| it.numbers).max();
@@ -118,9 +114,9 @@ pub fn find_delimiter(first: &[u8]) -> Result<char, String> {
         [one] => Ok(one.delimiter),
         [one, other, ..] => Err(format!(
             "its cells could be separated by {} ({} to a row) or by {} ({} to a row); say which with --delimiter",
-            several(one.delimiter),
+            names(one.delimiter).1,
             one.names,
-            several(other.delimiter),
+            names(other.delimiter).1,
             other.names
         )),
         [] => {
@@ -154,6 +150,10 @@ mod tests {
             ("a;b;c\n1;2;3\n1;2\n1,5;2;3\n", ';'),
             ("a;b;c\n1,2\n", ';'),
             ("a,b;c\n1\n", ','),
+            // it says so itself
+            ("sep=;\na,b;c,d\n1,2;3,4\n", ';'),
+            ("\u{feff}sep=\t\r\na,b\r\n1,2\r\n", '\t'),
+            ("sep=:\na,b\n1,2\n", ','),
             // a quote that one of them cannot read
             ("a;b\n\"1\";\"2,5\"\n", ';'),
         ] {

@@ -73,7 +73,7 @@ impl<R: Read> Read for Limited<R> {
         };
         if read > self.left {
             let why = format!(
-                "there is more than {} MiB to read, the most that a table may have",
+                "there is more than {} MiB to read, the most that a table may have; leave out what is not needed",
                 MOST >> 20
             );
             return Err(io::Error::other(why));
@@ -96,7 +96,7 @@ mod tests {
 
     #[test]
     fn reading_ends_at_the_limit() {
-        let why = "there is more than 512 MiB to read, the most that a table may have";
+        let why = "there is more than 512 MiB to read, the most that a table may have; leave out what is not needed";
         for most in [1, 1000, FIRST, FIRST + 1, 3 * FIRST] {
             let bytes = vec![b'a'; most];
             assert_eq!(read(&bytes[..], most), Ok(most));

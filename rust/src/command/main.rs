@@ -15,6 +15,7 @@ mod faults;
 mod fit;
 mod fixtures;
 mod format;
+mod incomplete;
 mod input;
 mod json;
 mod list;

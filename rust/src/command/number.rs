@@ -47,7 +47,10 @@ pub fn read(cell: &str, sign: Decimal) -> Result<f64, String> {
             hint(text, sign)
         ))
     } else if number.is_infinite() {
-        Err(format!("{} is too large", quoted(text)))
+        Err(format!(
+            "{} is too large; numbers go up to 1.79e308",
+            quoted(text)
+        ))
     } else {
         Ok(number)
     }
@@ -201,7 +204,10 @@ mod tests {
             assert!(read(text, POINT).is_err(), "{text}");
         }
         assert!(read("1.5", COMMA).is_err());
-        assert_eq!(read("1e999", POINT), Err("\"1e999\" is too large".into()));
+        assert_eq!(
+            read("1e999", POINT),
+            Err("\"1e999\" is too large; numbers go up to 1.79e308".into())
+        );
         assert_eq!(read("a\nb", POINT), Err("\"a\\nb\" is not a number".into()));
     }
 

@@ -2,7 +2,7 @@
 
 use crate::encoding;
 use crate::faults::Faults;
-use crate::format::{self, Format};
+use crate::format::{self, Format, SPLIT};
 use crate::input::{Input, MOST};
 use crate::number::quoted;
 use crate::record::{Cells, Reader};
@@ -11,13 +11,17 @@ use std::collections::HashSet;
 use std::io::{BufRead, Read};
 use tailboardy::MAX_ROWS;
 
+const EMPTY: &str =
+    "the file is empty; a table has a line of column names, and a row for each fixture";
+
 /// What was read.
 #[derive(Debug)]
 pub struct Reading {
     pub delimiter: char,
-    /// The names of the columns, the line that they are on, and what that line is.
+    /// The names of the columns, and the line that they are on.
     pub names: Vec<String>,
     pub head: usize,
+    /// That line and the first row, as they are written.
     pub written: Vec<u8>,
     /// The cells of all rows, and the line on which each row begins.
     pub cells: Cells,
@@ -45,7 +49,7 @@ pub fn read(
     let wrong = |(line, why): (usize, String)| (format!("{file}, line {line}"), why);
     let line = match reader.record(&mut head).map_err(wrong) {
         Ok(Some(line)) => line,
-        Ok(None) => return Err(faults.stop(Stop::refused(file, "the file is empty"))),
+        Ok(None) => return Err(faults.stop(Stop::refused(file, EMPTY))),
         Err((place, why)) => return Err(faults.stop(Stop::refused(&place, &why))),
     };
     let mut reading = Reading {
@@ -78,8 +82,12 @@ impl Reading {
                 break;
             };
             count += 1;
+            if count == 1 {
+                self.written.extend_from_slice(reader.last_line());
+            }
             if count > MAX_ROWS {
-                let why = format!("there are too many rows: the maximum is {MAX_ROWS}");
+                let why =
+                    format!("there are too many rows: leave some out, the maximum is {MAX_ROWS}");
                 return Err(faults.stop(Stop::refused(&place(line), &why)));
             }
             let is = self.cells.len() - before;
@@ -91,16 +99,28 @@ impl Reading {
             }
         }
         match count {
-            0 => Err(faults.stop(Stop::refused(file, "there are column names but no rows"))),
+            0 => Err(faults.stop(Stop::refused(
+                file,
+                "there are column names but no rows; a table has a row for each fixture",
+            ))),
             _ => Ok(()),
         }
     }
 
     /// Why a row of so many cells cannot be used.
     fn uneven(&self, is: usize, line: &[u8]) -> String {
-        let split = format::split_at(self.delimiter, &[&self.written, line]);
         let names = self.names.len();
-        format!("the number of cells is {is}, but the number of columns is {names}; {split}")
+        let cells = format!("the number of cells is {is}, but the number of columns is {names}");
+        let (one, several) = format::names(self.delimiter);
+        let split = format!("{cells}; {SPLIT} {several}");
+        match format::more_of(self.delimiter, &[&self.written, line]) {
+            Some(other) => format!("{cells}; {other}"),
+            None if names == 1 => format!("{split}, so the first line must have a name for each"),
+            None if is > names => {
+                format!("{split}, so a cell with a {one} in it must be in quotes")
+            }
+            None => format!("{split}, so an empty cell needs its {one} too"),
+        }
     }
 }
 
@@ -120,11 +140,14 @@ fn names(head: &Cells, place: &str, faults: &mut Faults) -> Vec<String> {
     let names: Vec<String> = (0..head.len()).map(|it| name(head.get(it))).collect();
     for (at, name) in names.iter().enumerate() {
         if name.is_empty() {
-            faults.add(place, &format!("column {} has no name", at + 1));
+            faults.add(
+                place,
+                &format!("column {} has no name; give it one, or take it out", at + 1),
+            );
         } else if !met.insert(name) {
             faults.add(
                 place,
-                &format!("two columns have the name {}", quoted(name)),
+                &format!("two columns have the name {}; rename one", quoted(name)),
             );
         }
     }
@@ -167,6 +190,7 @@ mod tests {
         assert_eq!(read("\"a\",b\n\"1\" ,2\n3,\"\""), plain);
         assert_eq!(read("a;b\r1;2\r3;\r"), plain);
         assert_eq!(read("a\tb\n1\t2\r\n3\t"), plain);
+        assert_eq!(read("sep=;\r\na;b\r\n1;2\r\n3;\r\n"), plain);
         assert_eq!(read("\n |\n\ra|b\r\r\n\n1|2\n  \n|\n3|\n\n"), plain);
         let quotes = table(&[
             &["a", "b"],
@@ -203,7 +227,7 @@ mod tests {
             let blank = |row: &Vec<String>| row.iter().all(|cell| cell.trim().is_empty());
             let format = Format {
                 delimiter: Some(read.delimiter),
-                decimal: None,
+                ..Format::default()
             };
             let same = || reading(&again, &format).map(|it| rows(&it)) == Ok(rows(&read));
             assert!(
@@ -230,18 +254,33 @@ mod tests {
     fn uneven_tables_are_not() {
         let commas = "cells were split at commas";
         for (text, why) in [
-            ("", "t: the file is empty"),
-            ("\n\n", "t: the file is empty"),
-            ("a,b\n", "t: there are column names but no rows"),
+            (
+                "",
+                "t: the file is empty; a table has a line of column names, and a row for each fixture",
+            ),
+            (
+                "\n\n",
+                "t: the file is empty; a table has a line of column names, and a row for each fixture",
+            ),
+            (
+                "a,b\n",
+                "t: there are column names but no rows; a table has a row for each fixture",
+            ),
             (
                 "a,,c,a,a\n1,2,3,4,5\n",
-                "t, line 1: column 2 has no name\nt, line 1: two columns have the name \"a\"\nt, line 1: two columns have the name \"a\"",
+                "t, line 1: column 2 has no name; give it one, or take it out\nt, line 1: two columns have the name \"a\"; rename one\nt, line 1: two columns have the name \"a\"; rename one",
             ),
             (
                 "a,b\n1,2\n3\n4,5\n6,7,8\n",
                 &format!(
-                    "t, line 3: the number of cells is 1, but the number of columns is 2; {commas}\n\
-                     t, line 5: the number of cells is 3, but the number of columns is 2; {commas}"
+                    "t, line 3: the number of cells is 1, but the number of columns is 2; {commas}, so an empty cell needs its comma too\n\
+                     t, line 5: the number of cells is 3, but the number of columns is 2; {commas}, so a cell with a comma in it must be in quotes"
+                ),
+            ),
+            (
+                "The house\na,b\n",
+                &format!(
+                    "t, line 2: the number of cells is 2, but the number of columns is 1; {commas}, so the first line must have a name for each"
                 ),
             ),
             (
@@ -252,13 +291,13 @@ mod tests {
             ),
             (
                 "a,b\n1,\"2\n3,4\n",
-                "t, line 2: a quote is opened but never closed",
+                "t, line 2: a quote is opened but never closed; put one at the end of the cell",
             ),
             (
                 "a,b\n1\n1,\"2\"x\n",
                 &format!(
-                    "t, line 2: the number of cells is 1, but the number of columns is 2; {commas}\n\
-                     t, line 3: \"x\" follows a closing quote"
+                    "t, line 2: the number of cells is 1, but the number of columns is 2; {commas}, so an empty cell needs its comma too\n\
+                     t, line 3: \"x\" follows a closing quote; double the quotes that belong to the text"
                 ),
             ),
         ] {
@@ -266,7 +305,7 @@ mod tests {
         }
         let rows = "1\n".repeat(MAX_ROWS);
         assert_eq!(read(&format!("a\n{rows}")).unwrap().len(), MAX_ROWS + 1);
-        let many = "t, line 65537: there are too many rows: the maximum is 65535";
+        let many = "t, line 65537: there are too many rows: leave some out, the maximum is 65535";
         assert_eq!(read(&format!("a\n{rows}1\n")), Err(many.to_owned()));
     }
 }

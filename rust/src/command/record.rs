@@ -111,18 +111,21 @@ impl<R: BufRead> Reader<R> {
     }
 
     /// Adds the cells of the next record, which may span several lines. Returns the line on which it begins, or `None` at the end.
-    /// Blank lines between records are passed over: those with nothing but spaces and separators. A line with just two quotes is not
-    /// blank.
+    /// Blank lines before it are passed over: those with nothing but spaces and separators. A line with just two quotes is not blank. A
+    /// first line that names the separator is passed over too.
     pub fn record(&mut self, cells: &mut Cells) -> Result<Option<usize>, Wrong> {
         let delimiter = self.delimiter;
         let blank = |letter: char| letter.is_whitespace() || letter == delimiter;
         let (mut at, mut begin) = (At::Start, None);
+        let mut first = self.line == 0;
         loop {
             let Some(text) = self.text()? else {
-                let open = "a quote is opened but never closed";
+                let open = "a quote is opened but never closed; put one at the end of the cell";
                 return begin.map_or(Ok(None), |line| Err((line, open.into())));
             };
-            if begin.is_none() && text.chars().all(blank) {
+            let named = first && named(text.as_bytes()).is_some();
+            if begin.is_none() && (named || text.chars().all(blank)) {
+                first = false;
                 continue;
             }
             let line = text.trim_end_matches(['\r', '\n']);
@@ -138,6 +141,15 @@ impl<R: BufRead> Reader<R> {
             let end = &self.bytes[self.bytes.len() - line_end..];
             cells.text.extend(end.iter().map(|it| char::from(*it)));
         }
+    }
+}
+
+/// The separator that a table names itself, in a first line like `sep=;`, which some programs write for spreadsheets.
+pub fn named(text: &[u8]) -> Option<char> {
+    let text = text.strip_prefix("\u{feff}".as_bytes()).unwrap_or(text);
+    match text.strip_prefix(b"sep=")? {
+        [letter, b'\r' | b'\n', ..] => Some(char::from(*letter)),
+        _ => None,
     }
 }
 
@@ -173,7 +185,9 @@ impl At {
             (At::Behind, ' ' | '\t') => Ok(At::Behind),
             (At::Behind, _) => {
                 let letter = quoted(&letter.to_string());
-                Err(format!("{letter} follows a closing quote"))
+                Err(format!(
+                    "{letter} follows a closing quote; double the quotes that belong to the text"
+                ))
             }
         }
     }

@@ -78,7 +78,8 @@ impl Roles {
         };
         if chosen.features.is_empty() && faults.is_empty() {
             let why = "there is no column of measurements besides target and weight";
-            return Err(Stop::refused(show.file(), &chosen.instead(why)));
+            let why = format!("{why}{}", show.split());
+            return Err(Stop::refused(show.file(), &chosen.instead(&why)));
         }
         Ok(chosen)
     }
@@ -104,10 +105,9 @@ impl Roles {
             None => self.found_in_both(old, new, faults)?,
         };
         if chosen.features.is_empty() && faults.is_empty() {
-            let place = format!("{}, line 1", new.file());
             let why = "there is no column of measurements in common with";
-            let why = format!("{why} {}", old.file());
-            return Err(Stop::refused(&place, &chosen.instead(&why)));
+            let why = format!("{why} {}{}", old.file(), new.split());
+            return Err(Stop::refused(&new.head(), &chosen.instead(&why)));
         }
         for name in &chosen.features {
             same_unit(old, new, name, faults);
@@ -120,7 +120,7 @@ impl Roles {
         let other = |name: &&String| self.others().any(|it| it == *name);
         match listing.names().iter().find(other) {
             Some(name) => Err(Stop::refused(
-                &format!("{}, line 1", listing.file()),
+                &listing.head(),
                 &format!(
                     "the column {} is given as not being a feature",
                     quoted(name)
@@ -257,7 +257,6 @@ fn not_renamed(name: &str, lacking: &[String], old: &Csv, new: &Csv) -> Result<(
     let Some(first) = lacking.first() else {
         return Ok(());
     };
-    let place = format!("{}, line 1", new.file());
     let twin = lacking.iter().find(|it| units::differ(it, name));
     let why = match twin {
         Some(twin) => format!(
@@ -273,7 +272,7 @@ fn not_renamed(name: &str, lacking: &[String], old: &Csv, new: &Csv) -> Result<(
             quoted(name)
         ),
     };
-    Err(Stop::refused(&place, &why))
+    Err(Stop::refused(&new.head(), &why))
 }
 
 /// Tells if two shows have a measurement in different units.

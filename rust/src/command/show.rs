@@ -4,6 +4,7 @@ use crate::args::Args;
 use crate::csv::Csv;
 use crate::faults::Faults;
 use crate::fixtures::twice;
+use crate::incomplete::leave_out;
 use crate::roles::{Chosen, Roles, measure};
 use crate::stop::Stop;
 use tailboardy::DenseMatrix;
@@ -27,8 +28,9 @@ impl Show {
     pub fn read(args: &Args, roles: &Roles) -> Result<Self, Stop> {
         let mut faults = Faults::default();
         let mut csv = Csv::read_on(&args.files[0], &args.format()?, &mut faults)?;
-        roles.name_fixtures(&mut csv)?;
-        let chosen = roles.features(&mut csv, &mut faults)?;
+        let named = roles.name_fixtures(&mut csv);
+        let chosen = named.and_then(|()| roles.features(&mut csv, &mut faults));
+        let chosen = chosen.map_err(|stop| faults.stop(stop))?;
         Show::new(csv, roles, chosen, faults)
     }
 
@@ -39,9 +41,11 @@ impl Show {
         chosen: Chosen,
         mut faults: Faults,
     ) -> Result<Self, Stop> {
-        let y = list(&mut csv, roles.target.as_deref(), &mut faults)?;
-        let weights = list(&mut csv, roles.weight.as_deref(), &mut faults)?.unwrap_or_default();
-        let x = matrix(&csv, &chosen.features, &mut faults)?;
+        let used = chosen.features.iter().chain(&roles.target);
+        let incomplete = leave_out(&mut csv, used.chain(&roles.weight), "left out");
+        let incomplete = incomplete.map_err(|stop| faults.stop(stop))?;
+        let read = numbers(&mut csv, roles, &chosen, &mut faults);
+        let (y, weights, x) = read.map_err(|stop| faults.stop(stop))?;
         faults.end()?;
         if let (Some(weight), true) = (&roles.weight, weights.iter().all(|it| *it == 0.0)) {
             let place = format!("{}, column {weight}", csv.file());
@@ -49,9 +53,10 @@ impl Show {
             return Err(Stop::refused(&place, why));
         }
         let mut notes = chosen.notes();
+        notes.extend(incomplete);
         notes.extend(twice(&csv).map(|why| format!("{}: {why}", csv.file())));
         Ok(Show {
-            y: y.unwrap_or_else(|| vec![0.0; csv.rows()]),
+            y,
             target: roles.target.clone(),
             weight: roles.weight.clone(),
             notes,
@@ -79,6 +84,21 @@ impl Show {
     fn used(&self) -> impl Iterator<Item = &String> {
         self.features.iter().chain(&self.target).chain(&self.weight)
     }
+}
+
+/// The targets, weights and features of a show.
+type Numbers = (Vec<f64>, Vec<f64>, DenseMatrix);
+
+fn numbers(
+    csv: &mut Csv,
+    roles: &Roles,
+    chosen: &Chosen,
+    faults: &mut Faults,
+) -> Result<Numbers, Stop> {
+    let y = list(csv, roles.target.as_deref(), faults)?;
+    let weights = list(csv, roles.weight.as_deref(), faults)?.unwrap_or_default();
+    let x = matrix(csv, &chosen.features, faults)?;
+    Ok((y.unwrap_or_else(|| vec![0.0; csv.rows()]), weights, x))
 }
 
 /// The numbers of a column, if it was given.

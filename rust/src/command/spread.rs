@@ -20,8 +20,7 @@ pub fn of(forest: &RandomForestRegressor, x: &DenseMatrix) -> Result<Vec<(f64, f
 }
 
 fn some_of(forest: &RandomForestRegressor, x: &DenseMatrix) -> Result<Vec<(f64, f64)>, Refusal> {
-    let trees: Result<Vec<_>, Refusal> = forest.trees().map(|tree| tree.predict(x)).collect();
-    let trees = trees?;
+    let trees = forest.predict_trees(x)?;
     let ends = |row: usize| {
         let mut predicted: Vec<f64> = trees.iter().map(|tree| tree[row]).collect();
         predicted.sort_unstable_by(f64::total_cmp);

@@ -23,28 +23,37 @@ fn corrected(old: impl AsRef<[u8]>, new: impl AsRef<[u8]>, more: &[&str], why: &
 }
 
 const OLD_SHOWS: &[[&str; 2]] = &[
-    ["", "OLD: the file is empty"],
-    ["fixture,x,pan\n", "OLD: there are column names but no rows"],
+    [
+        "",
+        "OLD: the file is empty; a table has a line of column names, and a row for each fixture",
+    ],
+    [
+        "fixture,x,pan\n",
+        "OLD: there are column names but no rows; a table has a row for each fixture",
+    ],
     [
         "f,x\na,1\n",
         "OLD, line 1: there is no column \"pan\"; there are \"f\", \"x\"",
     ],
     [
         "x,x,pan\n1,1,1\n",
-        "OLD, line 1: two columns have the name \"x\"",
+        "OLD, line 1: two columns have the name \"x\"; rename one",
     ],
-    ["x,,pan\n1,1,1\n", "OLD, line 1: column 2 has no name"],
+    [
+        "x,,pan\n1,1,1\n",
+        "OLD, line 1: column 2 has no name; give it one, or take it out",
+    ],
     [
         "x,pan\n1,2\n3\n",
-        "OLD, line 3: the number of cells is 1, but the number of columns is 2; cells were split at commas",
+        "OLD, line 3: the number of cells is 1, but the number of columns is 2; cells were split at commas, so an empty cell needs its comma too",
     ],
     [
         "x,pan\n1,2\n3,4,5\n",
-        "OLD, line 3: the number of cells is 3, but the number of columns is 2; cells were split at commas",
+        "OLD, line 3: the number of cells is 3, but the number of columns is 2; cells were split at commas, so a cell with a comma in it must be in quotes",
     ],
     [
         "x,pan\n1,\"2\n",
-        "OLD, line 2: a quote is opened but never closed",
+        "OLD, line 2: a quote is opened but never closed; put one at the end of the cell",
     ],
     [
         "x,pan\n1,abc\n",
@@ -60,11 +69,11 @@ const OLD_SHOWS: &[[&str; 2]] = &[
     ],
     [
         "x,pan\n1,1e400\n",
-        "OLD, line 2, column pan: \"1e400\" is too large",
+        "OLD, line 2, column pan: \"1e400\" is too large; numbers go up to 1.79e308",
     ],
     [
         "x,pan\n1,\n",
-        "OLD, line 2, column pan: the cell is empty; a number is required",
+        "OLD, line 2, column pan: the cell is empty; fill it in, or leave out such rows with --skip-incomplete",
     ],
     [
         "x,pan\n1,1\n\"a\nb\",2\n",
@@ -107,8 +116,11 @@ fn old_shows() {
 #[test]
 fn shows_that_are_too_large() {
     let long = "1,2\n".repeat(65_536);
-    let why =
-        |which: &str| format!("{which}, line 65537: there are too many rows: the maximum is 65535");
+    let why = |which: &str| {
+        format!(
+            "{which}, line 65537: there are too many rows: leave some out, the maximum is 65535"
+        )
+    };
     corrected(format!("x,pan\n{long}"), "x\n1\n", &[], &why("OLD"));
     corrected(GOOD, format!("x,z\n{long}"), &[], &why("NEW"));
     let names: Vec<String> = (0..1025).map(|it| format!("f{it}")).collect();
@@ -158,18 +170,21 @@ fn listings_of_other_columns() {
 }
 
 const NEW_SHOWS: &[[&str; 2]] = &[
-    ["", "NEW: the file is empty"],
+    [
+        "",
+        "NEW: the file is empty; a table has a line of column names, and a row for each fixture",
+    ],
     [
         "x,z\n1,2\nlow,3\n",
         "NEW, line 3, column x: \"low\" is not a number; it is the only such cell of the column",
     ],
     [
         "x,z\n1,2\n,3\n",
-        "NEW, line 3, column x: the cell is empty; a number is required",
+        "NEW, line 3, column x: the cell is empty; fill it in, or leave out such rows with --skip-incomplete",
     ],
     [
         "x,z\n1\n",
-        "NEW, line 2: the number of cells is 1, but the number of columns is 2; cells were split at commas",
+        "NEW, line 2: the number of cells is 1, but the number of columns is 2; cells were split at commas, so an empty cell needs its comma too",
     ],
     [
         "q\nlow\n",
@@ -177,11 +192,11 @@ const NEW_SHOWS: &[[&str; 2]] = &[
     ],
     [
         "x\n1\n\"\"\n",
-        "NEW, line 3, column x: the cell is empty; a number is required",
+        "NEW, line 3, column x: the cell is empty; fill it in, or leave out such rows with --skip-incomplete",
     ],
     [
         "x,z\n1,2\n\"\"\n",
-        "NEW, line 3: the number of cells is 1, but the number of columns is 2; cells were split at commas",
+        "NEW, line 3: the number of cells is 1, but the number of columns is 2; cells were split at commas, so an empty cell needs its comma too",
     ],
     [
         "x,z,pan_correction\n1,5,2\n",

@@ -2,6 +2,7 @@
 
 mod bad_input;
 mod columns;
+mod faults;
 mod habits;
 mod json;
 mod listings;
@@ -9,6 +10,7 @@ mod markup;
 mod outside;
 mod page;
 mod shows;
+mod tables;
 mod usage;
 
 use std::fs;

@@ -96,7 +96,7 @@ const SENSELESS: &[[&str; 2]] = &[
     ],
     [
         "fit a --target p --features \"x",
-        "--features: a quote is opened but never closed",
+        "--features: a quote is opened but never closed; put one at the end of the cell",
     ],
 ];
 
