@@ -42,6 +42,7 @@ pub fn correct(args: &Args) -> Result<Output, Stop> {
         ..Output::default()
     };
     output.note(&both.notes);
+    output.note(&both.warnings);
     output.beside += &summary.text();
     Ok(output)
 }

@@ -5,7 +5,6 @@ use crate::both::Both;
 use crate::correct::corrections;
 use crate::csv::Csv;
 use crate::fit::Task;
-use crate::fixtures::twice;
 use crate::number::Decimal;
 use crate::output::Output;
 use crate::page::data::{Fixture, Focused, Forest, Measurement, Outside, Page, Source};
@@ -32,6 +31,7 @@ pub fn report(args: &Args) -> Result<Output, Stop> {
         ..Output::default()
     };
     output.note(&both.notes);
+    output.note(&both.warnings);
     output.beside += &summary.text();
     Ok(output)
 }
@@ -166,9 +166,9 @@ fn fixtures(
     Ok(fixtures)
 }
 
-/// What the reader should know about the tables, apart from what lies outside, and how the page differs from them.
+/// What the reader should know about the tables, and how the page differs from them. What lies outside has a part of its own.
 fn notes(both: &Both) -> Vec<String> {
-    let mut notes = both.old.notes.clone();
+    let mut notes = both.notes.clone();
     if !both.lacking.is_empty() {
         let names = both.lacking.join(", ");
         notes.push(format!(
@@ -176,8 +176,7 @@ fn notes(both: &Both) -> Vec<String> {
             both.new.file()
         ));
     }
-    notes.extend(twice(&both.new));
-    if both.new.decimal() == Decimal::Comma {
+    if both.new.decimal_or(&both.old.csv) == Decimal::Comma {
         notes.push("numbers on this page have a decimal point".into());
     }
     notes

@@ -224,6 +224,29 @@ fn what_lies_outside_comes_first() {
 }
 
 #[test]
+fn what_is_noted_about_the_tables_is_on_the_page() {
+    let old = OLD.replace("fixture,", "unit;fixture,").replace(',', ";");
+    let old = old
+        .replace("\na", "\n1;a")
+        .replace("\nb", "\n2;b")
+        .replace("\nc", "\n3;c")
+        .replace("\nd", "\n4;d");
+    let new = "unit;fixture;x;y\n1;e;2,5;20\n2;f;;30\n";
+    let told = small(&old.replace('.', ","), new, &["--skip-incomplete"]);
+    let elements = page(&told);
+    let made = part(&elements, "made");
+    for note in [
+        "column unit: left out",
+        "no correction for 1 of 2 fixtures",
+        "numbers on this page have a decimal point",
+    ] {
+        assert!(made.contains(note), "{note} in {made}");
+    }
+    assert!(made.contains("new.csv, 1 fixture\n"), "{made}");
+    assert!(!part(&elements, "all").contains("f+"));
+}
+
+#[test]
 fn one_measurement_makes_a_strip() {
     let told = small("x,pan\n1.5,0\n2,1\n4,-1\n", "x\n1.5\n2\n2\n", &[]);
     page(&told);
