@@ -3,7 +3,7 @@
 use crate::csv::Csv;
 use crate::faults::Faults;
 use crate::measure::{self, Holds};
-use crate::number::quoted;
+use crate::number::{self, quoted};
 use crate::numbering::{counted, is_numbering};
 
 /// What a column that was given no role can be used for.
@@ -113,6 +113,7 @@ pub fn tell(csv: &Csv, column: usize, holds: &Holds, remedy: &str, faults: &mut 
             let why = "is in two units; write it as one number in one unit";
             (row, format!("{} {why}", cell(row)))
         }
+        Holds::Otherwise { .. } => return tell_otherwise(csv, column, remedy, faults),
         Holds::Units { row, other } => {
             let place = format!("line {}", csv.line(other));
             let why = differ(csv.cell(row, column), csv.cell(other, column), &place);
@@ -122,6 +123,16 @@ pub fn tell(csv: &Csv, column: usize, holds: &Holds, remedy: &str, faults: &mut 
     faults.add(&csv.place(row, column), &(why + remedy));
     if matches!(holds, Holds::OnlyWord { .. } | Holds::Mixed { .. }) {
         tell_others(csv, column, row, faults);
+    }
+}
+
+/// Tells all cells whose numbers are written otherwise than the table's.
+fn tell_otherwise(csv: &Csv, column: usize, remedy: &str, faults: &mut Faults) {
+    for row in 0..csv.rows() {
+        let number = measure::otherwise(csv.cell(row, column), csv.decimal());
+        let why = number.and_then(|it| number::read(it, csv.decimal()).err());
+        why.iter()
+            .for_each(|why| faults.add(&csv.place(row, column), &format!("{why}{remedy}")));
     }
 }
 
@@ -246,6 +257,13 @@ mod tests {
             (
                 &["4.2 m", "4.3"],
                 &["2: \"4.2 m\" is in m, but \"4.3\" in line 3 has no unit; or so"],
+            ),
+            (
+                &["950", "1 050 m", "1 150"],
+                &[
+                    "3: \"1 050\" is not a number; it looks like 1050 with thousands separators, which are not read: leave them out; or so",
+                    "4: \"1 150\" is not a number; it looks like 1150 with thousands separators, which are not read: leave them out; or so",
+                ],
             ),
             (
                 &["18'6", "19"],

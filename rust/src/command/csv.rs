@@ -75,7 +75,10 @@ impl Csv {
     }
 
     fn find_decimal(&self, faults: &mut Faults) -> Result<Option<Decimal>, Stop> {
-        let kinds = |column| self.cells(column).map(Kind::of).collect();
+        let kinds = |column: usize| match numbering::is_numbering(&self.names()[column]) {
+            true => Vec::new(),
+            false => self.cells(column).map(Kind::of).collect(),
+        };
         let found = decimal::find((0..self.names().len()).map(kinds), self.read.delimiter);
         let at = |(row, column)| {
             let (line, name) = (self.line(row), &self.names()[column]);
@@ -255,9 +258,9 @@ impl Csv {
     /// The column with this name, or a message that there is none.
     pub fn column(&self, name: &str) -> Result<usize, Stop> {
         self.find(name).ok_or_else(|| {
-            let names = self.names();
-            let there: Vec<String> = names.iter().take(20).map(|it| quoted(it)).collect();
-            let more = if names.len() > 20 { ", .." } else { "" };
+            let names = self.names().iter().filter(|it| !it.is_empty());
+            let there: Vec<String> = names.clone().take(20).map(|it| quoted(it)).collect();
+            let more = if names.count() > 20 { ", .." } else { "" };
             let split = self.split();
             Stop::refused(
                 &self.head(),
@@ -311,6 +314,7 @@ mod tests {
             ("fixture,x\na,4.25\nb,3\n", Point, 4.25),
             ("fixture;x\na;4.25\nb;3\n", Point, 4.25),
             ("fixture;x\na;4\nb;3\n", Point, 4.0),
+            ("dmx address;x\n1.101;4,25\n1.201;3\n", Comma, 4.25),
         ] {
             let csv = csv(text, &Format::default()).unwrap();
             assert_eq!(csv.decimal(), decimal, "{text}");

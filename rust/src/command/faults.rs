@@ -30,6 +30,12 @@ impl Faults {
         self.lines.is_empty()
     }
 
+    /// Adds the faults of another list.
+    pub fn append(&mut self, other: Faults) {
+        other.lines.into_iter().for_each(|line| self.add_line(line));
+        self.more += other.more;
+    }
+
     /// Stops the run with all faults so far and with one after which nothing more can be found out.
     pub fn stop(&mut self, last: Stop) -> Stop {
         let mut all = std::mem::take(self);
@@ -83,6 +89,7 @@ mod tests {
         assert!(told(51).ends_with("\nt, line 49: bad\n1 more fault is not shown"));
         let mut faults = Faults::default();
         faults.add("t", "bad");
+        faults.append(Faults::default());
         assert_eq!(
             faults.stop(Stop::refused("u", "worse")).to_string(),
             "t: bad\nu: worse"

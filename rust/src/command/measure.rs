@@ -11,6 +11,8 @@ enum Cell<'a> {
     Unit(&'a str),
     /// Several numbers that are one together, each with a unit: feet and inches, or degrees and minutes.
     Parts,
+    /// A number with another decimal sign than the table's, or with thousands separators.
+    Otherwise,
     Word,
 }
 
@@ -27,6 +29,10 @@ pub enum Holds {
     },
     /// Numbers of which this one is in parts.
     Parts {
+        row: usize,
+    },
+    /// Numbers of which this one is written otherwise than the table's numbers.
+    Otherwise {
         row: usize,
     },
     Words,
@@ -86,6 +92,7 @@ struct Kinds {
     /// Whether any of the units is known.
     known: bool,
     parts: Tally,
+    otherwise: Tally,
     words: Tally,
 }
 
@@ -95,6 +102,7 @@ impl Kinds {
             Cell::Empty => (),
             Cell::Number => self.bare.add(row),
             Cell::Parts => self.parts.add(row),
+            Cell::Otherwise => self.otherwise.add(row),
             Cell::Word => self.words.add(row),
             Cell::Unit(unit) => {
                 self.known |= is_known(unit);
@@ -111,11 +119,12 @@ impl Kinds {
 
     fn holds(self) -> Holds {
         let (with, words) = (self.with.and(self.others), self.words);
-        let all = self.bare.and(with).and(self.parts).and(words);
+        let bare = self.bare.and(self.parts).and(self.otherwise);
+        let all = bare.and(with).and(words);
         let one = self.others.count == 0 && 2 * with.count > all.count;
         let (numbers, words) = match self.known || one {
-            true => (self.bare.and(with).and(self.parts), words),
-            false => (self.bare.and(self.parts), words.and(with)),
+            true => (bare.and(with), words),
+            false => (bare, words.and(with)),
         };
         match (numbers.first, words.first) {
             (None, _) => Holds::Words,
@@ -129,6 +138,9 @@ impl Kinds {
     /// What is in a column without words.
     fn numbers(self) -> Holds {
         let differs = self.bare.and(self.others).first;
+        if let Some(row) = self.otherwise.first {
+            return Holds::Otherwise { row };
+        }
         match (self.parts.first, self.with.first, differs) {
             (Some(row), _, _) => Holds::Parts { row },
             (None, None, _) => Holds::Numbers,
@@ -150,6 +162,8 @@ fn cell(text: &str, decimal: Decimal) -> Cell<'_> {
         Cell::Unit(unit)
     } else if in_parts(text, decimal) {
         Cell::Parts
+    } else if number::otherwise(front, decimal) && (unit.is_empty() || is_known(unit)) {
+        Cell::Otherwise
     } else {
         Cell::Word
     }
@@ -167,8 +181,13 @@ pub fn is_number(text: &str, decimal: Decimal) -> bool {
     match cell(text, decimal) {
         Cell::Number | Cell::Parts => true,
         Cell::Unit(unit) => is_known(unit),
-        Cell::Empty | Cell::Word => false,
+        Cell::Empty | Cell::Otherwise | Cell::Word => false,
     }
+}
+
+/// The number of a cell without its unit, if it is written otherwise than the table's numbers.
+pub fn otherwise(text: &str, decimal: Decimal) -> Option<&str> {
+    (cell(text, decimal) == Cell::Otherwise).then(|| parts(text.trim()).0)
 }
 
 /// The unit of a cell that is a number with a unit.
@@ -213,7 +232,9 @@ mod tests {
             ("18'6\"", Cell::Parts),
             ("5 ft 6 in", Cell::Parts),
             ("12°30", Cell::Parts),
-            ("4,2 m", Cell::Word),
+            ("4,2 m", Cell::Otherwise),
+            ("1 234.5", Cell::Otherwise),
+            ("1 23", Cell::Word),
             ("m", Cell::Word),
             ("LX12", Cell::Word),
             ("1-4 m", Cell::Word),
@@ -247,6 +268,9 @@ mod tests {
         assert_eq!(holds(&["4.2", "4.3 m"]), units(1, 0));
         assert_eq!(holds(&["3 m left", "3 m right"]), units(0, 1));
         assert_eq!(holds(&["4 m", "18'6\""]), Holds::Parts { row: 1 });
+        let otherwise = |row| Holds::Otherwise { row };
+        assert_eq!(holds(&["950", "1 050", "1 150"]), otherwise(1));
+        assert_eq!(holds(&["1,050.5 m", "1,150.5 m"]), otherwise(0));
         // names, since none of these is a unit
         assert_eq!(holds(&["1A", "1B", "2A", "2B"]), Holds::Words);
         assert_eq!(holds(&["FOH", "3x", "BOX"]), Holds::Words);

@@ -78,6 +78,11 @@ fn digits(text: &str) -> bool {
     text.bytes().all(|byte| byte.is_ascii_digit())
 }
 
+/// Whether a text is a number that is written otherwise: with the other decimal sign, or with thousands separators.
+pub fn otherwise(text: &str, sign: Decimal) -> bool {
+    !decimal(text, sign) && !hint(text, sign).is_empty()
+}
+
 /// What a text that is not a number looks like, if it looks like one that is written otherwise.
 fn hint(text: &str, sign: Decimal) -> String {
     let (here, other) = match sign {

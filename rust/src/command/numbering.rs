@@ -5,8 +5,8 @@
 const NUMBERING: &[&str] = &[
     "fixture", "fixtures", "name", "label", "id", "ids", "fid", "cid", "uid", "uuid", "key",
     "number", "numbers", "num", "no", "nr", "index", "idx", "row", "line", "serial", "unit",
-    "channel", "channels", "chan", "ch", "address", "addr", "dmx", "universe", "univ", "patch",
-    "circuit", "dimmer",
+    "channel", "channels", "chan", "ch", "address", "addr", "dmx", "universe", "univ", "ip",
+    "patch", "circuit", "dimmer",
 ];
 
 /// Whether the name of a column says that it numbers or names fixtures: its last word is one of the list, or two of them run together, as in

@@ -14,6 +14,8 @@ use tailboardy::MAX_ROWS;
 const EMPTY: &str =
     "the file is empty; a table has a line of column names, and a row for each fixture";
 
+const NO_ROWS: &str = "there are column names but no rows; a table has a row for each fixture";
+
 /// What was read.
 #[derive(Debug)]
 pub struct Reading {
@@ -64,6 +66,15 @@ pub fn read(
     Ok(reading)
 }
 
+/// Rows that do not have a cell for each name.
+#[derive(Default)]
+struct Uneven {
+    faults: Faults,
+    /// How many rows there are of any kind, and how many cells each has, if it is the same number.
+    rows: usize,
+    cells: Option<usize>,
+}
+
 impl Reading {
     fn rows(
         &mut self,
@@ -71,38 +82,58 @@ impl Reading {
         file: &str,
         faults: &mut Faults,
     ) -> Result<(), Stop> {
+        let mut uneven = Uneven::default();
+        let read = self.records(reader, file, &mut uneven);
+        let head = format!("{file}, line {}", self.head);
+        match uneven.cells {
+            Some(cells) if read.is_ok() && self.lines.is_empty() && uneven.rows > 1 => {
+                faults.add(&head, &self.all_uneven(cells));
+            }
+            _ => faults.append(uneven.faults),
+        }
+        self.nameless(&head, faults);
+        read.map_err(|stop| faults.stop(stop))
+    }
+
+    fn records(
+        &mut self,
+        reader: &mut Reader<impl BufRead>,
+        file: &str,
+        uneven: &mut Uneven,
+    ) -> Result<(), Stop> {
         let place = |line: usize| format!("{file}, line {line}");
-        let mut count = 0;
         loop {
             let before = self.cells.len();
             let read = reader.record(&mut self.cells);
-            let read =
-                read.map_err(|(line, why)| faults.stop(Stop::refused(&place(line), &why)))?;
+            let read = read.map_err(|(line, why)| Stop::refused(&place(line), &why))?;
             let Some(line) = read else {
                 break;
             };
-            count += 1;
-            if count == 1 {
-                self.written.extend_from_slice(reader.last_line());
-            }
-            if count > MAX_ROWS {
-                let why =
-                    format!("there are too many rows: leave some out, the maximum is {MAX_ROWS}");
-                return Err(faults.stop(Stop::refused(&place(line), &why)));
-            }
             let is = self.cells.len() - before;
+            uneven.rows += 1;
+            match uneven.rows {
+                1 => {
+                    self.written.extend_from_slice(reader.last_line());
+                    uneven.cells = Some(is);
+                }
+                count if count > MAX_ROWS => {
+                    let why = format!(
+                        "there are too many rows: leave some out, the maximum is {MAX_ROWS}"
+                    );
+                    return Err(Stop::refused(&place(line), &why));
+                }
+                _ => uneven.cells = uneven.cells.filter(|cells| *cells == is),
+            }
             if is == self.names.len() {
                 self.lines.push(line);
             } else {
                 self.cells.truncate(before);
-                faults.add(&place(line), &self.uneven(is, reader.last_line()));
+                let why = self.uneven(is, reader.last_line());
+                uneven.faults.add(&place(line), &why);
             }
         }
-        match count {
-            0 => Err(faults.stop(Stop::refused(
-                file,
-                "there are column names but no rows; a table has a row for each fixture",
-            ))),
+        match uneven.rows {
+            0 => Err(Stop::refused(file, NO_ROWS)),
             _ => Ok(()),
         }
     }
@@ -112,14 +143,43 @@ impl Reading {
         let names = self.names.len();
         let cells = format!("the number of cells is {is}, but the number of columns is {names}");
         let (one, several) = format::names(self.delimiter);
-        let split = format!("{cells}; {SPLIT} {several}");
-        match format::more_of(self.delimiter, &[&self.written, line]) {
-            Some(other) => format!("{cells}; {other}"),
-            None if names == 1 => format!("{split}, so the first line must have a name for each"),
+        let how = match format::more_of(self.delimiter, &[&self.written, line]) {
+            Some(other) => other,
             None if is > names => {
-                format!("{split}, so a cell with a {one} in it must be in quotes")
+                format!("{SPLIT} {several}, so a cell with a {one} in it must be in quotes")
             }
-            None => format!("{split}, so an empty cell needs its {one} too"),
+            None => format!("{SPLIT} {several}, so an empty cell needs its {one} too"),
+        };
+        format!("{cells}; {how}")
+    }
+
+    /// Why no row can be used, if all have so many cells.
+    fn all_uneven(&self, is: usize) -> String {
+        let names = self.names.len();
+        let (one, several) = format::names(self.delimiter);
+        let how = match format::more_of(self.delimiter, &[&self.written]) {
+            Some(other) => other,
+            None => format!(
+                "{SPLIT} {several}, so the first line must have a name for each, and a cell with a {one} in it must be in quotes"
+            ),
+        };
+        format!(
+            "the number of columns is {names}, but the number of cells in each row is {is}; {how}"
+        )
+    }
+
+    /// Tells the columns that have cells but no name.
+    fn nameless(&self, head: &str, faults: &mut Faults) {
+        let names = self.names.len();
+        for column in (0..names).filter(|it| self.names[*it].is_empty()) {
+            let mut cells = (column..self.cells.len()).step_by(names);
+            if cells.any(|it| !self.cells.get(it).trim().is_empty()) {
+                let number = column + 1;
+                faults.add(
+                    head,
+                    &format!("column {number} has no name; give it one, or take it out"),
+                );
+            }
         }
     }
 }
@@ -134,17 +194,12 @@ pub fn name(text: &str) -> String {
     words.join(" ")
 }
 
-/// The names of all columns, which must be different.
+/// The names of all columns, which must be different. A column without cells needs none: some programs end every line with a separator.
 fn names(head: &Cells, place: &str, faults: &mut Faults) -> Vec<String> {
     let mut met = HashSet::new();
     let names: Vec<String> = (0..head.len()).map(|it| name(head.get(it))).collect();
-    for (at, name) in names.iter().enumerate() {
-        if name.is_empty() {
-            faults.add(
-                place,
-                &format!("column {} has no name; give it one, or take it out", at + 1),
-            );
-        } else if !met.insert(name) {
+    for name in &names {
+        if !name.is_empty() && !met.insert(name) {
             faults.add(
                 place,
                 &format!("two columns have the name {}; rename one", quoted(name)),
@@ -153,6 +208,7 @@ fn names(head: &Cells, place: &str, faults: &mut Faults) -> Vec<String> {
     }
     names
 }
+
 #[cfg(test)]
 mod tests {
     use super::*;
@@ -190,6 +246,10 @@ mod tests {
         assert_eq!(read("\"a\",b\n\"1\" ,2\n3,\"\""), plain);
         assert_eq!(read("a;b\r1;2\r3;\r"), plain);
         assert_eq!(read("a\tb\n1\t2\r\n3\t"), plain);
+        assert_eq!(
+            read("a;b;;\r\n1;2;;\r\n"),
+            table(&[&["a", "b", "", ""], &["1", "2", "", ""]])
+        );
         assert_eq!(read("sep=;\r\na;b\r\n1;2\r\n3;\r\n"), plain);
         assert_eq!(read("\n |\n\ra|b\r\r\n\n1|2\n  \n|\n3|\n\n"), plain);
         let quotes = table(&[
@@ -268,7 +328,7 @@ mod tests {
             ),
             (
                 "a,,c,a,a\n1,2,3,4,5\n",
-                "t, line 1: column 2 has no name; give it one, or take it out\nt, line 1: two columns have the name \"a\"; rename one\nt, line 1: two columns have the name \"a\"; rename one",
+                "t, line 1: two columns have the name \"a\"; rename one\nt, line 1: two columns have the name \"a\"; rename one\nt, line 1: column 2 has no name; give it one, or take it out",
             ),
             (
                 "a,b\n1,2\n3\n4,5\n6,7,8\n",
@@ -278,9 +338,10 @@ mod tests {
                 ),
             ),
             (
-                "The house\na,b\n",
+                "The house\na,b\n1,2\n",
                 &format!(
-                    "t, line 2: the number of cells is 2, but the number of columns is 1; {commas}, so the first line must have a name for each"
+                    "t, line 1: the number of columns is 1, but the number of cells in each row is 2; {commas}, \
+                     so the first line must have a name for each, and a cell with a comma in it must be in quotes"
                 ),
             ),
             (

@@ -1,13 +1,12 @@
 //! Files that are replaced as a whole: an old file stays complete until the new one is on the disk, and nothing else is left behind.
 
-use crate::number::quoted;
 use crate::stop::Stop;
 use std::fs::{self, File, Metadata};
 use std::io::{self, Write};
 use std::os::unix::fs::{MetadataExt, OpenOptionsExt, fchown};
 use std::path::{Path, PathBuf};
 use std::time::SystemTime;
-use tailboardy_sys::signals::held;
+use tailboardy_sys::signals::{came, held};
 
 /// The steps of a replacement. In tests they fail, or the program is stopped between them.
 trait Disk {
@@ -31,7 +30,7 @@ impl Disk for Real {}
 /// Checks, before any work is done, that a file can be written there.
 pub fn place_for(file: &str) -> Result<(), Stop> {
     let path = Path::new(file);
-    let refused = |why: &str| Err(Stop::refused(&quoted(file), why));
+    let refused = |why: &str| Err(Stop::refused(&format!("{file:?}"), why));
     if path.is_dir() {
         return refused("it is a folder; name a file in it");
     }
@@ -72,8 +71,8 @@ pub fn write(file: &str, bytes: &[u8]) -> io::Result<()> {
     }
 }
 
-/// Writes a temporary file in the same folder, and renames it once it is on the disk. Signals have to wait meanwhile, so that the
-/// temporary file is either renamed or removed.
+/// Writes a temporary file in the same folder, and renames it once it is on the disk. A signal that would end the program has to wait
+/// meanwhile, so that the temporary file is either renamed or, if the signal came in time, removed.
 fn replace(disk: &impl Disk, file: &Path, bytes: &[u8]) -> io::Result<()> {
     let part = part_in(folder_of(file));
     held(|| {
@@ -94,7 +93,11 @@ fn fill(disk: &impl Disk, part: &Path, file: &Path, bytes: &[u8]) -> io::Result<
         keep(&made, &old)?;
     }
     disk.write(&mut made, bytes)?;
-    disk.sync(&made)
+    disk.sync(&made)?;
+    match came() {
+        true => Err(io::ErrorKind::Interrupted.into()),
+        false => Ok(()),
+    }
 }
 
 /// Gives the new file the mode of the old one, and its owner and group if the user may do that.
@@ -152,6 +155,7 @@ mod tests {
     use std::os::unix::fs::PermissionsExt;
     use std::os::unix::process::ExitStatusExt;
     use std::process::Command;
+    use std::time::{Duration, Instant};
 
     /// A folder that is removed after the test.
     struct Folder(PathBuf);
@@ -261,14 +265,18 @@ mod tests {
         }
     }
 
-    /// A disk on which the program is asked to stop just before the temporary file is renamed.
+    /// A disk on which the program is asked to stop before the temporary file is renamed.
     struct Stopped;
 
     impl Disk for Stopped {
-        fn rename(&self, part: &Path, file: &Path) -> io::Result<()> {
+        fn sync(&self, file: &File) -> io::Result<()> {
             let own = std::process::id().to_string();
             assert!(Command::new("kill").arg(&own).status()?.success());
-            fs::rename(part, file)
+            let sent = Instant::now();
+            while !came() && sent.elapsed() < Duration::from_secs(10) {
+                std::thread::yield_now();
+            }
+            file.sync_all()
         }
     }
 
@@ -282,6 +290,7 @@ mod tests {
             return;
         }
         let folder = Folder::new();
+        fs::write(folder.0.join("out"), "old").unwrap();
         let program = std::env::current_exe().unwrap();
         let runner = std::env::var("TAILBOARDY_RUNNER").unwrap_or_default();
         let mut line: Vec<&str> = runner.split_whitespace().collect();
@@ -290,7 +299,7 @@ mod tests {
         child.args(&line[1..]);
         child.args(["--exact", "replace::tests::a_signal_leaves_no_part"]);
         let status = child.env(FOLDER, &folder.0).output().unwrap().status;
-        assert_eq!(folder.files(), only("out", "new"));
+        assert_eq!(folder.files(), only("out", "old"));
         assert_eq!(status.signal(), Some(15), "{status}");
     }
 }

@@ -69,7 +69,7 @@ impl Show {
 
     /// Columns that have no role.
     pub fn passed(&self) -> Vec<&str> {
-        let names = self.csv.names().iter();
+        let names = self.csv.names().iter().filter(|name| !name.is_empty());
         let passed = names.filter(|name| !self.used().any(|it| it == *name));
         passed.map(String::as_str).collect()
     }

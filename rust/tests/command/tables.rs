@@ -91,6 +91,15 @@ fn each_show_comes_out_as_it_is_written() {
         let with = |text: &str| format!("{ends}{}{ends}", text.replace('\n', ends));
         assert_eq!(corrected(with(&old), with(&new), &[]).out, plain);
     }
+    // a separator at the end of each line makes a column without a name, which stays
+    let with = |text: &str| text.replace('\n', ",\n");
+    let told = corrected(with(&old), with(&new), &[]);
+    assert_eq!(
+        told.out.replace(",,", ","),
+        plain.replace(",,", ","),
+        "{}",
+        told.err
+    );
     let named = |text: &str| format!("sep=;\r\n{}", text.replace(',', ";"));
     assert_eq!(corrected(named(&old), &new, &[]).out, plain);
 }
@@ -145,7 +154,7 @@ fn decimal_signs_are_found_out_or_said() {
     );
 }
 
-/// Cells that look like numbers and are none, each the only one of its column.
+/// Cells that look like numbers and are none are faults, even if the whole column has no others.
 #[test]
 fn thousands_are_not_guessed() {
     let signs = "the decimal sign of this table is the";
@@ -184,6 +193,17 @@ fn thousands_are_not_guessed() {
         assert!(told.err.starts_with(&line), "{}", told.err);
         assert_eq!(told.status, Some(1));
     }
+    let told = checked("x,z,pan\n\"1,050.5\",2.5,1\n\"1,150.5\",3.5,2\n", &[]);
+    assert_eq!(
+        (told.status, told.err.lines().count()),
+        (Some(1), 2),
+        "{}",
+        told.err
+    );
+    let line = format!(
+        "tailboardy: SHOW, line 3, column x: \"1,150.5\" is not a number; it looks like 1150.5 {thousands}"
+    );
+    assert!(told.err.contains(&line), "{}", told.err);
 }
 
 #[test]
@@ -234,6 +254,12 @@ fn tables_that_cannot_be_split_are_told_with_their_separator() {
         &["--delimiter", "tab", "--target", "pan"],
         "SHOW: there is no column of measurements besides target and weight; \
          cells were split at tabs, but there are more commas; try --delimiter comma",
+    );
+    refused(
+        "Rig plot, Harbour\nfixture,x,pan\na,1,2\n",
+        &[],
+        "SHOW, line 1: the number of columns is 2, but the number of cells in each row is 3; \
+         cells were split at commas, so the first line must have a name for each, and a cell with a comma in it must be in quotes",
     );
     refused(
         "x, m;y, m\n1,5;2,5\n3,5;4,5\n",
