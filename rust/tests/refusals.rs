@@ -44,15 +44,8 @@ fn sizes() {
     let forest = fit(3, 2, 2).unwrap();
     let many = DenseMatrix::new(MAX_ROWS + 1, 2, vec![0.0; 2 * MAX_ROWS + 2], false).unwrap();
     refused(forest.predict_oob(&many), 1, "65536 rows");
-    let none = DenseMatrix::new(0, 2, vec![], false).unwrap();
-    refused(forest.predict(&none), 1, "0 rows");
     let endless = DenseMatrix::new(usize::MAX, 0, vec![], false).unwrap();
     refused(forest.predict_oob(&endless), 1, "rows");
-    refused(
-        forest.predict(&endless),
-        2,
-        "values per row: 0 given, 2 required",
-    );
     refused(Listings::sorted(&endless).check(&endless), 1, "rows");
     assert_eq!(
         Listings::from_columns(&[[0]]).unwrap().fault(&endless, 0),

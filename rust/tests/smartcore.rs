@@ -149,18 +149,19 @@ fn any_number_of_rows_is_predicted() {
     }
 }
 
-/// Too many rows of the wrong width are refused for their width.
+/// Rows of the wrong width are refused for their width, however many there are; no rows at all are refused too.
 #[test]
 fn parts_are_refused_as_a_whole_would_be() {
     let (x, y) = Maker::new(44).plain(10, 2);
     let forest = RandomForestRegressor::fit(&x, &y, Default::default()).unwrap();
-    let rows = MAX_ROWS + 1;
-    let wide = DenseMatrix::new(rows, 3, vec![0.0; 3 * rows], false).unwrap();
-    let refusal = forest.predict(&wide).unwrap_err();
-    assert_eq!(refusal.number(), 2);
-    let told = refusal.to_string();
-    assert!(
-        told.contains("values per row: 3 given, 2 required"),
-        "{told}"
-    );
+    let refused = |rows: usize, columns: usize, number: u32, sentence: &str| {
+        let x = DenseMatrix::new(rows, columns, vec![0.0; rows * columns], false).unwrap();
+        let refusal = forest.predict(&x).unwrap_err();
+        assert_eq!(refusal.number(), number);
+        let told = refusal.to_string();
+        assert!(told.contains(sentence), "{told}");
+    };
+    refused(MAX_ROWS + 1, 3, 2, "values per row: 3 given, 2 required");
+    refused(usize::MAX, 0, 2, "values per row: 0 given, 2 required");
+    refused(0, 2, 1, "0 rows");
 }

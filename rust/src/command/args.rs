@@ -11,7 +11,7 @@ use crate::{csv, record};
 use std::fmt::Write;
 use tailboardy::{MAX_ROWS, MAX_TREES, RandomForestRegressorParameters, Splitter};
 
-/// More digits than this no number needs that is not very small.
+/// Digits beyond these mean nothing, unless a number is very small.
 const MAX_DIGITS: u64 = 17;
 
 /// An option: its name, the name of its value (empty for a flag), and what it does.

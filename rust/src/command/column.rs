@@ -5,6 +5,7 @@ use crate::faults::Faults;
 use crate::measure::{self, Holds};
 use crate::number::{self, quoted};
 use crate::numbering::{counted, is_numbering};
+use crate::units::is_known;
 
 /// What a column that was given no role can be used for.
 #[derive(Debug)]
@@ -42,6 +43,7 @@ impl Use {
         let place = || format!("{}, column {name}", csv.file());
         match Holds::of(csv.cells(column), csv.decimal()) {
             Holds::Words => Use::Words,
+            Holds::Unit(unit) if is_known(&unit) => Use::Measured(unit),
             holds if is_numbering(name) => {
                 let usable = matches!(holds, Holds::Numbers | Holds::Unit(_));
                 let why = "its name says that it numbers or names fixtures";
@@ -80,17 +82,23 @@ pub fn required(csv: &Csv, column: usize, faults: &mut Faults) -> Option<String>
 /// Tells what is wrong with a column that does not have a number in every cell. The remedy is what can be done besides correcting it.
 pub fn tell(csv: &Csv, column: usize, holds: &Holds, remedy: &str, faults: &mut Faults) {
     let cell = |row: usize| quoted(csv.cell(row, column).trim());
-    let wrong = |row: usize| csv.number(row, column).err().unwrap_or_default();
+    let wrong = |row: usize| wrong(csv, row, column);
     let (row, why) = match *holds {
         Holds::Numbers | Holds::Unit(_) => return,
         Holds::Words => {
             let filled = |row: &usize| !csv.cell(*row, column).trim().is_empty();
-            let row = (0..csv.rows()).find(filled).unwrap_or(0);
-            let all = match csv.rows() {
-                1 => "",
-                _ => ", and neither is any other cell of the column",
-            };
-            (row, wrong(row) + all)
+            match (0..csv.rows()).find(filled) {
+                row if csv.rows() == 1 => (row.unwrap_or(0), wrong(0)),
+                Some(row) => {
+                    let why = wrong(row) + ", and neither is any other cell of the column";
+                    (row, why)
+                }
+                None => {
+                    let place = format!("{}, column {}", csv.file(), csv.names()[column]);
+                    let why = "every cell is empty; a number is required in each";
+                    return faults.add(&place, &format!("{why}{remedy}"));
+                }
+            }
         }
         Holds::OnlyNumber { row } => {
             let why = format!("{} is the only number in the column", cell(row));
@@ -109,10 +117,7 @@ pub fn tell(csv: &Csv, column: usize, holds: &Holds, remedy: &str, faults: &mut 
             );
             (word, why)
         }
-        Holds::Parts { row } => {
-            let why = "is in two units; write it as one number in one unit";
-            (row, format!("{} {why}", cell(row)))
-        }
+        Holds::Odd { row } => (row, wrong(row)),
         Holds::Otherwise { .. } => return tell_otherwise(csv, column, remedy, faults),
         Holds::Units { row, other } => {
             let place = format!("line {}", csv.line(other));
@@ -121,8 +126,23 @@ pub fn tell(csv: &Csv, column: usize, holds: &Holds, remedy: &str, faults: &mut 
         }
     };
     faults.add(&csv.place(row, column), &(why + remedy));
-    if matches!(holds, Holds::OnlyWord { .. } | Holds::Mixed { .. }) {
+    if matches!(
+        holds,
+        Holds::OnlyWord { .. } | Holds::Mixed { .. } | Holds::Odd { .. }
+    ) {
         tell_others(csv, column, row, faults);
+    }
+}
+
+/// Why a cell cannot be read as a number.
+fn wrong(csv: &Csv, row: usize, column: usize) -> String {
+    let cell = csv.cell(row, column);
+    match measure::is_odd(cell, csv.decimal()) {
+        true => format!(
+            "{} is not one number in one unit; write it as one",
+            quoted(cell.trim())
+        ),
+        false => csv.number(row, column).err().unwrap_or_default(),
     }
 }
 
@@ -142,8 +162,7 @@ fn tell_others(csv: &Csv, column: usize, told: usize, faults: &mut Faults) {
     let rows: Vec<usize> = (0..csv.rows()).filter(|row| !is_number(row)).collect();
     if 2 * rows.len() <= csv.rows() {
         for row in rows.into_iter().filter(|row| *row != told) {
-            let why = csv.number(row, column).err().unwrap_or_default();
-            faults.add(&csv.place(row, column), &why);
+            faults.add(&csv.place(row, column), &wrong(csv, row, column));
         }
     }
 }
@@ -205,6 +224,7 @@ mod tests {
         );
         assert_eq!(left("trim", &["7.5", "8", "9"]), None);
         assert_eq!(left("fixture", &["a", "b", "c"]), None);
+        assert_eq!(left("line", &["4 m", "5 m", "6 m"]), None);
     }
 
     fn faults(cells: &[&str]) -> Vec<String> {
@@ -259,15 +279,22 @@ mod tests {
                 &["2: \"4.2 m\" is in m, but \"4.3\" in line 3 has no unit; or so"],
             ),
             (
+                &["18'6", "19", "20", "12'3"],
+                &[
+                    "2: \"18'6\" is not one number in one unit; write it as one; or so",
+                    "5: \"12'3\" is not one number in one unit; write it as one",
+                ],
+            ),
+            (
+                &["", ""],
+                &["t: every cell is empty; a number is required in each; or so"],
+            ),
+            (
                 &["950", "1 050 m", "1 150"],
                 &[
                     "3: \"1 050\" is not a number; it looks like 1050 with thousands separators, which are not read: leave them out; or so",
                     "4: \"1 150\" is not a number; it looks like 1150 with thousands separators, which are not read: leave them out; or so",
                 ],
-            ),
-            (
-                &["18'6", "19"],
-                &["2: \"18\\'6\" is in two units; write it as one number in one unit; or so"],
             ),
         ] {
             assert_eq!(faults(cells), told);

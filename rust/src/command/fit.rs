@@ -39,7 +39,10 @@ impl<'a> Task<'a> {
 pub fn fit(args: &Args) -> Result<Output, Stop> {
     let task = Task::new(args)?;
     let show = Show::read(args, &task.roles)?;
-    let (_, summary) = task.fitted(&show)?;
+    let (_, mut summary) = task.fitted(&show)?;
+    if args.has("--json") {
+        summary.notes(&show.notes);
+    }
     let mut output = summary.told(args);
     output.note(&show.notes);
     Ok(output)

@@ -9,8 +9,8 @@ enum Cell<'a> {
     Empty,
     Number,
     Unit(&'a str),
-    /// Several numbers that are one together, each with a unit: feet and inches, or degrees and minutes.
-    Parts,
+    /// A measurement that is not one number: feet and inches, degrees and minutes, `1-4 m`.
+    Odd,
     /// A number with another decimal sign than the table's, or with thousands separators.
     Otherwise,
     Word,
@@ -27,8 +27,8 @@ pub enum Holds {
         row: usize,
         other: usize,
     },
-    /// Numbers of which this one is in parts.
-    Parts {
+    /// Numbers, but this measurement is not one.
+    Odd {
         row: usize,
     },
     /// Numbers of which this one is written otherwise than the table's numbers.
@@ -91,7 +91,7 @@ struct Kinds {
     others: Tally,
     /// Whether any of the units is known.
     known: bool,
-    parts: Tally,
+    odd: Tally,
     otherwise: Tally,
     words: Tally,
 }
@@ -101,7 +101,7 @@ impl Kinds {
         match cell {
             Cell::Empty => (),
             Cell::Number => self.bare.add(row),
-            Cell::Parts => self.parts.add(row),
+            Cell::Odd => self.odd.add(row),
             Cell::Otherwise => self.otherwise.add(row),
             Cell::Word => self.words.add(row),
             Cell::Unit(unit) => {
@@ -119,7 +119,7 @@ impl Kinds {
 
     fn holds(self) -> Holds {
         let (with, words) = (self.with.and(self.others), self.words);
-        let bare = self.bare.and(self.parts).and(self.otherwise);
+        let bare = self.bare.and(self.odd).and(self.otherwise);
         let all = bare.and(with).and(words);
         let one = self.others.count == 0 && 2 * with.count > all.count;
         let (numbers, words) = match self.known || one {
@@ -141,8 +141,8 @@ impl Kinds {
         if let Some(row) = self.otherwise.first {
             return Holds::Otherwise { row };
         }
-        match (self.parts.first, self.with.first, differs) {
-            (Some(row), _, _) => Holds::Parts { row },
+        match (self.odd.first, self.with.first, differs) {
+            (Some(row), _, _) => Holds::Odd { row },
             (None, None, _) => Holds::Numbers,
             (None, Some(_), None) => Holds::Unit(self.unit),
             (None, Some(row), Some(other)) => Holds::Units { row, other },
@@ -161,9 +161,11 @@ fn cell(text: &str, decimal: Decimal) -> Cell<'_> {
     } else if is_number(front) && is_unit(unit) {
         Cell::Unit(unit)
     } else if in_parts(text, decimal) {
-        Cell::Parts
+        Cell::Odd
     } else if number::otherwise(front, decimal) && (unit.is_empty() || is_known(unit)) {
         Cell::Otherwise
+    } else if is_range(front, unit) {
+        Cell::Odd
     } else {
         Cell::Word
     }
@@ -176,12 +178,12 @@ fn parts(text: &str) -> (&str, &str) {
     (front, unit.trim())
 }
 
-/// Whether a cell is a number, on its own or with a known unit.
+/// Whether a cell is a number that can be read, on its own or with a known unit.
 pub fn is_number(text: &str, decimal: Decimal) -> bool {
     match cell(text, decimal) {
-        Cell::Number | Cell::Parts => true,
+        Cell::Number => true,
         Cell::Unit(unit) => is_known(unit),
-        Cell::Empty | Cell::Otherwise | Cell::Word => false,
+        Cell::Empty | Cell::Odd | Cell::Otherwise | Cell::Word => false,
     }
 }
 
@@ -190,9 +192,20 @@ pub fn otherwise(text: &str, decimal: Decimal) -> Option<&str> {
     (cell(text, decimal) == Cell::Otherwise).then(|| parts(text.trim()).0)
 }
 
+/// Whether a cell is a measurement that is not one number.
+pub fn is_odd(text: &str, decimal: Decimal) -> bool {
+    cell(text, decimal) == Cell::Odd
+}
+
 /// The unit of a cell that is a number with a unit.
 pub fn unit(cell: &str) -> &str {
     parts(cell.trim()).1
+}
+
+/// Whether what stands before a known unit is more than a number: `1-4 m`.
+fn is_range(front: &str, unit: &str) -> bool {
+    let begins = front.starts_with(|it: char| it.is_ascii_digit() || "+-".contains(it));
+    begins && !front.contains(char::is_alphabetic) && is_known(unit)
 }
 
 /// Whether a cell is several numbers with known units, of which the last may be missing: `18' 6"`, `5 ft 6 in`, `12°30`.
@@ -229,15 +242,16 @@ mod tests {
             ("6\"", Cell::Unit("\"")),
             ("12A", Cell::Unit("A")),
             ("3 m left", Cell::Unit("m left")),
-            ("18'6\"", Cell::Parts),
-            ("5 ft 6 in", Cell::Parts),
-            ("12°30", Cell::Parts),
+            ("18'6\"", Cell::Odd),
+            ("5 ft 6 in", Cell::Odd),
+            ("12°30", Cell::Odd),
             ("4,2 m", Cell::Otherwise),
             ("1 234.5", Cell::Otherwise),
             ("1 23", Cell::Word),
+            ("1-4 m", Cell::Odd),
+            ("10.0.0.12", Cell::Word),
             ("m", Cell::Word),
             ("LX12", Cell::Word),
-            ("1-4 m", Cell::Word),
             ("2nd electric of the house", Cell::Word),
             ("1e400", Cell::Word),
             ("4.2 (m)", Cell::Word),
@@ -267,7 +281,7 @@ mod tests {
         assert_eq!(holds(&["4.2 m", "4.3 m", "430 cm"]), units(0, 2));
         assert_eq!(holds(&["4.2", "4.3 m"]), units(1, 0));
         assert_eq!(holds(&["3 m left", "3 m right"]), units(0, 1));
-        assert_eq!(holds(&["4 m", "18'6\""]), Holds::Parts { row: 1 });
+        assert_eq!(holds(&["4 m", "18'6\""]), Holds::Odd { row: 1 });
         let otherwise = |row| Holds::Otherwise { row };
         assert_eq!(holds(&["950", "1 050", "1 150"]), otherwise(1));
         assert_eq!(holds(&["1,050.5 m", "1,150.5 m"]), otherwise(0));

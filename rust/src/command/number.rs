@@ -154,7 +154,8 @@ pub fn write(number: f64, style: &Style) -> String {
 pub fn quoted(text: &str) -> String {
     let short: String = text.chars().take(40).collect();
     let more = if short.len() < text.len() { ".." } else { "" };
-    format!("\"{}{more}\"", short.escape_debug())
+    let short = short.escape_debug().to_string().replace("\\'", "'");
+    format!("\"{short}{more}\"")
 }
 
 #[cfg(test)]

@@ -63,14 +63,14 @@ fn words(name: &str) -> Vec<String> {
 /// How few fixtures cannot be said to be counted by a column.
 const FEW: usize = 3;
 
-/// The first and the last number if the cells only count: whole numbers without a sign that are all different, and of which hardly any is
-/// left out on the way from the least to the greatest, at most one for every ten fixtures.
+/// The first and the last number if the cells only count, apart from empty ones: whole numbers without a sign that are all different, and
+/// of which hardly any is left out on the way from the least to the greatest, at most one for every ten fixtures.
 pub fn counted<'a>(cells: impl Iterator<Item = &'a str>) -> Option<(u64, u64)> {
     let whole = |cell: &str| {
-        let cell = cell.trim();
         let digits = cell.bytes().all(|it| it.is_ascii_digit());
         cell.parse().ok().filter(|_| digits)
     };
+    let cells = cells.map(str::trim).filter(|cell| !cell.is_empty());
     let mut numbers: Vec<u64> = cells.map(whole).collect::<Option<_>>()?;
     numbers.sort_unstable();
     let (first, last) = (*numbers.first()?, *numbers.last()?);
@@ -131,6 +131,14 @@ mod tests {
     }
 
     #[test]
+    fn the_page_has_the_same_list() {
+        let page = include_str!("../../../docs/COMMAND.md");
+        let list = NUMBERING.iter().map(|it| format!("`{it}`"));
+        let list = list.collect::<Vec<_>>().join(", ");
+        assert!(page.contains(&list), "{list}");
+    }
+
+    #[test]
     fn fixtures_are_named_by_the_best_column() {
         let naming = |names: &str| naming(&names.split(',').map(String::from).collect::<Vec<_>>());
         assert_eq!(naming("truss,unit,Fixture,channel"), Some(2));
@@ -147,7 +155,7 @@ mod tests {
     fn numbers_that_only_count() {
         assert_eq!(of(&["1", "2", "3"]), Some((1, 3)));
         assert_eq!(of(&["104", " 102", "103", "101"]), Some((101, 104)));
-        assert_eq!(of(&["0", "01", "002"]), Some((0, 2)));
+        assert_eq!(of(&["0", "01", "", "002"]), Some((0, 2)));
         for other in [
             &["1", "2"][..],
             &["1", "2", "2"],

@@ -42,7 +42,7 @@ impl Output {
         match (written, self.file.as_deref()) {
             (Ok(()), _) => (),
             (Err(error), None) if error.kind() == io::ErrorKind::BrokenPipe => {
-                self.beside += "standard output: it was closed before everything was written\n";
+                self.note(&["standard output: it was closed before everything was written".into()]);
             }
             (Err(error), file) => {
                 return Err(Stop::unwritten(file.unwrap_or("standard output"), &error));

@@ -74,7 +74,7 @@ impl Roles {
         }
         let chosen = match &self.features {
             Some(names) => named(names, show, faults)?,
-            None => self.found(show, faults),
+            None => self.found(show, None, faults),
         };
         if chosen.features.is_empty() && faults.is_empty() {
             let why = "there is no column of measurements besides target and weight";
@@ -138,14 +138,18 @@ impl Roles {
             .collect()
     }
 
-    /// The measurements of a show. A column that has to be corrected first is a fault, not a reason to do without it.
-    fn found(&self, show: &mut Csv, faults: &mut Faults) -> Chosen {
+    /// The measurements of a show. A column that has to be corrected first is a fault, not a reason to do without it, unless the next show
+    /// lacks it anyway.
+    fn found(&self, show: &mut Csv, next: Option<&Csv>, faults: &mut Faults) -> Chosen {
         let mut chosen = Chosen::default();
         for (column, use_of) in self.uses(show) {
             let name = show.names()[column].clone();
             match use_of {
                 Use::Words => (),
                 Use::Left(left) => chosen.left.push(left),
+                Use::Faulty(_) if next.is_some_and(|it| it.find(&name).is_none()) => {
+                    chosen.features.push(name);
+                }
                 Use::Faulty(holds) => {
                     let name = option([&name].into_iter());
                     let remedy = format!("; correct it, or leave the column out: --ignore {name}");
@@ -168,7 +172,7 @@ impl Roles {
         new: &mut Csv,
         faults: &mut Faults,
     ) -> Result<Chosen, Stop> {
-        let mut chosen = self.found(old, faults);
+        let mut chosen = self.found(old, Some(new), faults);
         let there = |name: &String| new.find(name).is_some();
         let (both, lacking) = chosen.features.into_iter().partition(there);
         (chosen.features, chosen.lacking) = (both, lacking);

@@ -177,7 +177,7 @@ const UNITS: &[[&str; 3]] = &[
     [
         "trim,x,pan\n\"13'9\"\"\",1,1\n\"14'\",2.5,2\n",
         "trim,x\n4,1\n",
-        "OLD, line 2, column trim: \"13\\'9\\\"\" is in two units; write it as one number in one unit; correct it, or leave the column out: --ignore trim",
+        "OLD, line 2, column trim: \"13'9\\\"\" is not one number in one unit; write it as one; correct it, or leave the column out: --ignore trim",
     ],
     [
         "trim,x,pan\n4.2,1,1 m\n4.3,2.5,2°\n",

@@ -152,6 +152,43 @@ fn a_check_is_reported_in_json() {
     assert_eq!((usage.status, usage.out.as_str()), (Some(2), ""));
 }
 
+/// Every member is explained in docs/COMMAND.md.
+#[test]
+fn members_are_on_the_page() {
+    let page = format!("{}/../docs/COMMAND.md", env!("CARGO_MANIFEST_DIR"));
+    let page = fs::read_to_string(page).unwrap();
+    let (_, part) = page.split_once("\n### JSON\n").unwrap();
+    let (part, _) = part.split_once("\n## ").unwrap();
+    let folder = Folder::new("members");
+    let text = "channel,x,w,pan\n1,5 m,1,0\n2,7 m,2,1\n4,6 m,1,4\n";
+    let show = folder.write("show.csv", text);
+    let listing = folder.write("listing.csv", "x\n0\n2\n1\n");
+    let words = [&show, "--target", "pan", "--weight", "w", "--json"];
+    let (check, fit) = (["check", "--listing", &listing], ["fit", "--n-trees", "5"]);
+    let bad = ["check", &listing, "--target", "y", "--json"];
+    for words in [
+        [&check[..], &words].concat(),
+        [&fit[..], &words].concat(),
+        bad.into(),
+    ] {
+        let told = run(&words);
+        let Value::Object(members) = parse(&told.out) else {
+            panic!("{told:?}");
+        };
+        assert!(members.len() > 1);
+        for (name, _) in members {
+            let row = part.lines().filter(|line| line.starts_with("| `"));
+            let named = |line: &str| line.contains(&format!("`{name}`"));
+            assert!(row.clone().any(named), "{name}");
+        }
+        assert_eq!(
+            told.out.contains("\"notes\": [\""),
+            words[1] != bad[1],
+            "{told:?}"
+        );
+    }
+}
+
 #[test]
 fn json_survives_any_name() {
     let folder = Folder::new("names");
@@ -287,7 +324,7 @@ fn a_reader_that_stops_early_is_no_error() {
     assert_eq!(&first, b"fixture");
     assert_eq!(child.wait().unwrap().code(), Some(0));
     let err = fs::read_to_string(folder.path("err")).unwrap();
-    let line = "standard output: it was closed before everything was written\n";
+    let line = "tailboardy: note: standard output: it was closed before everything was written\n";
     assert!(err.ends_with(line), "{err}");
 }
 
