@@ -5,7 +5,7 @@ use crate::faults::Faults;
 use crate::measure::{self, Holds};
 use crate::number::{self, quoted};
 use crate::numbering::{counted, is_numbering};
-use crate::units::is_known;
+use crate::units::{bare, is_known};
 
 /// What a column that was given no role can be used for.
 #[derive(Debug)]
@@ -41,6 +41,16 @@ impl Use {
             })
         };
         let place = || format!("{}, column {name}", csv.file());
+        let measured = |unit: String| {
+            let cells = csv.cells(column).map(|cell| bare(cell, &unit));
+            match counted(cells) {
+                Some((first, last)) => {
+                    let why = format!("it only counts, from {first} to {last}");
+                    left(place(), why, true)
+                }
+                None => Use::Measured(unit),
+            }
+        };
         match Holds::of(csv.cells(column), csv.decimal()) {
             Holds::Words => Use::Words,
             Holds::Unit(unit) if is_known(&unit) => Use::Measured(unit),
@@ -54,26 +64,21 @@ impl Use {
                 let why = format!("{cell} is the only number in it");
                 left(csv.place(row, column), why, false)
             }
-            Holds::Numbers => match counted(csv.cells(column)) {
-                Some((first, last)) => {
-                    let why = format!("it only counts, from {first} to {last}");
-                    left(place(), why, true)
-                }
-                None => Use::Measured(String::new()),
-            },
-            Holds::Unit(unit) => Use::Measured(unit),
+            Holds::Numbers => measured(String::new()),
+            Holds::Unit(unit) => measured(unit),
             holds => Use::Faulty(holds),
         }
     }
 }
 
-/// The unit of a column that has to have a number in every cell, or `None` after its faults are told.
-pub fn required(csv: &Csv, column: usize, faults: &mut Faults) -> Option<String> {
+/// The unit of a column that has to have a number in every cell, or `None` after its faults are told, with what can be done besides
+/// correcting it.
+pub fn required(csv: &Csv, column: usize, remedy: &str, faults: &mut Faults) -> Option<String> {
     match Holds::of(csv.cells(column), csv.decimal()) {
         Holds::Numbers => Some(String::new()),
         Holds::Unit(unit) => Some(unit),
         holds => {
-            tell(csv, column, &holds, "", faults);
+            tell(csv, column, &holds, remedy, faults);
             None
         }
     }
@@ -223,6 +228,11 @@ mod tests {
             )
         );
         assert_eq!(left("trim", &["7.5", "8", "9"]), None);
+        let counts = "it only counts, from 1 to 3";
+        assert_eq!(
+            left("spot", &["1A", "2A", "3A"]),
+            told("t, column spot", counts, true)
+        );
         assert_eq!(left("fixture", &["a", "b", "c"]), None);
         assert_eq!(left("line", &["4 m", "5 m", "6 m"]), None);
     }

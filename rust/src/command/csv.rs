@@ -57,7 +57,7 @@ impl Csv {
         if read.lines.is_empty() {
             return Err(faults.stop(Stop::Refused(Vec::new())));
         }
-        let naming = numbering::naming(&read.names);
+        let naming = numbering::naming(&read.names, |column| read.differ(column));
         let units = vec![String::new(); read.names.len()];
         let mut csv = Csv {
             file: file.to_owned(),

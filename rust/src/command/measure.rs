@@ -1,7 +1,7 @@
 //! What the cells of a column are: numbers, numbers with a unit, words, or a mixture.
 
 use crate::number::{self, Decimal};
-use crate::units::{is_known, is_unit};
+use crate::units::{is_known, is_letter, is_unit};
 
 /// What is in a cell.
 #[derive(Debug, PartialEq)]
@@ -121,8 +121,10 @@ impl Kinds {
         let (with, words) = (self.with.and(self.others), self.words);
         let bare = self.bare.and(self.odd).and(self.otherwise);
         let all = bare.and(with).and(words);
-        let one = self.others.count == 0 && 2 * with.count > all.count;
-        let (numbers, words) = match self.known || one {
+        // a unit that is not known must be in all cells; one may be wrong, unless the unit may be the end of a name
+        let wrong = usize::from(!is_letter(&self.unit));
+        let believed = self.others.count == 0 && with.count + wrong >= all.count;
+        let (numbers, words) = match self.known || believed {
             true => (bare.and(with), words),
             false => (bare, words.and(with)),
         };
@@ -158,7 +160,7 @@ fn cell(text: &str, decimal: Decimal) -> Cell<'_> {
         Cell::Empty
     } else if is_number(text) {
         Cell::Number
-    } else if is_number(front) && is_unit(unit) {
+    } else if is_number(front) && is_unit(unit) && !in_name(text, front, unit) {
         Cell::Unit(unit)
     } else if in_parts(text, decimal) {
         Cell::Odd
@@ -169,6 +171,12 @@ fn cell(text: &str, decimal: Decimal) -> Cell<'_> {
     } else {
         Cell::Word
     }
+}
+
+/// Whether what follows a number belongs to a name, as in `2E`: it is no known unit, and is run together with a whole number.
+fn in_name(text: &str, front: &str, unit: &str) -> bool {
+    let apart = text[front.len()..].starts_with(char::is_whitespace);
+    !apart && !front.contains(['.', ',']) && !is_known(unit) && !is_letter(unit)
 }
 
 /// A cell as a number, up to its last digit, and as what stands behind that.
@@ -241,6 +249,10 @@ mod tests {
             ("-35 deg", Cell::Unit("deg")),
             ("6\"", Cell::Unit("\"")),
             ("12A", Cell::Unit("A")),
+            ("3 bays", Cell::Unit("bays")),
+            ("3.5bays", Cell::Unit("bays")),
+            ("12B", Cell::Word),
+            ("2E", Cell::Word),
             ("3 m left", Cell::Unit("m left")),
             ("18'6\"", Cell::Odd),
             ("5 ft 6 in", Cell::Odd),
@@ -273,6 +285,7 @@ mod tests {
         assert_eq!(holds(&["a", "b"]), Holds::Words);
         assert_eq!(holds(&["4.2 m", "4.3m", ""]), Holds::Unit("m".into()));
         assert_eq!(holds(&["3 bays", "4 bays"]), Holds::Unit("bays".into()));
+        assert_eq!(holds(&["575W", "750W"]), Holds::Unit("W".into()));
     }
 
     #[test]
@@ -287,6 +300,8 @@ mod tests {
         assert_eq!(holds(&["1,050.5 m", "1,150.5 m"]), otherwise(0));
         // names, since none of these is a unit
         assert_eq!(holds(&["1A", "1B", "2A", "2B"]), Holds::Words);
+        assert_eq!(holds(&["1A", "1B", "1A", "2A"]), Holds::Words);
+        assert_eq!(holds(&["FOH", "1E", "1E", "2E"]), Holds::Words);
         assert_eq!(holds(&["FOH", "3x", "BOX"]), Holds::Words);
     }
 

@@ -28,8 +28,12 @@ const NAMING: &[&str] = &[
     "ch", "unit",
 ];
 
+/// How many of them are for a fixture alone. The others often count again on each truss.
+const OWN: usize = 6;
+
 /// The column that names the fixtures: it has a name that says just that, such as `fixture`, `Fixture ID` or `unit no`, but not `truss name`.
-pub fn naming(names: &[String]) -> Option<usize> {
+/// Of several, it is the best one; but if that has a number of some kind, the best one whose cells are all different, if any.
+pub fn naming(names: &[String], differ: impl Fn(usize) -> bool) -> Option<usize> {
     let rank = |name: &String| {
         let words = words(name);
         let only = words.iter().all(|it| NUMBERING.contains(&it.as_str()));
@@ -38,7 +42,12 @@ pub fn naming(names: &[String]) -> Option<usize> {
     };
     let ranked = names.iter().enumerate();
     let ranked = ranked.filter_map(|(column, name)| Some((rank(name)?, column)));
-    ranked.min().map(|(_, column)| column)
+    let mut ranked: Vec<(usize, usize)> = ranked.collect();
+    ranked.sort_unstable();
+    let best = ranked.first()?;
+    let others = ranked.iter().filter(|_| best.0 >= OWN);
+    let differs = others.map(|(_, column)| *column).find(|it| differ(*it));
+    Some(differs.unwrap_or(best.1))
 }
 
 /// The words of a name in lower case. A word ends where a capital follows a small letter, as in `unitNumber`; a `#` is the word for a number.
@@ -140,11 +149,15 @@ mod tests {
 
     #[test]
     fn fixtures_are_named_by_the_best_column() {
-        let naming = |names: &str| naming(&names.split(',').map(String::from).collect::<Vec<_>>());
-        assert_eq!(naming("truss,unit,Fixture,channel"), Some(2));
-        assert_eq!(naming("unit height,Unit #,chan,pan"), Some(1));
-        assert_eq!(naming("x,fixtureID"), Some(1));
-        assert_eq!(naming("truss name,house id,dmx address,pan"), None);
+        let naming = |names: &str, differ: &[usize]| {
+            let names: Vec<String> = names.split(',').map(String::from).collect();
+            naming(&names, |column| differ.contains(&column))
+        };
+        assert_eq!(naming("truss,unit,Fixture,channel", &[3]), Some(2));
+        assert_eq!(naming("unit height,Unit #,chan,pan", &[]), Some(1));
+        assert_eq!(naming("unit height,Unit #,chan,pan", &[0, 2]), Some(2));
+        assert_eq!(naming("x,fixtureID", &[]), Some(1));
+        assert_eq!(naming("truss name,house id,dmx address,pan", &[0]), None);
     }
 
     fn of(cells: &[&str]) -> Option<(u64, u64)> {

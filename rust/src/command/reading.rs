@@ -76,6 +76,15 @@ struct Uneven {
 }
 
 impl Reading {
+    /// Whether the cells of a column are all different.
+    pub fn differ(&self, column: usize) -> bool {
+        let cells = (0..self.lines.len()).map(|row| row * self.names.len() + column);
+        let mut met = HashSet::new();
+        cells
+            .into_iter()
+            .all(|at| met.insert(self.cells.get(at).trim()))
+    }
+
     fn rows(
         &mut self,
         reader: &mut Reader<impl BufRead>,

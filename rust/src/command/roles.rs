@@ -150,11 +150,7 @@ impl Roles {
                 Use::Faulty(_) if next.is_some_and(|it| it.find(&name).is_none()) => {
                     chosen.features.push(name);
                 }
-                Use::Faulty(holds) => {
-                    let name = option([&name].into_iter());
-                    let remedy = format!("; correct it, or leave the column out: --ignore {name}");
-                    tell(show, column, &holds, &remedy, faults);
-                }
+                Use::Faulty(holds) => tell(show, column, &holds, &ignoring(&name), faults),
                 Use::Measured(unit) => {
                     show.set_unit(column, unit);
                     chosen.features.push(name);
@@ -180,12 +176,13 @@ impl Roles {
             let name = new.names()[column].clone();
             let measured = matches!(use_of, Use::Measured(_) | Use::Faulty(_));
             let common = chosen.features.contains(&name);
-            if common && !measure(new, column, faults) {
+            let remedy = ignoring(&name);
+            if common && !measure(new, column, &remedy, faults) {
                 chosen.features.retain(|it| *it != name);
             }
             match old.find(&name) {
                 Some(column) if !common && measured && is_text(old, column) => {
-                    measure(old, column, faults);
+                    measure(old, column, &remedy, faults);
                 }
                 None if measured => not_renamed(&name, &chosen.lacking, old, new)?,
                 _ => (),
@@ -233,16 +230,22 @@ fn named(names: &[String], show: &mut Csv, faults: &mut Faults) -> Result<Chosen
     let mut chosen = Chosen::default();
     for name in names {
         let column = show.column(name)?;
-        if measure(show, column, faults) {
+        if measure(show, column, "", faults) {
             chosen.features.push(name.clone());
         }
     }
     Ok(chosen)
 }
 
+/// What can be done about a column that was not named, besides correcting it.
+fn ignoring(name: &String) -> String {
+    let name = option([name].into_iter());
+    format!("; correct it, or leave the column out: --ignore {name}")
+}
+
 /// Takes a column as a measurement, if it has numbers alone.
-pub fn measure(show: &mut Csv, column: usize, faults: &mut Faults) -> bool {
-    let unit = required(show, column, faults);
+pub fn measure(show: &mut Csv, column: usize, remedy: &str, faults: &mut Faults) -> bool {
+    let unit = required(show, column, remedy, faults);
     let done = unit.is_some();
     show.set_unit(column, unit.unwrap_or_default());
     done

@@ -107,7 +107,7 @@ fn list(csv: &mut Csv, name: Option<&str>, faults: &mut Faults) -> Result<Option
         return Ok(None);
     };
     let column = csv.column(name)?;
-    Ok(Some(match measure(csv, column, faults) {
+    Ok(Some(match measure(csv, column, "", faults) {
         true => csv.numbers(column, faults),
         false => vec![0.0; csv.rows()],
     }))

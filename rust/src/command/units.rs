@@ -1,12 +1,15 @@
 //! Units of measurement: which there are, and how their numbers are to each other.
 
 /// Units that measurements of a rig come in. A number with one of these is a measurement, whatever the other cells of its column are; any
-/// other word behind a number may belong to a name, as in `12A`.
+/// other word behind a number may belong to a name, as in `2E`.
 const UNITS: &[&str] = &[
     "m", "metre", "metres", "meter", "meters", "cm", "mm", "dm", "km", "in", "inch", "inches",
     "ft", "foot", "feet", "yd", "yard", "yards", "'", "''", "\"", "′", "″", "°", "º", "deg",
-    "degs", "degree", "degrees", "rad", "%", "kg", "lb", "lbs",
+    "degs", "degree", "degrees", "rad", "%", "kg", "lb", "lbs", "kw", "hz", "khz", "lm", "lux",
 ];
+
+/// Units of one capital letter: watts, volts, amperes, kelvins. Names end in these as well, so all cells must have the same.
+const LETTERS: &[&str] = &["W", "V", "A", "K"];
 
 /// The longest text behind a number that can be a unit.
 const LONGEST: usize = 16;
@@ -25,6 +28,11 @@ pub fn is_known(unit: &str) -> bool {
     let lower = word.to_lowercase();
     // a single letter counts only as it is written: `12M` may be a name
     UNITS.contains(&if word.len() > 1 { &lower } else { word })
+}
+
+/// Whether a unit is one of the letters that may belong to a name as well.
+pub fn is_letter(unit: &str) -> bool {
+    LETTERS.contains(&unit)
 }
 
 /// A cell without its unit.
@@ -87,7 +95,8 @@ const RATIOS: [Ratio; 11] = [
 ];
 
 /// A guess at why values lie outside a range: what they look like, and what the range looks like instead. Once they are converted, two in
-/// three must lie inside, and the largest must be nearly as large as that of the range: the same kind of house, measured otherwise.
+/// three must lie inside, and the largest must be nearly as large as that of the range: the same kind of house, measured otherwise. Units
+/// that are close to each other must fit more closely, since one house may well be two or three times as large as another.
 pub fn guess(values: &[f64], least: f64, greatest: f64) -> Option<(&'static str, &'static str)> {
     let largest = values.iter().fold(0.0, |most: f64, it| most.max(it.abs()));
     let usual = least.abs().max(greatest.abs());
@@ -99,7 +108,8 @@ pub fn guess(values: &[f64], least: f64, greatest: f64) -> Option<(&'static str,
     let fits = larger.chain(smaller).filter(|(times, ..)| {
         let inside = |value: &&f64| (least..=greatest).contains(&(**value / times));
         let most = 3 * values.iter().filter(inside).count() >= 2 * values.len();
-        most && far(*times) < 1.5_f64.ln()
+        let close = (0.2..5.0).contains(times);
+        most && far(*times) < if close { 1.25_f64 } else { 2.0 }.ln()
     });
     let best = fits.min_by(|(one, ..), (other, ..)| far(*one).total_cmp(&far(*other)));
     best.map(|(_, here, there)| (here, there))
@@ -114,9 +124,10 @@ mod tests {
         for unit in ["m", "MM", "Deg", "deg.", "°", "'", "ft", "m left"] {
             assert!(is_unit(unit) && is_known(unit), "{unit}");
         }
-        for unit in ["A", "M", "bays", "a", "B2"] {
+        for unit in ["A", "M", "bays", "a", "B2", "LX"] {
             assert!(!is_known(unit), "{unit}");
         }
+        assert!(is_letter("W") && !is_letter("E"));
         for unit in ["", "(m)", "-4", " m", "of a house in the north"] {
             assert!(!is_unit(unit), "{unit}");
         }
@@ -175,6 +186,7 @@ mod tests {
         );
         assert_eq!(guess(&times(5.0), 5.2, 8.8), None);
         assert_eq!(guess(&[13.0, 14.0, 0.0], -12.0, 12.0), None);
+        assert_eq!(guess(&times(1.8), 5.2, 8.8), None);
         assert_eq!(guess(&[], 5.2, 8.8), None);
     }
 }

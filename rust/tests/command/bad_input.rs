@@ -89,7 +89,7 @@ const OLD_SHOWS: &[[&str; 2]] = &[
     ],
     [
         "x,pan\nup,1\n",
-        "OLD, line 2, column x: \"up\" is not a number",
+        "OLD, line 2, column x: \"up\" is not a number; correct it, or leave the column out: --ignore x",
     ],
 ];
 
@@ -138,7 +138,8 @@ fn shows_that_measure_otherwise() {
     let why = "NEW, line 1: there is no column \"trim\", which OLD has, while that file has no column \"Trim\"; name the features with --features";
     corrected(old, "Trim,x\n7,1\n", &[], why);
     let words = "trim,x,pan\nlow,1,1\nhigh,2,2\n";
-    let why = "OLD, line 2, column trim: \"low\" is not a number, and neither is any other cell of the column";
+    let why = "OLD, line 2, column trim: \"low\" is not a number, and neither is any other cell of the column; \
+               correct it, or leave the column out: --ignore trim";
     corrected(words, "trim,x\n7,1\n", &[], why);
 }
 
@@ -176,7 +177,7 @@ const NEW_SHOWS: &[[&str; 2]] = &[
     ],
     [
         "x,z\n1,2\nlow,3\n",
-        "NEW, line 3, column x: \"low\" is not a number; it is the only such cell of the column",
+        "NEW, line 3, column x: \"low\" is not a number; it is the only such cell of the column; correct it, or leave the column out: --ignore x",
     ],
     [
         "x,z\n1,2\n,3\n",
