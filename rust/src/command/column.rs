@@ -86,57 +86,53 @@ pub fn required(csv: &Csv, column: usize, remedy: &str, faults: &mut Faults) -> 
 
 /// Tells what is wrong with a column that does not have a number in every cell. The remedy is what can be done besides correcting it.
 pub fn tell(csv: &Csv, column: usize, holds: &Holds, remedy: &str, faults: &mut Faults) {
-    let cell = |row: usize| quoted(csv.cell(row, column).trim());
+    let text = |row: usize| csv.cell(row, column).trim();
     let wrong = |row: usize| wrong(csv, row, column);
+    let line = |row: usize| format!("line {}", csv.line(row));
     let (row, why) = match *holds {
         Holds::Numbers | Holds::Unit(_) => return,
-        Holds::Words => {
-            let filled = |row: &usize| !csv.cell(*row, column).trim().is_empty();
-            match (0..csv.rows()).find(filled) {
-                row if csv.rows() == 1 => (row.unwrap_or(0), wrong(0)),
-                Some(row) => {
-                    let why = wrong(row) + ", and neither is any other cell of the column";
-                    (row, why)
-                }
-                None => {
-                    let place = format!("{}, column {}", csv.file(), csv.names()[column]);
-                    let why = "every cell is empty; a number is required in each";
-                    return faults.add(&place, &format!("{why}{remedy}"));
-                }
-            }
-        }
+        Holds::Otherwise { .. } => return tell_otherwise(csv, column, remedy, faults),
+        Holds::Words => return tell_words(csv, column, remedy, faults),
         Holds::OnlyNumber { row } => {
-            let why = format!("{} is the only number in the column", cell(row));
-            (row, why)
+            let cell = quoted(text(row));
+            (row, format!("{cell} is the only number in the column"))
         }
         Holds::OnlyWord { row } => {
-            let why = format!("{}; it is the only such cell of the column", wrong(row));
-            (row, why)
+            let why = wrong(row);
+            (
+                row,
+                format!("{why}; it is the only such cell of the column"),
+            )
         }
         Holds::Mixed { number, word } => {
-            let why = format!(
-                "{}, but {} in line {} is",
-                wrong(word),
-                cell(number),
-                csv.line(number)
-            );
-            (word, why)
+            let (cell, line) = (quoted(text(number)), line(number));
+            (word, format!("{}, but {cell} in {line} is", wrong(word)))
         }
         Holds::Odd { row } => (row, wrong(row)),
-        Holds::Otherwise { .. } => return tell_otherwise(csv, column, remedy, faults),
-        Holds::Units { row, other } => {
-            let place = format!("line {}", csv.line(other));
-            let why = differ(csv.cell(row, column), csv.cell(other, column), &place);
-            (row, why)
-        }
+        Holds::Units { row, other } => (row, differ(text(row), text(other), &line(other))),
     };
     faults.add(&csv.place(row, column), &(why + remedy));
-    if matches!(
-        holds,
-        Holds::OnlyWord { .. } | Holds::Mixed { .. } | Holds::Odd { .. }
-    ) {
+    if !matches!(holds, Holds::OnlyNumber { .. } | Holds::Units { .. }) {
         tell_others(csv, column, row, faults);
     }
+}
+
+/// Tells that no cell of a column is a number.
+fn tell_words(csv: &Csv, column: usize, remedy: &str, faults: &mut Faults) {
+    let filled = |row: &usize| !csv.cell(*row, column).trim().is_empty();
+    let row = (0..csv.rows()).find(filled);
+    let place = match row {
+        None if csv.rows() > 1 => format!("{}, column {}", csv.file(), csv.names()[column]),
+        row => csv.place(row.unwrap_or(0), column),
+    };
+    let why = match row {
+        None if csv.rows() > 1 => "every cell is empty; a number is required in each".into(),
+        Some(row) if csv.rows() > 1 => {
+            wrong(csv, row, column) + ", and neither is any other cell of the column"
+        }
+        _ => wrong(csv, 0, column),
+    };
+    faults.add(&place, &(why + remedy));
 }
 
 /// Why a cell cannot be read as a number.
@@ -248,66 +244,69 @@ mod tests {
         told.lines().map(line).collect()
     }
 
+    /// Cells, and what is told of them: the line and why.
+    const FAULTS: &[(&[&str], &[&str])] = &[
+        (&["low"], &["2: \"low\" is not a number; or so"]),
+        (
+            &["", "low", "high"],
+            &["3: \"low\" is not a number, and neither is any other cell of the column; or so"],
+        ),
+        (
+            &["a", "b", "7"],
+            &["4: \"7\" is the only number in the column; or so"],
+        ),
+        (
+            &["1", "low", "2", ""],
+            &[
+                "3: \"low\" is not a number; it is the only such cell of the column; or so",
+                "5: the cell is empty; fill it in, or leave out such rows with --skip-incomplete",
+            ],
+        ),
+        (
+            &["1", "low", "2", "high", "3"],
+            &[
+                "3: \"low\" is not a number, but \"1\" in line 2 is; or so",
+                "5: \"high\" is not a number",
+            ],
+        ),
+        (
+            &["a", "1", "b", "c", "2", "d"],
+            &["2: \"a\" is not a number, but \"1\" in line 3 is; or so"],
+        ),
+        (
+            &["4.2 m", "4.3 m", "430 cm"],
+            &["2: \"4.2 m\" is in m, but \"430 cm\" in line 4 is in cm; or so"],
+        ),
+        (
+            &["4.2 m", "4.3"],
+            &["2: \"4.2 m\" is in m, but \"4.3\" in line 3 has no unit; or so"],
+        ),
+        (
+            &["18'6", "19", "20", "12'3"],
+            &[
+                "2: \"18'6\" is not one number in one unit; write it as one; or so",
+                "5: \"12'3\" is not one number in one unit; write it as one",
+            ],
+        ),
+        (
+            &["", ""],
+            &["t: every cell is empty; a number is required in each; or so"],
+        ),
+        (
+            &["950", "1 050 m", "1 150"],
+            &[
+                "3: \"1 050\" is not a number; it looks like 1050 with thousands separators, which are not read: leave them out; or so",
+                "4: \"1 150\" is not a number; it looks like 1150 with thousands separators, which are not read: leave them out; or so",
+            ],
+        ),
+    ];
+
     #[test]
     fn faults_name_the_cell() {
         assert!(faults(&["1", "2.5"]).is_empty());
         assert!(faults(&["1 m", "2.5m"]).is_empty());
-        for (cells, told) in [
-            (&["low"][..], &["2: \"low\" is not a number; or so"][..]),
-            (
-                &["", "low", "high"],
-                &["3: \"low\" is not a number, and neither is any other cell of the column; or so"],
-            ),
-            (
-                &["a", "b", "7"],
-                &["4: \"7\" is the only number in the column; or so"],
-            ),
-            (
-                &["1", "low", "2", ""],
-                &[
-                    "3: \"low\" is not a number; it is the only such cell of the column; or so",
-                    "5: the cell is empty; fill it in, or leave out such rows with --skip-incomplete",
-                ],
-            ),
-            (
-                &["1", "low", "2", "high", "3"],
-                &[
-                    "3: \"low\" is not a number, but \"1\" in line 2 is; or so",
-                    "5: \"high\" is not a number",
-                ],
-            ),
-            (
-                &["a", "1", "b", "c", "2", "d"],
-                &["2: \"a\" is not a number, but \"1\" in line 3 is; or so"],
-            ),
-            (
-                &["4.2 m", "4.3 m", "430 cm"],
-                &["2: \"4.2 m\" is in m, but \"430 cm\" in line 4 is in cm; or so"],
-            ),
-            (
-                &["4.2 m", "4.3"],
-                &["2: \"4.2 m\" is in m, but \"4.3\" in line 3 has no unit; or so"],
-            ),
-            (
-                &["18'6", "19", "20", "12'3"],
-                &[
-                    "2: \"18'6\" is not one number in one unit; write it as one; or so",
-                    "5: \"12'3\" is not one number in one unit; write it as one",
-                ],
-            ),
-            (
-                &["", ""],
-                &["t: every cell is empty; a number is required in each; or so"],
-            ),
-            (
-                &["950", "1 050 m", "1 150"],
-                &[
-                    "3: \"1 050\" is not a number; it looks like 1050 with thousands separators, which are not read: leave them out; or so",
-                    "4: \"1 150\" is not a number; it looks like 1150 with thousands separators, which are not read: leave them out; or so",
-                ],
-            ),
-        ] {
-            assert_eq!(faults(cells), told);
+        for (cells, told) in FAULTS {
+            assert_eq!(faults(cells), *told);
         }
     }
 }

@@ -94,47 +94,50 @@ pub fn counted<'a>(cells: impl Iterator<Item = &'a str>) -> Option<(u64, u64)> {
 mod tests {
     use super::*;
 
+    const THESE: &[&str] = &[
+        "fixture",
+        "Fixture",
+        "FIXTURE_ID",
+        "fixture id 2",
+        "fixtureId",
+        "FixtureID",
+        "fixtureid",
+        "UnitNumber",
+        "Unit #",
+        "#",
+        "No.",
+        "position number",
+        "dmx_address",
+        "DMX",
+        "Channel",
+        "chan 1",
+        "patch",
+        "row",
+        "Univ.",
+    ];
+    const OTHERS: &[&str] = &[
+        "trim_height",
+        "pan",
+        "grid",
+        "piano",
+        "position",
+        "x",
+        "1",
+        "",
+        "unit height",
+        "id_angle",
+        "throw",
+        "union",
+        "hid",
+        "Number of lamps",
+    ];
+
     #[test]
     fn names_that_say_that_a_column_numbers() {
-        for name in [
-            "fixture",
-            "Fixture",
-            "FIXTURE_ID",
-            "fixture id 2",
-            "fixtureId",
-            "FixtureID",
-            "fixtureid",
-            "UnitNumber",
-            "Unit #",
-            "#",
-            "No.",
-            "position number",
-            "dmx_address",
-            "DMX",
-            "Channel",
-            "chan 1",
-            "patch",
-            "row",
-            "Univ.",
-        ] {
+        for name in THESE {
             assert!(is_numbering(name), "{name}");
         }
-        for name in [
-            "trim_height",
-            "pan",
-            "grid",
-            "piano",
-            "position",
-            "x",
-            "1",
-            "",
-            "unit height",
-            "id_angle",
-            "throw",
-            "union",
-            "hid",
-            "Number of lamps",
-        ] {
+        for name in OTHERS {
             assert!(!is_numbering(name), "{name}");
         }
     }
