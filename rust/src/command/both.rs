@@ -21,8 +21,10 @@ pub struct Both {
     pub beyond: Vec<Beyond>,
     /// Measurements that only the old show has.
     pub lacking: Vec<String>,
-    /// What should be known about both shows.
+    /// What should be known about both shows,
     pub notes: Vec<String>,
+    /// and about what lies outside.
+    pub warnings: Vec<String>,
 }
 
 impl Both {
@@ -51,6 +53,7 @@ impl Both {
             new,
             x,
             lacking,
+            warnings: Vec::new(),
         };
         both.judge(strict, extrapolate)?;
         Ok(both)
@@ -67,7 +70,7 @@ impl Both {
                 faults.add(&place, &format!("{why}; --strict refuses that"));
             } else {
                 let how = "no tree knows such values, so check these corrections";
-                self.notes.push(format!("{place}: {why}; {how}"));
+                self.warnings.push(format!("{place}: {why}; {how}"));
             }
         }
         let file = self.new.file();

@@ -1,7 +1,7 @@
 //! The commands, their options, and the functions that run them.
 
 use crate::args::{Choice, Command, choice};
-use crate::{check, correct, fit, list};
+use crate::{check, correct, fit, list, report};
 
 const COLUMNS: &[Choice] = &[
     choice("--target", "NAME", "the column to predict"),
@@ -126,13 +126,19 @@ const DIGITS: &[Choice] = &[choice(
     "how many digits to round to after the decimal sign, up to 17; default: as many as it takes to read the same bits back",
 )];
 
+const PLOT: &[Choice] = &[choice(
+    "--plot",
+    "A,B",
+    "the features that place fixtures in the picture of the rig, across and up; default: the two that are most important",
+)];
+
 const OUT: &[Choice] = &[choice(
     "--out",
     "FILE",
-    "where to write the table; default: standard output, which is also meant by -",
+    "where to write it; default: standard output, which is also meant by -",
 )];
 
-pub static COMMANDS: [Command; 4] = [
+pub static COMMANDS: [Command; 5] = [
     Command {
         name: "check",
         files: &["SHOW.csv"],
@@ -170,5 +176,15 @@ pub static COMMANDS: [Command; 4] = [
                counting the line of names. Which columns are listed goes to standard error.",
         groups: &[COLUMNS, TABLES, OUT],
         run: list::run,
+    },
+    Command {
+        name: "report",
+        files: &["OLD.csv", "NEW.csv"],
+        about: "Fits a forest on the old show and writes a page about the corrections of the new one, with pictures",
+        more: "The page is one HTML file for a browser or a printer, which stands by itself. It begins with what to look at first:\n\
+               fixtures outside the range of the old show, and fixtures that the trees disagree about. It ends with a table of all\n\
+               corrections, rounded for reading; `correct` writes them exactly. Notes and a report on the forest go to standard error.",
+        groups: &[COLUMNS, LISTING, TABLES, RANGE, GROWTH, PLOT, OUT],
+        run: report::report,
     },
 ];

@@ -42,6 +42,7 @@ pub fn correct(args: &Args) -> Result<Output, Stop> {
         ..Output::default()
     };
     output.note(&both.notes);
+    output.note(&both.warnings);
     output.beside += &summary.text();
     Ok(output)
 }
@@ -121,7 +122,7 @@ fn table(new: &Csv, added: &[Added]) -> String {
 
 impl Both {
     /// Adds what is reported of the new show.
-    fn report(&self, summary: &mut Summary) {
+    pub fn report(&self, summary: &mut Summary) {
         let (new, old) = (self.new.file(), self.old.csv.file());
         if !self.lacking.is_empty() {
             let names = self.lacking.join(", ");

@@ -15,7 +15,7 @@ use tailboardy::{Fault, Fitting, RandomForestRegressor, RandomForestRegressorPar
 pub struct Task<'a> {
     pub args: &'a Args,
     pub roles: Roles,
-    parameters: RandomForestRegressorParameters,
+    pub parameters: RandomForestRegressorParameters,
     pub digits: Option<usize>,
 }
 
