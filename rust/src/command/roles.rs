@@ -69,7 +69,7 @@ impl Roles {
 
     /// The features of one show: those that were given, or else every column of measurements that has no other role.
     pub fn features(&self, show: &mut Csv, faults: &mut Faults) -> Result<Chosen, Stop> {
-        if let Some(name) = self.ignored.iter().find(|it| show.find(it).is_none()) {
+        for name in &self.ignored {
             show.column(name)?;
         }
         let chosen = match &self.features {
@@ -91,8 +91,7 @@ impl Roles {
         new: &mut Csv,
         faults: &mut Faults,
     ) -> Result<Chosen, Stop> {
-        let in_old = |name: &&String| old.find(name).is_none();
-        if let Some(name) = self.ignored.iter().find(in_old) {
+        for name in self.ignored.iter().filter(|it| old.find(it).is_none()) {
             new.column(name)?;
         }
         let chosen = match &self.features {
@@ -172,6 +171,9 @@ impl Roles {
         let there = |name: &String| new.find(name).is_some();
         let (both, lacking) = chosen.features.into_iter().partition(there);
         (chosen.features, chosen.lacking) = (both, lacking);
+        for left in &mut chosen.left {
+            left.usable &= there(&left.column);
+        }
         for (column, use_of) in self.uses(new) {
             let name = new.names()[column].clone();
             let measured = matches!(use_of, Use::Measured(_) | Use::Faulty(_));

@@ -52,6 +52,9 @@ fn numbering_is_no_measurement() {
     assert_eq!((told.status, lines(&told)), (Some(0), notes.to_vec()));
     let plain = correct(old, new, &["--features", "trim"]);
     assert_eq!((&plain.out, lines(&plain).len()), (&told.out, 0));
+    let lacks = correct(old, "fixture,trim,spot\na,6,1\n", &[]);
+    let (note, _) = notes[0].split_once("; to use it").unwrap();
+    assert_eq!(lines(&lacks)[0], note);
     let told = on("fit", &[old], &["--target", "pan"]);
     assert_eq!((told.status, lines(&told)), (Some(0), notes.to_vec()));
     let told = on("check", &[old], &["--target", "pan"]);
