@@ -19,7 +19,7 @@ impl Kind {
     /// The cell's text may have a unit behind the number.
     pub fn of(cell: &str) -> Kind {
         let text = cell.trim();
-        let end = text.find(|letter: char| !letter.is_ascii_digit() && !"+-.,".contains(letter));
+        let end = text.find(|it: char| !matches!(it, '0'..='9' | '+' | '-' | '.' | ','));
         let (front, behind) = text.split_at(end.unwrap_or(text.len()));
         let power = behind.strip_prefix(['e', 'E']).map_or("", unsigned);
         let exponent = !power.is_empty() && power.bytes().all(|it| it.is_ascii_digit());

@@ -155,12 +155,14 @@ impl Kinds {
 fn cell(text: &str, decimal: Decimal) -> Cell<'_> {
     let text = text.trim();
     let is_number = |text: &str| number::read(text, decimal).is_ok();
-    let (front, unit) = parts(text);
     if text.is_empty() {
-        Cell::Empty
-    } else if is_number(text) {
-        Cell::Number
-    } else if is_number(front) && is_unit(unit) && !in_name(text, front, unit) {
+        return Cell::Empty;
+    }
+    if is_number(text) {
+        return Cell::Number;
+    }
+    let (front, unit) = parts(text);
+    if is_number(front) && is_unit(unit) && !in_name(text, front, unit) {
         Cell::Unit(unit)
     } else if in_parts(text, decimal) {
         Cell::Odd

@@ -36,10 +36,12 @@ impl Style {
 /// Reads a finite decimal number. Rust itself would also accept `inf` and `nan`, which a cell should not contain.
 pub fn read(cell: &str, sign: Decimal) -> Result<f64, String> {
     let text = cell.trim();
-    let number = match decimal(text, sign) {
-        true => text.replace(sign.sign(), ".").parse().unwrap_or(f64::NAN),
-        false => f64::NAN,
+    let number = match sign {
+        _ if !decimal(text, sign) => Ok(f64::NAN),
+        Decimal::Point => text.parse(),
+        Decimal::Comma => text.replace(',', ".").parse(),
     };
+    let number: f64 = number.unwrap_or(f64::NAN);
     if number.is_nan() {
         Err(format!(
             "{} is not a number{}",
