@@ -1,5 +1,7 @@
 //! Columns that number or name fixtures. Their numbers are not measured.
 
+use std::collections::HashSet;
+
 /// What the name of such a column ends in: words for a fixture itself, for a number of any kind, and for where a fixture is patched.
 /// `docs/COMMAND.md` has the same list.
 const NUMBERING: &[&str] = &[
@@ -72,22 +74,34 @@ fn words(name: &str) -> Vec<String> {
 /// How few fixtures cannot be said to be counted by a column.
 const FEW: usize = 3;
 
-/// The first and the last number if the cells only count, apart from empty ones: whole numbers without a sign that are all different, and
-/// of which hardly any is left out on the way from the least to the greatest, at most one for every ten fixtures.
+/// The least and the greatest number if the cells only count, apart from empty ones: whole numbers without a sign, in one of two ways.
 pub fn counted<'a>(cells: impl Iterator<Item = &'a str>) -> Option<(u64, u64)> {
     let whole = |cell: &str| {
         let digits = cell.bytes().all(|it| it.is_ascii_digit());
         cell.parse().ok().filter(|_| digits)
     };
     let cells = cells.map(str::trim).filter(|cell| !cell.is_empty());
-    let mut numbers: Vec<u64> = cells.map(whole).collect::<Option<_>>()?;
-    numbers.sort_unstable();
-    let (first, last) = (*numbers.first()?, *numbers.last()?);
-    let rows = numbers.len();
-    let different = numbers.windows(2).all(|pair| pair[0] < pair[1]);
-    let missing = (last - first).checked_sub(rows as u64 - 1)?;
-    let counts = rows >= FEW && different && missing <= rows as u64 / 10;
-    counts.then_some((first, last))
+    let numbers: Vec<u64> = cells.map(whole).collect::<Option<_>>()?;
+    let ends = (*numbers.iter().min()?, *numbers.iter().max()?);
+    let counts = numbers.len() >= FEW && (counts_once(&numbers, ends) || counts_again(&numbers));
+    counts.then_some(ends)
+}
+
+/// Whether all numbers are different, and hardly any is left out: at most one for every ten fixtures.
+fn counts_once(numbers: &[u64], (least, greatest): (u64, u64)) -> bool {
+    let rows = numbers.len() as u64;
+    let mut met = HashSet::new();
+    let missing = (greatest - least).checked_sub(rows - 1);
+    missing.is_some_and(|missing| missing <= rows / 10) && numbers.iter().all(|it| met.insert(it))
+}
+
+/// Whether the numbers rise by one from row to row, and begin again at 0 or 1 on each truss.
+fn counts_again(numbers: &[u64]) -> bool {
+    let begin = numbers[0];
+    let mut steps = numbers.windows(2);
+    let begins = numbers.iter().filter(|it| **it == begin).count();
+    let steady = steps.all(|pair| pair[1] == begin || pair[1].checked_sub(1) == Some(pair[0]));
+    begin <= 1 && begins * FEW <= numbers.len() && steady
 }
 
 #[cfg(test)]
@@ -183,6 +197,21 @@ mod tests {
             &["1", "", "3"],
             &["99999999999999999999", "1", "2"],
             &["0", "9", "18446744073709551615"],
+        ] {
+            assert_eq!(of(other), None, "{other:?}");
+        }
+    }
+
+    #[test]
+    fn numbers_that_count_on_each_truss() {
+        assert_eq!(of(&["1", "2", "3", "1", "2", "3", "4"]), Some((1, 4)));
+        assert_eq!(of(&["0", "1", "2", "0", "1", "2"]), Some((0, 2)));
+        for other in [
+            &["1", "2", "3", "1", "2", "4"][..],
+            &["5", "6", "7", "5", "6", "7"],
+            &["1", "1", "1", "2", "2", "2"],
+            &["1", "2", "1", "2"],
+            &["0", "0", "0", "0", "0"],
         ] {
             assert_eq!(of(other), None, "{other:?}");
         }
