@@ -58,7 +58,7 @@ impl Command {
             let _ = writeln!(text, "  {said:<24}{}", choice.help);
         }
         text += &format!(
-            "\n- in place of a file that is read is standard input. A table has at most {MAX_ROWS} rows and {} MiB.\n",
+            "\n`-` in place of a file that is read means standard input. A table has at most {MAX_ROWS} rows and {} MiB.\n",
             MOST >> 20
         );
         text + "\nExit status: 0 if done, 1 if the input is refused, with the reason on standard error, 2 if the command line is wrong.\n"

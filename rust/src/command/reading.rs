@@ -319,59 +319,56 @@ mod tests {
         }
     }
 
+    /// Texts that are no tables, and why not. COMMAS stands for what cells were split at.
+    const UNEVEN: &[[&str; 2]] = &[
+        [
+            "",
+            "t: the file is empty; a table has a line of column names, and a row for each fixture",
+        ],
+        [
+            "\n\n",
+            "t: the file is empty; a table has a line of column names, and a row for each fixture",
+        ],
+        [
+            "a,b\n",
+            "t: there are column names but no rows; a table has a row for each fixture",
+        ],
+        [
+            "a,,c,a,a\n1,2,3,4,5\n",
+            "t, line 1: two columns have the name \"a\"; rename one\n\
+             t, line 1: two columns have the name \"a\"; rename one\n\
+             t, line 1: column 2 has no name; give it one, or take it out",
+        ],
+        [
+            "a,b\n1,2\n3\n4,5\n6,7,8\n",
+            "t, line 3: the number of cells is 1, but the number of columns is 2; COMMAS, so an empty cell needs its comma too\n\
+             t, line 5: the number of cells is 3, but the number of columns is 2; COMMAS, so a cell with a comma in it must be in quotes",
+        ],
+        [
+            "The house\na,b\n1,2\n",
+            "t, line 1: the number of columns is 1, but the number of cells in each row is 2; COMMAS, \
+             so the first line must have a name for each, and a cell with a comma in it must be in quotes",
+        ],
+        [
+            "a,b\n1;2;3\n",
+            "t, line 2: the number of cells is 1, but the number of columns is 2; COMMAS, but there are more semicolons; try --delimiter semicolon",
+        ],
+        [
+            "a,b\n1,\"2\n3,4\n",
+            "t, line 2: a quote is opened but never closed; put one at the end of the cell",
+        ],
+        [
+            "a,b\n1\n1,\"2\"x\n",
+            "t, line 2: the number of cells is 1, but the number of columns is 2; COMMAS, so an empty cell needs its comma too\n\
+             t, line 3: \"x\" follows a closing quote; double the quotes that belong to the text",
+        ],
+    ];
+
     #[test]
     fn uneven_tables_are_not() {
-        let commas = "cells were split at commas";
-        for (text, why) in [
-            (
-                "",
-                "t: the file is empty; a table has a line of column names, and a row for each fixture",
-            ),
-            (
-                "\n\n",
-                "t: the file is empty; a table has a line of column names, and a row for each fixture",
-            ),
-            (
-                "a,b\n",
-                "t: there are column names but no rows; a table has a row for each fixture",
-            ),
-            (
-                "a,,c,a,a\n1,2,3,4,5\n",
-                "t, line 1: two columns have the name \"a\"; rename one\nt, line 1: two columns have the name \"a\"; rename one\nt, line 1: column 2 has no name; give it one, or take it out",
-            ),
-            (
-                "a,b\n1,2\n3\n4,5\n6,7,8\n",
-                &format!(
-                    "t, line 3: the number of cells is 1, but the number of columns is 2; {commas}, so an empty cell needs its comma too\n\
-                     t, line 5: the number of cells is 3, but the number of columns is 2; {commas}, so a cell with a comma in it must be in quotes"
-                ),
-            ),
-            (
-                "The house\na,b\n1,2\n",
-                &format!(
-                    "t, line 1: the number of columns is 1, but the number of cells in each row is 2; {commas}, \
-                     so the first line must have a name for each, and a cell with a comma in it must be in quotes"
-                ),
-            ),
-            (
-                "a,b\n1;2;3\n",
-                &format!(
-                    "t, line 2: the number of cells is 1, but the number of columns is 2; {commas}, but there are more semicolons; try --delimiter semicolon"
-                ),
-            ),
-            (
-                "a,b\n1,\"2\n3,4\n",
-                "t, line 2: a quote is opened but never closed; put one at the end of the cell",
-            ),
-            (
-                "a,b\n1\n1,\"2\"x\n",
-                &format!(
-                    "t, line 2: the number of cells is 1, but the number of columns is 2; {commas}, so an empty cell needs its comma too\n\
-                     t, line 3: \"x\" follows a closing quote; double the quotes that belong to the text"
-                ),
-            ),
-        ] {
-            assert_eq!(read(text), Err(why.to_owned()));
+        for [text, why] in UNEVEN {
+            let why = why.replace("COMMAS", "cells were split at commas");
+            assert_eq!(read(text), Err(why));
         }
         let rows = "1\n".repeat(MAX_ROWS);
         assert_eq!(read(&format!("a\n{rows}")).unwrap().len(), MAX_ROWS + 1);

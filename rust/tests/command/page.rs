@@ -161,6 +161,10 @@ fn the_measurements_of_the_picture_can_be_chosen() {
         ["↑ truss_offset", "trim_height →"]
     );
     assert_eq!(sides(&["--plot", "trim_height"]), ["trim_height →"]);
+}
+
+#[test]
+fn other_columns_cannot_be_chosen() {
     for (plot, status, why) in [
         (
             "truss",

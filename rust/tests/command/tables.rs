@@ -105,7 +105,7 @@ fn each_show_comes_out_as_it_is_written() {
 }
 
 #[test]
-fn decimal_signs_are_found_out_or_said() {
+fn decimal_signs_are_found_out() {
     let new = "fixture;x\na;1,5\n";
     for old in [
         "fixture;x;pan\na;1,5;2,25\nb;2,5;2,25\n",
@@ -135,7 +135,10 @@ fn decimal_signs_are_found_out_or_said() {
     // a new show without any decimal sign takes that of the old one
     let told = corrected("x;pan\n1,5;2,25\n2,5;2,25\n", "x;y\n2;a\n", &[]);
     assert!(told.out.contains("\n2;a;2,25"), "{} {}", told.out, told.err);
+}
 
+#[test]
+fn decimal_signs_that_are_unclear_have_to_be_said() {
     let thousands = "x;pan\n950;1\n1,050;2\n";
     refused(
         thousands,
@@ -154,56 +157,38 @@ fn decimal_signs_are_found_out_or_said() {
     );
 }
 
+const THOUSANDS: &str = "with thousands separators, which are not read: leave them out";
+
 /// Cells that look like numbers and are none are faults, even if the whole column has no others.
 #[test]
 fn thousands_are_not_guessed() {
-    let signs = "the decimal sign of this table is the";
-    let thousands = "with thousands separators, which are not read: leave them out";
-    for (text, said, why) in [
-        (
-            "9,5;1\n1.050;2\n",
-            "comma",
-            format!(
-                "\"1.050\" is not a number; {signs} comma, and thousands separators are not read"
-            ),
-        ),
-        (
-            "9.5;1\n1,050;2\n",
-            "point",
-            format!(
-                "\"1,050\" is not a number; {signs} point, and thousands separators are not read"
-            ),
-        ),
-        (
-            "9,5;1\n1.050,5;2\n",
-            "comma",
-            format!("\"1.050,5\" is not a number; it looks like 1050,5 {thousands}"),
-        ),
-        (
-            "9.5;1\n1 050;2\n",
-            "point",
-            format!("\"1 050\" is not a number; it looks like 1050 {thousands}"),
-        ),
+    let signs = |sign: &str| {
+        format!(
+            "the decimal sign of this table is the {sign}, and thousands separators are not read"
+        )
+    };
+    let plain = |number: &str| format!("it looks like {number} {THOUSANDS}");
+    for (before, cell, said, why) in [
+        ("9,5", "1.050", "comma", signs("comma")),
+        ("9.5", "1,050", "point", signs("point")),
+        ("9,5", "1.050,5", "comma", plain("1050,5")),
+        ("9.5", "1 050", "point", plain("1050")),
     ] {
-        let told = checked(
-            format!("x;pan\n8;3\n7;4\n{text}"),
-            &["--decimal", said, "--target", "pan"],
-        );
-        let line = format!("tailboardy: SHOW, line 5, column x: {why}");
+        let text = format!("x;pan\n8;3\n7;4\n{before};1\n{cell};2\n");
+        let told = checked(text, &["--decimal", said, "--target", "pan"]);
+        let line = format!("tailboardy: SHOW, line 5, column x: \"{cell}\" is not a number; {why}");
         assert!(told.err.starts_with(&line), "{}", told.err);
         assert_eq!(told.status, Some(1));
     }
     let told = checked("x,z,pan\n\"1,050.5\",2.5,1\n\"1,150.5\",3.5,2\n", &[]);
-    assert_eq!(
-        (told.status, told.err.lines().count()),
-        (Some(1), 2),
-        "{}",
-        told.err
-    );
-    let line = format!(
-        "tailboardy: SHOW, line 3, column x: \"1,150.5\" is not a number; it looks like 1150.5 {thousands}"
-    );
-    assert!(told.err.contains(&line), "{}", told.err);
+    assert_eq!(told.status, Some(1));
+    for (line, cell, number) in [(2, "1,050.5", "1050.5"), (3, "1,150.5", "1150.5")] {
+        let why = format!(
+            "line {line}, column x: \"{cell}\" is not a number; {}",
+            plain(number)
+        );
+        assert!(told.err.contains(&why), "{}", told.err);
+    }
 }
 
 #[test]

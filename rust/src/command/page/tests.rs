@@ -18,20 +18,23 @@ fn measurement(name: &str, unit: &str, importance: f64, high: f64) -> Measuremen
     }
 }
 
+fn fixture(row: usize, part: f64, size: f64) -> Fixture {
+    Fixture {
+        name: format!("F-{row}"),
+        at: [9.0 * size * part, 7.0 * size * (row % 7) as f64 / 7.0],
+        correction: size * (part - 0.5),
+        low: size * (part - 0.6),
+        high: size * (part - 0.4),
+        outside: Vec::new(),
+    }
+}
+
 /// A rig with this many fixtures, all of whose numbers are multiplied by a size.
 fn rig(fixtures: usize, size: f64) -> Page {
     let part = |row: usize| row as f64 / fixtures as f64;
     let source = |file: &str| Source {
         file: file.into(),
         fixtures,
-    };
-    let fixture = |row: usize| Fixture {
-        name: format!("F-{row}"),
-        at: [9.0 * size * part(row), 7.0 * size * (row % 7) as f64 / 7.0],
-        correction: size * (part(row) - 0.5),
-        low: size * (part(row) - 0.6),
-        high: size * (part(row) - 0.4),
-        outside: Vec::new(),
     };
     let focused = |row: usize| Focused {
         name: format!("F-{row}"),
@@ -55,7 +58,9 @@ fn rig(fixtures: usize, size: f64) -> Page {
         ],
         across: 0,
         up: Some(1),
-        fixtures: (0..fixtures).map(fixture).collect(),
+        fixtures: (0..fixtures)
+            .map(|row| fixture(row, part(row), size))
+            .collect(),
         focused: (0..fixtures).map(focused).collect(),
         notes: vec!["a < b".into()],
     }
