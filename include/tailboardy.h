@@ -15,6 +15,43 @@
  * another, each with its own node numbers starting at 0; `starts` has trees + 1 positions: where each tree begins, and where the
  * last one ends.
  *
+ * Draws: nothing in the library is random. A fit takes its draws from two tapes, from front to back; in a forest each tree has its
+ * own part of both:
+ *   - `words`: each search of a node takes as many words as there are features. They must be the numbers of all features, each
+ *     exactly once. The search tries the first `tried` of them, in this order, and of two cuts that are equally good keeps the
+ *     first.
+ *   - `thresholds`: only the random splitter takes any. Each feature that a search tries takes one threshold, unless all rows of
+ *     the node have the same value of it. It must be at least the lowest of these values and below the highest.
+ * Searches are made in this order: first the root; then, as long as a searched node with a cut is left that has not been split,
+ * the last of them to be searched is split, and its true child is searched, then its false child. So the false child is split
+ * before the true child. A node is searched if its rows' counts add up to at least `split` and the depth limit lets it have
+ * children. A search that has too few words left, or whose words or thresholds are not as above, is refused (7). What no search takes
+ * is not looked at, so a tape may be longer than needed: features x (2 x kept rows - 1) words, and as many thresholds, are always
+ * enough.
+ *
+ * An example, which c/example.c makes and prints. Four rows have two features, trim height and truss offset, and a target:
+ *     values      7.5 -3   7.5 3   6.2 -3   6.2 3
+ *     targets     -22      22      -26      26
+ *     counts      1        1       1        1
+ *     listings    2 3 0 1 (6.2 6.2 7.5 7.5)   0 2 1 3 (-3 -3 3 3)
+ *     settings    not limited, leaf 1, split 2, tried 2, random
+ *     words       1 0   0 1   1 0
+ *     thresholds  0.5 7.0   6.8   7.2
+ * Search 0, of the root, takes the words 1 0. Feature 1, from -3 to 3, takes the threshold 0.5, and feature 0, from 6.2 to 7.5,
+ * takes 7.0. The first cut is better. The root is split: its true child, node 1, has the rows 0 and 2, its false child, node 2,
+ * the rows 1 and 3. Search 1, of node 1, takes 0 1: feature 0 takes 6.8; feature 1 is -3 in both rows and takes nothing. Search
+ * 2, of node 2, takes 1 0: feature 1 is 3 in both rows and takes nothing; feature 0 takes 7.2. Node 2 was searched last and is
+ * split first, into nodes 3 and 4, then node 1 into nodes 5 and 6. All four have one row, which is fewer than `split`, and are
+ * not searched. 7 nodes, depth 3, mass 4, 3 searches, 6 words and 4 thresholds are reported:
+ *     node  value  feature  threshold  score  true_child  false_child
+ *        0      0        1        0.5   2304           1            2
+ *        1    -24        0        6.8      8           5            6
+ *        2     24        0        7.2      8           3            4
+ *        3     26        0          0      0           0            0    (row 3)
+ *        4     22        0          0      0           0            0    (row 1)
+ *        5    -26        0          0      0           0            0    (row 2)
+ *        6    -22        0          0      0           0            0    (row 0)
+ *
  * Refusals: 1 sizes, 2 lengths, 3 numbers, 4 counts, 5 listing, 6 rooms, 7 draw, 8 table, 9 no counts, 10 other counts. The table in
  * docs/RULES.md says when each is given. Below, the refusals that a call can give are listed after its description, in the order of
  * its checks. A refused call leaves every lent slice unchanged, except that refusal 7 fills them all with zeros. */

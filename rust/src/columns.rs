@@ -5,6 +5,19 @@ use std::ops::Range;
 /// Nodes in six columns; the shortest column decides how many nodes there are. The trees of a forest follow one another, each with its
 /// own node numbers starting at 0; the first node of each tree is its root. A node whose children are both 0 is a leaf; of its
 /// entries only the value means anything.
+///
+/// ```
+/// use tailboardy::{DecisionTreeRegressor, DenseMatrix};
+///
+/// let x = DenseMatrix::from_2d_array(&[[1.0], [2.0]])?;
+/// let tree = DecisionTreeRegressor::fit(&x, &[5.0, 7.0], Default::default())?;
+/// let nodes = tree.nodes();
+/// assert!(!nodes.is_empty() && nodes.len() == 3);
+/// assert_eq!(nodes.value, [6.0, 5.0, 7.0]);
+/// assert_eq!((nodes.feature[0], nodes.threshold[0]), (0, 1.5));
+/// assert_eq!((nodes.true_child[0], nodes.false_child[0]), (1, 2));
+/// # Ok::<(), tailboardy::Refusal>(())
+/// ```
 #[derive(Debug, Clone, Default, PartialEq)]
 pub struct Nodes {
     /// The mean of the targets in the node.

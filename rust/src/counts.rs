@@ -1,6 +1,7 @@
 //! Counts: how many times each row is in each tree's bag.
 
-use crate::refusal::{Cause, Fault, Refusal};
+use crate::fault::Fault;
+use crate::refusal::{Cause, Refusal};
 use crate::seed::SplitMix64;
 use crate::sizes;
 use std::ops::Range;
@@ -26,6 +27,19 @@ pub struct Counts {
 
 impl Counts {
     /// Takes the counts tree after tree.
+    ///
+    /// ```
+    /// use tailboardy::Counts;
+    ///
+    /// let counts = Counts::new(2, 3, vec![1, 0, 2, 1, 1, 1])?;
+    /// assert_eq!(counts.of_tree(0), [1, 0, 2]);
+    /// assert_eq!(Counts::new(2, 3, vec![1]).unwrap_err().number(), 2);
+    /// # Ok::<(), tailboardy::Refusal>(())
+    /// ```
+    ///
+    /// # Errors
+    ///
+    /// Refusal 1 if the number of rows or trees is out of range, and 2 if there are not trees times rows counts.
     pub fn new(trees: usize, rows: usize, numbers: Vec<u32>) -> Result<Self, Refusal> {
         sizes::check(rows, 1, trees)?;
         let (is, asked) = (numbers.len(), trees * rows);
@@ -47,12 +61,35 @@ impl Counts {
     }
 
     /// Every row exactly once in every tree.
+    ///
+    /// ```
+    /// use tailboardy::Counts;
+    ///
+    /// assert_eq!(Counts::ones(2, 3)?.numbers(), [1; 6]);
+    /// # Ok::<(), tailboardy::Refusal>(())
+    /// ```
+    ///
+    /// # Errors
+    ///
+    /// Refusal 1 if the number of rows or trees is out of range.
     pub fn ones(trees: usize, rows: usize) -> Result<Self, Refusal> {
         sizes::check(rows, 1, trees)?;
         Counts::new(trees, rows, vec![1; trees * rows])
     }
 
     /// Draws bags from a seed: for each tree as many rows as there are, with replacement, all from one [stream](SplitMix64).
+    ///
+    /// ```
+    /// use tailboardy::Counts;
+    ///
+    /// let bags = Counts::drawn(2, 6, 42)?;
+    /// assert_eq!(bags.of_tree(1), [0, 0, 1, 0, 2, 3]);
+    /// # Ok::<(), tailboardy::Refusal>(())
+    /// ```
+    ///
+    /// # Errors
+    ///
+    /// Refusal 1 if the number of rows or trees is out of range.
     pub fn drawn(trees: usize, rows: usize, seed: u64) -> Result<Self, Refusal> {
         sizes::check(rows, 1, trees)?;
         let mut draws = SplitMix64::new(seed);
@@ -63,7 +100,19 @@ impl Counts {
     /// Draws bags from a seed with a probability proportional to each row's weight, as smartcore does. If all weights are 0, the bags
     /// are empty.
     ///
-    /// The weights are checked here, in plain Rust, by the rule of a fit (refusal 3), because the trees themselves get no weights.
+    /// The weights are checked here, in plain Rust, by the rule of a fit, because the trees themselves get no weights.
+    ///
+    /// ```
+    /// use tailboardy::Counts;
+    ///
+    /// let bags = Counts::drawn_by_weight(100, &[1.0, 0.0, 3.0], 7)?;
+    /// assert!((0..100).all(|tree| bags.of_tree(tree)[1] == 0));
+    /// # Ok::<(), tailboardy::Refusal>(())
+    /// ```
+    ///
+    /// # Errors
+    ///
+    /// Refusal 1 if the number of weights or trees is out of range, and 3 if a weight is not finite or is below 0.
     pub fn drawn_by_weight(trees: usize, weights: &[f64], seed: u64) -> Result<Self, Refusal> {
         sizes::check(weights.len(), 1, trees)?;
         if let Some(fault) = bad_weight(weights) {

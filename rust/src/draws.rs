@@ -61,7 +61,7 @@ impl Draws {
     /// All draws of a seeded forest. A fit that is [given](crate::RandomForestRegressor::fit_given) these draws is the same as the fit
     /// from that seed. For a forest of many trees this takes a lot of memory; the seeded fit makes the draws of a few trees at a time.
     #[must_use]
-    pub fn seeded(given: &Given, parameters: &RandomForestRegressorParameters) -> Self {
+    pub fn seeded(given: &Given, parameters: RandomForestRegressorParameters) -> Self {
         let source = Source::new(given, parameters.settings(), parameters.seed);
         let mut draws = Draws::none();
         for tree in 0..given.counts.shape().0 {

@@ -4,9 +4,11 @@
 use crate::columns::Columns;
 use crate::counts::bad_weight;
 use crate::draws::Draws;
+use crate::fault::Fault;
 use crate::given::Given;
+use crate::limits::MAX_ROWS;
 use crate::matrix::DenseMatrix;
-use crate::refusal::{Fault, Refusal};
+use crate::refusal::Refusal;
 use crate::rooms::Stopped;
 use crate::sizes;
 
@@ -90,9 +92,10 @@ fn count(given: &Given) -> Option<Fault> {
     })
 }
 
-/// Why a reader refused a valid table: there are too many rows, or they have the wrong number of features.
+/// Why a reader refused a valid table: there are no rows, or they have the wrong number of features. Too many rows are refused before,
+/// or predicted in parts.
 pub(crate) fn reader(x: &DenseMatrix, features: usize) -> Option<Fault> {
-    sizes::fault(x.shape().0, features, 1)
+    sizes::fault(x.shape().0.min(MAX_ROWS), features, 1)
         .or_else(|| Fault::length("values per row", x.shape().1, features))
 }
 

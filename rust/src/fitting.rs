@@ -2,15 +2,16 @@
 
 use crate::counts::Counts;
 use crate::draws::{Draws, Source};
+use crate::fault::Fault;
 use crate::forest::RandomForestRegressor;
 use crate::given::Given;
 use crate::grow::{self, Watch};
 use crate::listings::Listings;
 use crate::matrix::DenseMatrix;
 use crate::parameters::{DecisionTreeRegressorParameters, RandomForestRegressorParameters};
-use crate::refusal::{Cause, Fault, Refusal};
-use crate::sizes;
+use crate::refusal::{Cause, Refusal};
 use crate::tree::DecisionTreeRegressor;
+use crate::{finite, sizes};
 use std::borrow::Cow;
 
 /// A fit from a seed with more options than [`RandomForestRegressor::fit`]: your own listings, weights, and a function that is told
@@ -26,9 +27,12 @@ use std::borrow::Cow;
 /// let stand = AtomicUsize::new(0);
 /// let watch = |trees: usize, _all: usize| { stand.fetch_max(trees, Ordering::Relaxed); };
 ///
-/// let fitting = Fitting::new(&x, &y).with_listings(&listings).with_watch(&watch);
+/// let fitting = Fitting::new(&x, &y)
+///     .with_weights(&[1.0, 1.0, 2.0, 1.0])
+///     .with_listings(&listings)
+///     .with_watch(&watch);
 /// fitting.check()?;
-/// let forest = fitting.forest(&Default::default())?;
+/// let forest = fitting.forest(Default::default())?;
 /// assert_eq!(forest.n_trees(), 100);
 /// assert_eq!(stand.into_inner(), 100);
 /// # Ok::<(), tailboardy::Refusal>(())
@@ -75,19 +79,49 @@ impl<'a> Fitting<'a> {
     }
 
     /// Checks that the data and listings can be used. The proved library makes all the checks of a fit and then grows only a root.
+    ///
+    /// ```
+    /// use tailboardy::{DenseMatrix, Fitting, Listings};
+    ///
+    /// let x = DenseMatrix::from_2d_array(&[[7.5], [6.8], [7.1]])?;
+    /// let damaged = Listings::from_columns(&[[1, 2, 2]])?;
+    /// let y = [3.0, 1.0, 2.0];
+    /// assert!(Fitting::new(&x, &y).check().is_ok());
+    /// let refusal = Fitting::new(&x, &y).with_listings(&damaged).check().unwrap_err();
+    /// assert_eq!(refusal.number(), 5);
+    /// # Ok::<(), tailboardy::Refusal>(())
+    /// ```
+    ///
+    /// # Errors
+    ///
+    /// As [`tree`](Self::tree).
     pub fn check(&self) -> Result<(), Refusal> {
         let root = DecisionTreeRegressorParameters::default().with_max_depth(1);
-        self.tree(&root).map(|_| ())
+        self.tree(root).map(|_| ())
     }
 
     /// Fits a forest from a seed; see [`RandomForestRegressor::fit`].
+    ///
+    /// ```
+    /// use tailboardy::{DenseMatrix, Fitting, RandomForestRegressorParameters};
+    ///
+    /// let x = DenseMatrix::from_2d_array(&[[7.5], [6.8], [7.1]])?;
+    /// let parameters = RandomForestRegressorParameters::default().with_n_trees(5);
+    /// let forest = Fitting::new(&x, &[3.0, 1.0, 2.0]).forest(parameters)?;
+    /// assert_eq!(forest.n_trees(), 5);
+    /// # Ok::<(), tailboardy::Refusal>(())
+    /// ```
+    ///
+    /// # Errors
+    ///
+    /// As [`RandomForestRegressor::fit`], and refusals 2 and 5 for listings of another shape, and for damaged ones.
     pub fn forest(
         &self,
-        parameters: &RandomForestRegressorParameters,
+        parameters: RandomForestRegressorParameters,
     ) -> Result<RandomForestRegressor, Refusal> {
         let (rows, features) = self.x.shape();
         sizes::check(rows, features, parameters.n_trees)?;
-        let counts = self.counts(parameters)?;
+        let counts = self.counts(&parameters)?;
         let listings = self.listings();
         let given = Given {
             x: self.x,
@@ -100,15 +134,31 @@ impl<'a> Fitting<'a> {
             counts: &counts,
             listings: &listings,
         };
-        let grown = grow::grow(&given, parameters, self.watch)?;
+        let grown = grow::grow(&given, &parameters, self.watch)?;
+        let weighed = !given.weights.is_empty();
+        let masses = grown.reports.iter().map(|report| report.root_mass);
+        finite::grown(&grown.nodes, &grown.starts, masses, weighed)?;
         let kept = parameters.keep_samples.then_some(counts);
         Ok(RandomForestRegressor::grown(features, grown, kept))
     }
 
     /// Fits one tree on all rows; see [`DecisionTreeRegressor::fit`].
+    ///
+    /// ```
+    /// use tailboardy::{DenseMatrix, Fitting};
+    ///
+    /// let x = DenseMatrix::from_2d_array(&[[7.5], [6.8], [7.1]])?;
+    /// let tree = Fitting::new(&x, &[3.0, 1.0, 2.0]).tree(Default::default())?;
+    /// assert_eq!(&*tree.predict(&x)?, [3.0, 1.0, 2.0]);
+    /// # Ok::<(), tailboardy::Refusal>(())
+    /// ```
+    ///
+    /// # Errors
+    ///
+    /// As [`DecisionTreeRegressor::fit`], and refusals 2 and 5 for listings of another shape, and for damaged ones.
     pub fn tree(
         &self,
-        parameters: &DecisionTreeRegressorParameters,
+        parameters: DecisionTreeRegressorParameters,
     ) -> Result<DecisionTreeRegressor, Refusal> {
         let (rows, features) = self.x.shape();
         sizes::check(rows, features, 1)?;
@@ -124,7 +174,11 @@ impl<'a> Fitting<'a> {
         let mut draws = Draws::none();
         let settings = parameters.settings(features);
         Source::new(&given, settings, parameters.seed).draw(0, &mut draws);
-        DecisionTreeRegressor::fit_given(&given, &draws, parameters)
+        let tree = DecisionTreeRegressor::fit_given(&given, &draws, parameters)?;
+        let weighed = !given.weights.is_empty();
+        let mass = tree.report().map(|report| report.root_mass);
+        finite::grown(tree.nodes(), &[0], mass.into_iter(), weighed)?;
+        Ok(tree)
     }
 
     fn listings(&self) -> Cow<'a, Listings> {
@@ -159,44 +213,105 @@ impl<'a> Fitting<'a> {
 impl RandomForestRegressor {
     /// Fits a forest: sorts the listings and draws bags, orders and thresholds from the seed in plain Rust, and grows the trees with
     /// the proved library. [`Fitting`] has more options; [`fit_given`](Self::fit_given) uses no seed at all.
+    ///
+    /// ```
+    /// use tailboardy::{DenseMatrix, RandomForestRegressor, RandomForestRegressorParameters};
+    ///
+    /// let x = DenseMatrix::from_2d_array(&[[7.5], [6.8], [7.1]])?;
+    /// let parameters = RandomForestRegressorParameters::default().with_seed(7);
+    /// let forest = RandomForestRegressor::fit(&x, &[3.0, 1.0, 2.0], parameters)?;
+    /// assert_eq!(forest.n_trees(), 100);
+    ///
+    /// // every number is finite, but not their sum
+    /// let refusal = RandomForestRegressor::fit(&x, &[1.7e308; 3], parameters).unwrap_err();
+    /// assert_eq!(refusal.number(), 100);
+    /// # Ok::<(), tailboardy::Refusal>(())
+    /// ```
+    ///
+    /// # Errors
+    ///
+    /// Refusal 1 if the number of rows, features or trees is out of range, 2 if there is not one target or weight per row, 3 if a number is
+    /// not finite or a weight is below 0, and 100 if sums or squares of the numbers are not finite.
     pub fn fit(
         x: &DenseMatrix,
         y: &[f64],
         parameters: RandomForestRegressorParameters,
     ) -> Result<Self, Refusal> {
-        Fitting::new(x, y).forest(&parameters)
+        Fitting::new(x, y).forest(parameters)
     }
 
     /// Fits a forest with weights. As in smartcore, they decide how often a row is drawn into the bags or, without bags (`bootstrap`
     /// false), are used by the trees themselves. An empty slice means a fit without weights. If all weights are 0, every tree is a
     /// single leaf with value 0.
+    ///
+    /// ```
+    /// use tailboardy::{DenseMatrix, RandomForestRegressor};
+    ///
+    /// let x = DenseMatrix::from_2d_array(&[[7.5], [6.8], [7.1]])?;
+    /// let (y, weights) = ([3.0, 1.0, 2.0], [1.0, 0.0, 0.0]);
+    /// let forest = RandomForestRegressor::fit_with_weights(&x, &y, &weights, Default::default())?;
+    /// assert_eq!(&*forest.predict(&x)?, [3.0; 3]);
+    /// # Ok::<(), tailboardy::Refusal>(())
+    /// ```
+    ///
+    /// # Errors
+    ///
+    /// As [`fit`](Self::fit).
     pub fn fit_with_weights(
         x: &DenseMatrix,
         y: &[f64],
         weights: &[f64],
         parameters: RandomForestRegressorParameters,
     ) -> Result<Self, Refusal> {
-        Fitting::new(x, y).with_weights(weights).forest(&parameters)
+        Fitting::new(x, y).with_weights(weights).forest(parameters)
     }
 }
 
 impl DecisionTreeRegressor {
     /// Fits a tree on all rows: sorts the listings and draws from the seed in plain Rust, and grows the tree with the proved library.
+    ///
+    /// ```
+    /// use tailboardy::{DecisionTreeRegressor, DecisionTreeRegressorParameters, DenseMatrix};
+    ///
+    /// let x = DenseMatrix::from_2d_array(&[[7.5], [6.8], [7.1]])?;
+    /// let parameters = DecisionTreeRegressorParameters::default().with_max_depth(2);
+    /// let tree = DecisionTreeRegressor::fit(&x, &[3.0, 1.0, 1.0], parameters)?;
+    /// assert_eq!(&*tree.predict(&x)?, [3.0, 1.0, 1.0]);
+    /// # Ok::<(), tailboardy::Refusal>(())
+    /// ```
+    ///
+    /// # Errors
+    ///
+    /// Refusal 1 if the number of rows, features or trees is out of range, 2 if there is not one target or weight per row, 3 if a number is
+    /// not finite or a weight is below 0, and 100 if sums or squares of the numbers are not finite.
     pub fn fit(
         x: &DenseMatrix,
         y: &[f64],
         parameters: DecisionTreeRegressorParameters,
     ) -> Result<Self, Refusal> {
-        Fitting::new(x, y).tree(&parameters)
+        Fitting::new(x, y).tree(parameters)
     }
 
     /// The same with weights, one per row.
+    ///
+    /// ```
+    /// use tailboardy::{DecisionTreeRegressor, DenseMatrix};
+    ///
+    /// let x = DenseMatrix::from_2d_array(&[[7.5], [7.5]])?;
+    /// let tree = DecisionTreeRegressor::fit_with_weights(&x, &[0.0, 4.0], &[1.0, 3.0], Default::default())?;
+    /// assert_eq!(&*tree.predict(&x)?, [3.0; 2]);
+    /// # Ok::<(), tailboardy::Refusal>(())
+    /// ```
+    ///
+    /// # Errors
+    ///
+    /// As [`fit`](Self::fit).
     pub fn fit_with_weights(
         x: &DenseMatrix,
         y: &[f64],
         weights: &[f64],
         parameters: DecisionTreeRegressorParameters,
     ) -> Result<Self, Refusal> {
-        Fitting::new(x, y).with_weights(weights).tree(&parameters)
+        Fitting::new(x, y).with_weights(weights).tree(parameters)
     }
 }

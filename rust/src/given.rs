@@ -5,6 +5,24 @@ use crate::listings::Listings;
 use crate::matrix::DenseMatrix;
 
 /// The data of a fit: all that it is given apart from its parameters and draws.
+///
+/// ```
+/// use tailboardy::{Counts, DenseMatrix, Draws, Given, Listings, RandomForestRegressor};
+///
+/// let x = DenseMatrix::from_2d_array(&[[7.5], [6.8], [7.1]])?;
+/// let given = Given {
+///     x: &x,
+///     y: &[3.0, 1.0, 2.0],
+///     weights: &[],
+///     counts: &Counts::drawn(100, 3, 0)?,
+///     listings: &Listings::sorted(&x),
+/// };
+/// let draws = Draws::seeded(&given, Default::default());
+/// let forest = RandomForestRegressor::fit_given(&given, &draws, Default::default())?;
+/// let same = RandomForestRegressor::fit(&x, given.y, Default::default())?;
+/// assert_eq!(forest.nodes(), same.nodes());
+/// # Ok::<(), tailboardy::Refusal>(())
+/// ```
 #[derive(Debug, Clone, Copy)]
 pub struct Given<'a> {
     /// Feature values.

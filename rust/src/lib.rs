@@ -37,6 +37,8 @@
 //!   range would be refused, and every other draw is as good as the next;
 //! - growing a forest a few trees at a time on several threads, and joining these trees into one forest
 //!   ([`RandomForestRegressor::fit_given`] is a single call of the library, and gives the same forest bit for bit);
+//! - predicting more than [`MAX_ROWS`] rows in parts, and joining these;
+//! - refusing results that are not finite ([`Cause::NotFinite`]), which the library returns as smartcore does;
 //! - finding the place of what was refused ([`Fault`]);
 //! - the list of calls through which the library is linked, in `tailboardy-sys`, the only place with `unsafe`.
 //!
@@ -50,6 +52,8 @@ mod columns;
 mod counts;
 mod draws;
 mod explain;
+mod fault;
+mod finite;
 mod fitting;
 mod forest;
 mod given;
@@ -59,6 +63,7 @@ mod listings;
 mod matrix;
 mod nodes;
 mod parameters;
+mod parts;
 mod refusal;
 mod results;
 mod rooms;
@@ -70,6 +75,7 @@ mod tree;
 pub use columns::Nodes;
 pub use counts::Counts;
 pub use draws::Draws;
+pub use fault::{Breach, Fault, ListingFault};
 pub use fitting::Fitting;
 pub use forest::RandomForestRegressor;
 pub use given::Given;
@@ -78,7 +84,7 @@ pub use listings::Listings;
 pub use matrix::DenseMatrix;
 pub use nodes::{Kind, Node, Split, Tree};
 pub use parameters::{DecisionTreeRegressorParameters, RandomForestRegressorParameters, Splitter};
-pub use refusal::{Breach, Cause, Fault, ListingFault, Refusal};
+pub use refusal::{Cause, Refusal};
 pub use results::{Importances, Means, OutOfBagMeans, Report};
 pub use seed::SplitMix64;
 pub use tree::DecisionTreeRegressor;

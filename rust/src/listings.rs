@@ -1,8 +1,9 @@
 //! Listings: for each feature all row numbers in ascending order of value.
 
+use crate::fault::{Breach, Fault, ListingFault};
 use crate::limits::MAX_ROWS;
 use crate::matrix::DenseMatrix;
-use crate::refusal::{Breach, Cause, Fault, ListingFault, Refusal};
+use crate::refusal::{Cause, Refusal};
 use crate::sizes;
 use tailboardy_sys::linked;
 
@@ -17,6 +18,7 @@ use tailboardy_sys::linked;
 ///
 /// let x = DenseMatrix::from_2d_array(&[[7.5], [6.8], [7.1], [7.1]])?;
 /// let listings = Listings::sorted(&x);
+/// assert_eq!(listings.features(), 1);
 /// assert_eq!(listings.column(0), Some(&[1, 2, 3, 0][..]));
 /// listings.check(&x)?;
 ///
@@ -68,6 +70,21 @@ impl Listings {
     }
 
     /// Takes one listing per feature, all of the same length.
+    ///
+    /// ```
+    /// use tailboardy::Listings;
+    ///
+    /// let listings = Listings::from_columns(&[[1, 2, 0], [0, 1, 2]])?;
+    /// assert_eq!(listings.column(1), Some(&[0, 1, 2][..]));
+    ///
+    /// let refusal = Listings::from_columns(&[vec![1, 2, 0], vec![0, 1]]).unwrap_err();
+    /// assert_eq!(refusal.number(), 2);
+    /// # Ok::<(), tailboardy::Refusal>(())
+    /// ```
+    ///
+    /// # Errors
+    ///
+    /// Refusal 2 if a listing is not as long as the first. What is in them is checked later.
     pub fn from_columns<C: AsRef<[u32]>>(columns: &[C]) -> Result<Self, Refusal> {
         let length = columns.first().map_or(0, |column| column.as_ref().len());
         let other = columns.iter().find(|it| it.as_ref().len() != length);
@@ -89,6 +106,21 @@ impl Listings {
     }
 
     /// Checks, with the proved library, that each feature's listing contains each row exactly once and that its values never decrease.
+    ///
+    /// ```
+    /// use tailboardy::{DenseMatrix, Listings};
+    ///
+    /// let x = DenseMatrix::from_2d_array(&[[7.5], [6.8], [7.1]])?;
+    /// assert!(Listings::from_columns(&[[1, 2, 0]])?.check(&x).is_ok());
+    /// let falls = Listings::from_columns(&[[2, 1, 0]])?;
+    /// assert_eq!(falls.check(&x).unwrap_err().number(), 5);
+    /// # Ok::<(), tailboardy::Refusal>(())
+    /// ```
+    ///
+    /// # Errors
+    ///
+    /// Refusal 1 if the number of rows or features is out of range, 2 if there is not one listing per feature with as many numbers as there
+    /// are rows, and 5 if a listing is damaged.
     pub fn check(&self, x: &DenseMatrix) -> Result<(), Refusal> {
         let (rows, features) = x.shape();
         match linked::check_listings(rows, features, x.values(), self.numbers(x)) {
@@ -197,7 +229,7 @@ mod tests {
     #[test]
     fn rows_of_one_value_stay_in_their_order() {
         let values = [0.0, -0.0, 5e-324, 0.0, -5e-324, -1e300, 1e300, -0.0];
-        let x = DenseMatrix::new(8, 1, values.to_vec()).unwrap();
+        let x = DenseMatrix::new(8, 1, values.to_vec(), false).unwrap();
         let listings = Listings::sorted(&x);
         assert_eq!(listings.column(0), Some(&[5, 4, 0, 1, 3, 7, 2, 6][..]));
         assert_eq!(listings.column(1), None);

@@ -4,9 +4,18 @@ use crate::columns::{Columns, over};
 use crate::matrix::DenseMatrix;
 use crate::refusal::Refusal;
 use crate::results::{Importances, Means};
-use crate::{explain, sizes};
+use crate::{explain, finite, parts};
 
 /// A single node.
+///
+/// ```
+/// use tailboardy::{DecisionTreeRegressor, DenseMatrix, Kind, Node};
+///
+/// let x = DenseMatrix::from_2d_array(&[[1.0], [2.0]])?;
+/// let tree = DecisionTreeRegressor::fit(&x, &[5.0, 7.0], Default::default())?;
+/// assert_eq!(tree.node(1), Some(Node { value: 5.0, kind: Kind::Leaf }));
+/// # Ok::<(), tailboardy::Refusal>(())
+/// ```
 #[derive(Debug, Clone, Copy, PartialEq)]
 pub struct Node {
     /// The mean of the targets in the node.
@@ -16,6 +25,24 @@ pub struct Node {
 }
 
 /// What a node is.
+///
+/// ```
+/// use tailboardy::{Kind, Tree};
+///
+/// fn depth(tree: &Tree, node: usize) -> usize {
+///     match tree.node(node).map(|node| node.kind) {
+///         Some(Kind::Split(split)) => {
+///             1 + depth(tree, split.true_child).max(depth(tree, split.false_child))
+///         }
+///         Some(Kind::Leaf) | None => 0,
+///     }
+/// }
+/// # use tailboardy::{DecisionTreeRegressor, DenseMatrix};
+/// # let x = DenseMatrix::from_2d_array(&[[1.0], [2.0]])?;
+/// # let tree = DecisionTreeRegressor::fit(&x, &[5.0, 7.0], Default::default())?;
+/// assert_eq!(depth(&tree.tree(), 0), 1);
+/// # Ok::<(), tailboardy::Refusal>(())
+/// ```
 #[derive(Debug, Clone, Copy, PartialEq)]
 pub enum Kind {
     /// Rows stop here.
@@ -25,6 +52,16 @@ pub enum Kind {
 }
 
 /// How a node is split.
+///
+/// ```
+/// use tailboardy::{DecisionTreeRegressor, DenseMatrix, Kind, Split};
+///
+/// let x = DenseMatrix::from_2d_array(&[[1.0], [2.0]])?;
+/// let tree = DecisionTreeRegressor::fit(&x, &[5.0, 7.0], Default::default())?;
+/// let split = Split { feature: 0, threshold: 1.5, score: 2.0, true_child: 1, false_child: 2 };
+/// assert_eq!(tree.node(0).unwrap().kind, Kind::Split(split));
+/// # Ok::<(), tailboardy::Refusal>(())
+/// ```
 #[derive(Debug, Clone, Copy, PartialEq)]
 pub struct Split {
     /// The feature that is compared.
@@ -41,6 +78,18 @@ pub struct Split {
 
 /// A view of one tree of a forest, or of a tree fitted alone. Its table is valid, since a fit leaves no other and any other was
 /// refused.
+///
+/// ```
+/// use tailboardy::{DenseMatrix, Kind, RandomForestRegressor};
+///
+/// let x = DenseMatrix::from_2d_array(&[[1.0], [2.0], [3.0], [4.0]])?;
+/// let forest = RandomForestRegressor::fit(&x, &[0.0, 0.0, 10.0, 10.0], Default::default())?;
+/// for tree in forest.trees() {
+///     let leaves = tree.nodes().filter(|node| node.kind == Kind::Leaf).count();
+///     assert_eq!(tree.n_nodes(), 2 * leaves - 1);
+/// }
+/// # Ok::<(), tailboardy::Refusal>(())
+/// ```
 #[derive(Debug, Clone, Copy)]
 pub struct Tree<'a> {
     pub(crate) features: usize,
@@ -93,27 +142,61 @@ impl<'a> Tree<'a> {
         )
     }
 
-    /// This tree's prediction for each row.
+    /// The scores of its splits.
+    pub(crate) fn scores(&self) -> impl Iterator<Item = f64> + use<'a> {
+        self.nodes().filter_map(|node| match node.kind {
+            Kind::Leaf => None,
+            Kind::Split(split) => Some(split.score),
+        })
+    }
+
+    /// This tree's prediction for each row, for any number of rows.
+    ///
+    /// ```
+    /// # use tailboardy::{DenseMatrix, RandomForestRegressor};
+    /// # let x = DenseMatrix::from_2d_array(&[[1.0], [2.0], [3.0], [4.0]])?;
+    /// # let forest = RandomForestRegressor::fit(&x, &[0.0, 0.0, 10.0, 10.0], Default::default())?;
+    /// let first = forest.tree(0).unwrap();
+    /// assert!(first.predict(&x)?.iter().all(|value| [0.0, 10.0].contains(value)));
+    /// # Ok::<(), tailboardy::Refusal>(())
+    /// ```
+    ///
+    /// # Errors
+    ///
+    /// Refusal 1 if there are no rows, 2 if they do not have as many values as the tree has features, and 100 if a value is not finite.
     pub fn predict(&self, x: &DenseMatrix) -> Result<Means, Refusal> {
-        let rows = x.shape().0;
         let features = self.features;
-        let mut out = sizes::room(rows, features, 1)?;
-        match over!(predict_tree(rows, features, x.values(); self.columns; &mut out)) {
-            0 => Ok(Means(out)),
-            number => Err(Refusal::of(number, explain::reader(x, features))),
-        }
+        parts::predict(
+            x,
+            features,
+            |rows, values, out| over!(predict_tree(rows, features, values; self.columns; out)),
+        )
     }
 
     /// This tree's importances: the scores of its splits by feature, divided by their sum.
+    ///
+    /// ```
+    /// # use tailboardy::{DenseMatrix, RandomForestRegressor};
+    /// # let x = DenseMatrix::from_2d_array(&[[1.0], [2.0], [3.0], [4.0]])?;
+    /// # let forest = RandomForestRegressor::fit(&x, &[0.0, 0.0, 10.0, 10.0], Default::default())?;
+    /// let first = forest.tree(0).unwrap();
+    /// assert_eq!(&*first.compute_feature_importances()?, [1.0]);
+    /// # Ok::<(), tailboardy::Refusal>(())
+    /// ```
+    ///
+    /// # Errors
+    ///
+    /// Refusal 100 if the scores, or their sum, are not finite.
     pub fn compute_feature_importances(&self) -> Result<Importances, Refusal> {
         self.importances(false, 0.0)
     }
 
     pub(crate) fn importances(&self, by_mass: bool, mass: f64) -> Result<Importances, Refusal> {
+        finite::scores(0, self.scores())?;
         let features = self.features;
         let mut out = vec![0.0; features];
         match over!(tree_importances(features, by_mass, mass; self.columns; &mut out)) {
-            0 => Ok(Importances(out)),
+            0 => finite::all("importance of feature", out).map(Importances),
             number => Err(Refusal::of(number, None)),
         }
     }

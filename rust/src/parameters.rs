@@ -3,6 +3,16 @@
 use tailboardy_sys::{ForestSettings, TreeSettings};
 
 /// How a search chooses the cut of a feature.
+///
+/// ```
+/// use tailboardy::{RandomForestRegressorParameters, Splitter};
+///
+/// // extra trees
+/// let parameters = RandomForestRegressorParameters::default()
+///     .with_splitter(Splitter::Random)
+///     .with_bootstrap(false);
+/// assert_eq!(parameters.splitter, Splitter::Random);
+/// ```
 #[derive(Debug, Clone, Copy, PartialEq, Eq, Default)]
 pub enum Splitter {
     /// A single threshold, drawn at random between the lowest and the highest value.
@@ -12,7 +22,8 @@ pub enum Splitter {
     Best,
 }
 
-/// The parameters of a forest. The names are smartcore's where they mean the same; see docs/SMARTCORE.md.
+/// The parameters of a forest. The names are smartcore's where they mean the same; see docs/SMARTCORE.md. Every fit takes them by
+/// value, as in smartcore; they are `Copy`, so the same parameters serve several fits.
 ///
 /// ```
 /// use tailboardy::RandomForestRegressorParameters;
@@ -25,7 +36,7 @@ pub enum Splitter {
 /// assert_eq!(parameters.n_trees, 200);
 /// assert_eq!(parameters.m, None);
 /// ```
-#[derive(Debug, Clone, PartialEq, Eq)]
+#[derive(Debug, Clone, Copy, PartialEq, Eq)]
 #[must_use]
 pub struct RandomForestRegressorParameters {
     /// The number of trees. Default: 100.
@@ -68,7 +79,16 @@ impl Default for RandomForestRegressorParameters {
 }
 
 /// The parameters of a single tree.
-#[derive(Debug, Clone, PartialEq, Eq)]
+///
+/// ```
+/// use tailboardy::DecisionTreeRegressorParameters;
+///
+/// let parameters = DecisionTreeRegressorParameters::default()
+///     .with_max_depth(4)
+///     .with_min_samples_split(10);
+/// assert_eq!(parameters.max_depth, Some(4));
+/// ```
+#[derive(Debug, Clone, Copy, PartialEq, Eq)]
 #[must_use]
 pub struct DecisionTreeRegressorParameters {
     /// How many features each search tries. Default: all.

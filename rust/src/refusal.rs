@@ -1,11 +1,11 @@
 //! Refusals: a number, a name, what is wrong and where, and what to do about it.
 
-use crate::limits::{MAX_FEATURES, MAX_ROWS, MAX_TREES};
+use crate::fault::Fault;
 use std::error::Error;
 use std::fmt;
 
-/// Why a call was refused. The number comes from the proved library. The [`Fault`], which tells a person where to look, is found by
-/// plain Rust code that examines the same input.
+/// Why a call was refused. The number comes from the proved library, except 100, by which this crate refuses a result that is not
+/// finite. The [`Fault`], which tells a person where to look, is found by plain Rust code that examines the same input.
 ///
 /// ```
 /// use tailboardy::{Cause, DenseMatrix, RandomForestRegressor};
@@ -26,7 +26,21 @@ pub struct Refusal {
     fault: Option<Fault>,
 }
 
-/// The refusals, numbered as in the table of docs/RULES.md.
+/// The refusals, each with a number, a name and advice.
+///
+/// ```
+/// use tailboardy::{Cause, DenseMatrix, RandomForestRegressor};
+///
+/// let x = DenseMatrix::from_2d_array(&[[1.0], [2.0]])?;
+/// match RandomForestRegressor::fit(&x, &[0.0], Default::default()) {
+///     Err(refusal) if refusal.cause() == Cause::Lengths => println!("{}", refusal.cause().advice()),
+///     answer => panic!("{answer:?}"),
+/// }
+/// assert_eq!((Cause::Lengths.number(), Cause::Lengths.name()), (2, "lengths"));
+/// # Ok::<(), tailboardy::Refusal>(())
+/// ```
+///
+/// 1 to 10 are the proved library's, numbered as in the table of docs/RULES.md; 100 is this crate's own.
 #[derive(Debug, Clone, Copy, PartialEq, Eq, Hash)]
 #[non_exhaustive]
 pub enum Cause {
@@ -50,6 +64,8 @@ pub enum Cause {
     NoCounts,
     /// 10: out-of-bag means were requested for other rows than the forest was fitted on.
     OtherCounts,
+    /// 100: a result is not finite. The library returns such a result, as smartcore does; this crate does not pass it on.
+    NotFinite,
     /// A number that this crate does not know, because the library is newer.
     Unlisted(u32),
 }
@@ -87,6 +103,7 @@ impl Cause {
             Cause::Table => 8,
             Cause::NoCounts => 9,
             Cause::OtherCounts => 10,
+            Cause::NotFinite => 100,
             Cause::Unlisted(number) => number,
         }
     }
@@ -105,6 +122,7 @@ impl Cause {
             Cause::Table => "table",
             Cause::NoCounts => "no counts",
             Cause::OtherCounts => "other counts",
+            Cause::NotFinite => "not finite",
             Cause::Unlisted(_) => "unlisted",
         }
     }
@@ -131,171 +149,10 @@ impl Cause {
                 "fit with keep_samples, which records the rows that each tree left out"
             }
             Cause::OtherCounts => "pass the rows that the forest was fitted on",
+            Cause::NotFinite => {
+                "the targets or weights are too large, or the weights too small, to calculate with: multiply or divide all of them by a constant"
+            }
             Cause::Unlisted(_) => "rebuild this crate for the library that it is linked with",
-        }
-    }
-}
-
-/// What is wrong, and where. Rows, features, trees, nodes and positions are counted from 0.
-#[derive(Debug, Clone, PartialEq)]
-#[non_exhaustive]
-#[allow(missing_docs)]
-pub enum Fault {
-    /// The number of rows.
-    Rows(usize),
-    /// The number of features.
-    Features(usize),
-    /// The number of trees.
-    Trees(usize),
-    /// The name of a list, the length that it has and the length that is required.
-    Length {
-        list: &'static str,
-        is: usize,
-        asked: usize,
-    },
-    /// A row of a matrix that does not have as many values as the first.
-    Ragged { row: usize, is: usize, asked: usize },
-    /// The name of a cut table that does not start at 0, decreases, or does not end where its tape ends.
-    Cuts(&'static str),
-    /// A feature value that is not finite.
-    Value {
-        row: usize,
-        feature: usize,
-        value: f64,
-    },
-    /// A target that is not finite.
-    Target { row: usize, value: f64 },
-    /// A weight that is not finite, or is below 0.
-    Weight { row: usize, value: f64 },
-    /// How many times a row is in a tree's bag.
-    Count { tree: usize, row: usize, count: u32 },
-    /// The first position where a listing is wrong.
-    Listing(ListingFault),
-    /// The tree and search whose draw is missing or out of range.
-    Draw { tree: usize, search: usize },
-    /// The first position where a table of starts is wrong.
-    Starts { place: usize },
-    /// The first node that is neither a leaf nor a valid split.
-    Node { tree: usize, node: usize },
-}
-
-/// The first position where a feature's listing is wrong.
-#[derive(Debug, Clone, PartialEq, Eq)]
-pub struct ListingFault {
-    /// The feature.
-    pub feature: usize,
-    /// The position in its listing.
-    pub place: usize,
-    /// What is wrong there.
-    pub breach: Breach,
-    /// The lowest row that is missing from the whole listing.
-    pub missing: Option<usize>,
-}
-
-/// What is wrong with a listing. At each position the variants are tried in this order.
-#[derive(Debug, Clone, Copy, PartialEq, Eq)]
-#[non_exhaustive]
-pub enum Breach {
-    /// There is no row with this number.
-    NoSuchRow(u32),
-    /// The row already appeared at an earlier position.
-    Twice {
-        /// The row.
-        row: u32,
-        /// The earlier position.
-        before: usize,
-    },
-    /// The row's value is lower than that of the row before it.
-    Falls {
-        /// The row.
-        row: u32,
-        /// The row before it.
-        after: u32,
-    },
-    /// The listing ends before every row has appeared.
-    Ends,
-}
-
-impl Fault {
-    /// A list that is not as long as required, if it is not.
-    pub(crate) fn length(list: &'static str, is: usize, asked: usize) -> Option<Self> {
-        (is != asked).then_some(Fault::Length { list, is, asked })
-    }
-}
-
-impl fmt::Display for Fault {
-    fn fmt(&self, f: &mut fmt::Formatter<'_>) -> fmt::Result {
-        match self {
-            Fault::Rows(is) => write!(f, "{is} rows, but 1 to {MAX_ROWS} are required"),
-            Fault::Features(is) => write!(f, "{is} features, but 1 to {MAX_FEATURES} are required"),
-            Fault::Trees(is) => write!(f, "{is} trees, but 1 to {MAX_TREES} are required"),
-            Fault::Length { list, is, asked } => write!(f, "{list}: {is} given, {asked} required"),
-            Fault::Ragged { row, is, asked } => {
-                write!(
-                    f,
-                    "row {row} has {is} values, but the first row has {asked}"
-                )
-            }
-            Fault::Cuts(tape) => write!(
-                f,
-                "the {tape} starts do not divide their tape into one part per tree"
-            ),
-            Fault::Value {
-                row,
-                feature,
-                value,
-            } => write!(f, "feature {feature} of row {row} is {value}"),
-            Fault::Target { row, value } => write!(f, "the target of row {row} is {value}"),
-            Fault::Weight { row, value } => write!(f, "the weight of row {row} is {value}"),
-            Fault::Count { tree, row, count } => {
-                write!(
-                    f,
-                    "row {row} appears {count} times in the bag of tree {tree}"
-                )
-            }
-            Fault::Listing(fault) => fault.fmt(f),
-            Fault::Draw { tree, search } => {
-                write!(
-                    f,
-                    "the draw for search {search} of tree {tree} is missing or out of range"
-                )
-            }
-            Fault::Starts { place } => {
-                write!(f, "the table of starts is wrong at position {place}")
-            }
-            Fault::Node { tree, node } => write!(
-                f,
-                "node {node} of tree {tree} is neither a leaf nor a valid split"
-            ),
-        }
-    }
-}
-
-impl fmt::Display for ListingFault {
-    fn fmt(&self, f: &mut fmt::Formatter<'_>) -> fmt::Result {
-        let place = self.place;
-        write!(f, "feature {}: ", self.feature)?;
-        match self.breach {
-            Breach::NoSuchRow(row) => {
-                write!(f, "position {place} has row {row}, which does not exist")?
-            }
-            Breach::Twice { row, before } => {
-                write!(
-                    f,
-                    "row {row} appears twice, at positions {before} and {place}"
-                )?;
-            }
-            Breach::Falls { row, after } => {
-                write!(
-                    f,
-                    "at position {place} the value of row {row} is lower than that of row {after} before it"
-                )?;
-            }
-            Breach::Ends => write!(f, "it ends at position {place}")?,
-        }
-        match self.missing {
-            Some(row) => write!(f, ", and row {row} is missing"),
-            None => Ok(()),
         }
     }
 }

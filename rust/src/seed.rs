@@ -14,6 +14,9 @@
 /// let mut order = [0, 1, 2];
 /// draws.shuffle(&mut order);
 /// assert_eq!(order, [0, 2, 1]);
+/// assert!(draws.up_to(5) <= 5);
+/// assert!((0.0..1.0).contains(&draws.unit()));
+/// assert!((6.2..7.5).contains(&draws.within(6.2, 7.5)));
 /// ```
 #[derive(Debug, Clone)]
 pub struct SplitMix64 {

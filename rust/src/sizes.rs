@@ -1,7 +1,8 @@
 //! Checks of sizes.
 
+use crate::fault::Fault;
 use crate::limits::{MAX_FEATURES, MAX_ROWS, MAX_TREES};
-use crate::refusal::{Fault, Refusal};
+use crate::refusal::Refusal;
 use tailboardy_sys::linked;
 
 /// Asks the library whether it accepts these sizes, before anything is allocated for a call. The library checks sizes first, so calls

@@ -4,8 +4,9 @@ mod common;
 
 use common::{Maker, bits, same};
 use tailboardy::{
-    Counts, DecisionTreeRegressor, DecisionTreeRegressorParameters, DenseMatrix, Draws, Fitting,
-    Given, Kind, Listings, RandomForestRegressor, RandomForestRegressorParameters, Splitter,
+    Cause, Counts, DecisionTreeRegressor, DecisionTreeRegressorParameters, DenseMatrix, Draws,
+    Fitting, Given, Kind, Listings, RandomForestRegressor, RandomForestRegressorParameters,
+    Splitter,
 };
 
 /// The input of the rehearsal table: four rows, one feature.
@@ -18,7 +19,7 @@ struct Rehearsal {
 
 fn rehearsal() -> Rehearsal {
     Rehearsal {
-        x: DenseMatrix::new(4, 1, vec![1.0, 2.0, 3.0, 4.0]).unwrap(),
+        x: DenseMatrix::new(4, 1, vec![1.0, 2.0, 3.0, 4.0], false).unwrap(),
         y: vec![0.0, 0.0, 10.0, 10.0],
         counts: vec![1; 4],
         parameters: Default::default(),
@@ -37,7 +38,7 @@ impl Rehearsal {
         };
         let mut draws = Draws::none();
         draws.push_tree(&[0; 8], &[]);
-        DecisionTreeRegressor::fit_given(&given, &draws, &self.parameters).unwrap()
+        DecisionTreeRegressor::fit_given(&given, &draws, self.parameters).unwrap()
     }
 
     /// Nodes, depth, searches.
@@ -74,7 +75,7 @@ fn the_rehearsal_table_comes_out() {
     assert_eq!(with(plain().with_min_samples_split(5)).figures(), [1, 0, 0]);
 
     let mut p7 = rehearsal();
-    p7.x = DenseMatrix::new(4, 1, vec![7.0; 4]).unwrap();
+    p7.x = DenseMatrix::new(4, 1, vec![7.0; 4], false).unwrap();
     assert_eq!(p7.figures(), [1, 0, 1]);
     let mut p9 = rehearsal();
     p9.counts = vec![0; 4];
@@ -84,7 +85,7 @@ fn the_rehearsal_table_comes_out() {
 
 #[test]
 fn a_row_left_out_is_told_by_the_others() {
-    let x = DenseMatrix::new(4, 1, vec![1.0, 2.0, 3.0, 4.0]).unwrap();
+    let x = DenseMatrix::new(4, 1, vec![1.0, 2.0, 3.0, 4.0], false).unwrap();
     let counts = Counts::new(1, 4, vec![2, 0, 1, 1]).unwrap();
     let listings = Listings::sorted(&x);
     for target in [0.0, -1000.0] {
@@ -96,8 +97,8 @@ fn a_row_left_out_is_told_by_the_others() {
             listings: &listings,
         };
         let parameters = RandomForestRegressorParameters::default().with_keep_samples(true);
-        let draws = Draws::seeded(&given, &parameters);
-        let forest = RandomForestRegressor::fit_given(&given, &draws, &parameters).unwrap();
+        let draws = Draws::seeded(&given, parameters);
+        let forest = RandomForestRegressor::fit_given(&given, &draws, parameters).unwrap();
         assert_eq!(forest.nodes().len(), 5);
         assert_eq!(forest.nodes().threshold[0], 2.0);
         let means = forest.predict_oob(&x).unwrap();
@@ -106,7 +107,7 @@ fn a_row_left_out_is_told_by_the_others() {
             [None, Some(0.0), None, None]
         );
         assert_eq!(
-            (means.told(), means.error(given.y).unwrap()),
+            (means.count(), means.error(given.y).unwrap()),
             (1, target * target / 4.0)
         );
     }
@@ -114,7 +115,7 @@ fn a_row_left_out_is_told_by_the_others() {
 
 #[test]
 fn a_seeded_forest_is_one_call_with_its_draws_recorded() {
-    let mut made = Maker::new(1);
+    let (mut made, mut compared) = (Maker::new(1), 0);
     for _ in 0..400 {
         let (rows, features) = (1 + made.up_to(30), 1 + made.up_to(4));
         let (x, y) = (made.matrix(rows, features), made.numbers(rows));
@@ -123,21 +124,33 @@ fn a_seeded_forest_is_one_call_with_its_draws_recorded() {
             true => vec![],
             false => made.weights(rows),
         };
-        let seeded = Fitting::new(&x, &y).with_weights(&weights);
-        let seeded = seeded.forest(&parameters).unwrap();
+        let counts = match parameters.bootstrap {
+            true => Counts::drawn(parameters.n_trees, rows, parameters.seed),
+            false => Counts::ones(parameters.n_trees, rows),
+        };
         let given = Given {
             x: &x,
             y: &y,
             weights: &weights,
-            counts: seeded.samples().unwrap(),
+            counts: &counts.unwrap(),
             listings: &Listings::sorted(&x),
         };
-        let draws = Draws::seeded(&given, &parameters);
-        let one_call = RandomForestRegressor::fit_given(&given, &draws, &parameters).unwrap();
-        assert!(same(&seeded, &one_call));
-        assert_eq!(seeded.reports(), one_call.reports());
-        held_to_its_draws(&seeded, &draws, &parameters);
+        let draws = Draws::seeded(&given, parameters);
+        let one_call = RandomForestRegressor::fit_given(&given, &draws, parameters).unwrap();
+        held_to_its_draws(&one_call, &draws, &parameters);
+        let seeded = Fitting::new(&x, &y).with_weights(&weights);
+        match seeded.forest(parameters) {
+            Ok(seeded) => {
+                assert!(same(&seeded, &one_call));
+                assert_eq!(seeded.reports(), one_call.reports());
+                assert_eq!(seeded.samples(), Some(given.counts));
+                compared += 1;
+            }
+            // one of the numbers is too large
+            Err(refusal) => assert_eq!(refusal.cause(), Cause::NotFinite),
+        }
     }
+    assert!(compared > 150, "{compared}");
 }
 
 /// There are always enough words, and the fit uses everything that was drawn while the tree grew.
@@ -230,9 +243,11 @@ fn nodes_read_out_are_the_columns() {
 fn a_tree_alone_is_a_forest_of_one_that_tries_all() {
     let mut made = Maker::new(5);
     for _ in 0..50 {
-        let (x, y) = (made.matrix(25, 3), made.numbers(25));
+        let (x, y) = (made.matrix(25, 3), made.plain(25, 1).1);
         let splitter = made.one_of(&[Splitter::Best, Splitter::Random]);
-        let weights = made.weights(25);
+        let weights: Vec<f64> = (0..25)
+            .map(|_| made.one_of(&[0.0, -0.0, 0.5, 3.0]))
+            .collect();
         let alone = DecisionTreeRegressorParameters::default()
             .with_splitter(splitter)
             .with_seed(9);

@@ -8,7 +8,10 @@ use tailboardy::{
     Given, Listings, Nodes, RandomForestRegressor, Refusal,
 };
 
-fn told<T>(answer: Result<T, Refusal>, tally: &mut [usize; 11]) -> Option<T> {
+/// How many answers there were, then refusals by number, and last results that were not finite.
+type Tally = [usize; 12];
+
+fn told<T>(answer: Result<T, Refusal>, tally: &mut Tally) -> Option<T> {
     match answer {
         Ok(answer) => {
             tally[0] += 1;
@@ -16,17 +19,17 @@ fn told<T>(answer: Result<T, Refusal>, tally: &mut [usize; 11]) -> Option<T> {
         }
         Err(refusal) => {
             let number = refusal.number() as usize;
-            assert!((1..=10).contains(&number) && number != 6, "{refusal}");
+            assert!(matches!(number, 1..=5 | 7..=10 | 100), "{refusal}");
             let asks_a_place = !matches!(number, 9 | 10);
             assert_eq!(refusal.fault().is_some(), asks_a_place, "{refusal:?}");
-            tally[number] += 1;
+            tally[number.min(11)] += 1;
             None
         }
     }
 }
 
 /// The least number of answers, and of refusals by number.
-fn held(tally: [usize; 11], least: [usize; 11]) {
+fn held(tally: Tally, least: Tally) {
     let enough = tally.iter().zip(least).all(|(is, least)| *is >= least);
     assert!(enough, "{tally:?}");
 }
@@ -50,7 +53,7 @@ impl Maker {
     fn any_matrix(&mut self, rows: usize, features: usize) -> DenseMatrix {
         let (rows, features) = (self.about(rows), self.about(features));
         let values = self.any_numbers(rows * features);
-        DenseMatrix::new(rows, features, values).unwrap()
+        DenseMatrix::new(rows, features, values, false).unwrap()
     }
 
     fn any_listings(&mut self, x: &DenseMatrix) -> Listings {
@@ -90,7 +93,7 @@ impl Maker {
 
 #[test]
 fn seeded() {
-    let (mut made, mut tally) = (Maker::new(31), [0; 11]);
+    let (mut made, mut tally) = (Maker::new(31), [0; 12]);
     for _ in 0..4000 {
         let (rows, features) = (made.up_to(12), made.up_to(4));
         let x = made.any_matrix(rows, features);
@@ -111,12 +114,12 @@ fn seeded() {
         }
         told(fitting.check(), &mut tally);
         let tree = DecisionTreeRegressorParameters::default().with_splitter(parameters.splitter);
-        told(fitting.tree(&tree), &mut tally);
-        if let Some(forest) = told(fitting.forest(&parameters), &mut tally) {
+        told(fitting.tree(tree), &mut tally);
+        if let Some(forest) = told(fitting.forest(parameters), &mut tally) {
             read(&mut made, &forest, &x, &y, &mut tally);
         }
     }
-    let least = [5000, 500, 500, 500, 0, 100, 0, 0, 0, 100, 10];
+    let least = [5000, 500, 500, 500, 0, 100, 0, 0, 0, 100, 10, 500];
     held(tally, least);
     assert_eq!(tally[7], 0, "a seed's draws are good");
 }
@@ -126,7 +129,7 @@ fn read(
     forest: &RandomForestRegressor,
     x: &DenseMatrix,
     y: &[f64],
-    tally: &mut [usize; 11],
+    tally: &mut Tally,
 ) {
     let (rows, features) = x.shape();
     let other = made.any_matrix(rows, features);
@@ -134,13 +137,12 @@ fn read(
     if let Some(means) = told(forest.predict_oob(&other), tally) {
         told(means.error(y), tally);
     }
-    assert_eq!(
-        forest.compute_feature_importances().unwrap().len(),
-        features
-    );
+    let shares = told(forest.compute_feature_importances(), tally);
+    assert!(shares.is_none_or(|it| it.len() == features));
     for tree in forest.trees() {
         told(tree.predict(&other), tally);
-        assert_eq!(tree.compute_feature_importances().unwrap().len(), features);
+        let shares = told(tree.compute_feature_importances(), tally);
+        assert!(shares.is_none_or(|it| it.len() == features));
     }
 }
 
@@ -148,21 +150,18 @@ fn read(
 fn shapes_that_no_memory_holds() {
     let endless = [(usize::MAX, 0), (0, usize::MAX), (0, 1 << 32)];
     for (rows, features) in endless {
-        let x = DenseMatrix::new(rows, features, vec![]).unwrap();
+        let x = DenseMatrix::new(rows, features, vec![], false).unwrap();
         let (counts, listings) = (Counts::ones(1, 1).unwrap(), Listings::sorted(&x));
         #[rustfmt::skip]
         let given = Given { x: &x, y: &[], weights: &[], counts: &counts, listings: &listings };
-        let draws = Draws::seeded(&given, &Default::default());
-        let mut tally = [0; 11];
+        let draws = Draws::seeded(&given, Default::default());
+        let mut tally = [0; 12];
         told(
-            RandomForestRegressor::fit_given(&given, &draws, &Default::default()),
+            RandomForestRegressor::fit_given(&given, &draws, Default::default()),
             &mut tally,
         );
-        told(
-            Fitting::new(&x, &[]).forest(&Default::default()),
-            &mut tally,
-        );
-        told(Fitting::new(&x, &[]).tree(&Default::default()), &mut tally);
+        told(Fitting::new(&x, &[]).forest(Default::default()), &mut tally);
+        told(Fitting::new(&x, &[]).tree(Default::default()), &mut tally);
         told(listings.check(&x), &mut tally);
         assert_eq!(tally[1], 4);
     }
@@ -170,7 +169,7 @@ fn shapes_that_no_memory_holds() {
 
 #[test]
 fn lent() {
-    let (mut made, mut tally) = (Maker::new(32), [0; 11]);
+    let (mut made, mut tally) = (Maker::new(32), [0; 12]);
     for _ in 0..4000 {
         let (rows, features) = (1 + made.up_to(6), 1 + made.up_to(2));
         let x = made.any_matrix(rows, features);
@@ -191,24 +190,26 @@ fn lent() {
         let parameters = made.parameters();
         let draws = match made.chance(2) {
             true => made.any_draws(trees, features),
-            false => Draws::seeded(&given, &parameters),
+            false => Draws::seeded(&given, parameters),
         };
-        let forest = RandomForestRegressor::fit_given(&given, &draws, &parameters);
+        let forest = RandomForestRegressor::fit_given(&given, &draws, parameters);
         told(forest, &mut tally);
-        let tree = DecisionTreeRegressor::fit_given(&given, &draws, &Default::default());
+        let tree = DecisionTreeRegressor::fit_given(&given, &draws, Default::default());
         told(tree, &mut tally);
     }
-    let least = [500, 50, 500, 500, 50, 100, 0, 300, 0, 0, 0];
+    let least = [500, 50, 500, 500, 50, 100, 0, 300, 0, 0, 0, 0];
     held(tally, least);
 }
 
 #[test]
 fn tables() {
-    let (mut made, mut tally) = (Maker::new(33), [0; 11]);
+    let (mut made, mut tally) = (Maker::new(33), [0; 12]);
     for _ in 0..4000 {
         let (x, y) = (made.matrix(8, 2), made.numbers(8));
         let parameters = made.parameters().with_n_trees(2);
-        let forest = RandomForestRegressor::fit(&x, &y, parameters).unwrap();
+        let Some(forest) = told(RandomForestRegressor::fit(&x, &y, parameters), &mut tally) else {
+            continue;
+        };
         let (mut starts, mut nodes) = (forest.starts().to_vec(), forest.nodes().clone());
         for _ in 0..made.up_to(2) {
             damage(&mut made, &mut starts, &mut nodes);
@@ -217,8 +218,8 @@ fn tables() {
         let again = RandomForestRegressor::from_table(features, starts, nodes.clone());
         if let Some(again) = told(again, &mut tally) {
             told(again.predict(&x), &mut tally);
-            let shares: f64 = again.compute_feature_importances().unwrap().iter().sum();
-            assert!(shares.is_nan() || shares < 1.5);
+            let shares = told(again.compute_feature_importances(), &mut tally);
+            assert!(shares.is_none_or(|it| it.iter().sum::<f64>() < 1.5));
         }
         if let Some(tree) = told(
             DecisionTreeRegressor::from_table(features, nodes),
@@ -227,7 +228,7 @@ fn tables() {
             told(tree.predict(&x), &mut tally);
         }
     }
-    let least = [3000, 10, 10, 0, 0, 0, 0, 0, 1000, 0, 0];
+    let least = [3000, 10, 10, 0, 0, 0, 0, 0, 1000, 0, 0, 100];
     held(tally, least);
 }
 

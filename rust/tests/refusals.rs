@@ -25,7 +25,7 @@ fn refused<T>(answer: Result<T, Refusal>, number: u32, sentence: &str) {
 #[test]
 fn sizes() {
     let fit = |rows: usize, features: usize, trees: usize| {
-        let x = DenseMatrix::new(rows, features, vec![0.0; rows * features]).unwrap();
+        let x = DenseMatrix::new(rows, features, vec![0.0; rows * features], false).unwrap();
         RandomForestRegressor::fit(&x, &vec![0.0; rows], parameters().with_n_trees(trees))
     };
     refused(fit(0, 0, 1), 1, "0 rows");
@@ -42,10 +42,10 @@ fn sizes() {
     assert!(fit(MAX_ROWS, 1, 1).is_ok());
     assert!(fit(1, MAX_FEATURES, MAX_TREES).is_ok());
     let forest = fit(3, 2, 2).unwrap();
-    let many = DenseMatrix::new(MAX_ROWS + 1, 2, vec![0.0; 2 * MAX_ROWS + 2]).unwrap();
-    refused(forest.predict(&many), 1, "65536 rows");
-    let endless = DenseMatrix::new(usize::MAX, 0, vec![]).unwrap();
-    refused(forest.predict(&endless), 1, "rows");
+    let many = DenseMatrix::new(MAX_ROWS + 1, 2, vec![0.0; 2 * MAX_ROWS + 2], false).unwrap();
+    refused(forest.predict_oob(&many), 1, "65536 rows");
+    let endless = DenseMatrix::new(usize::MAX, 0, vec![], false).unwrap();
+    refused(forest.predict_oob(&endless), 1, "rows");
     refused(Listings::sorted(&endless).check(&endless), 1, "rows");
     assert_eq!(
         Listings::from_columns(&[[0]]).unwrap().fault(&endless, 0),
@@ -92,7 +92,11 @@ fn shapes() {
         2,
         "row 1 has 0 values",
     );
-    refused(DenseMatrix::new(usize::MAX, 2, vec![]), 2, "values: 0");
+    refused(
+        DenseMatrix::new(usize::MAX, 2, vec![], false),
+        2,
+        "values: 0",
+    );
     refused(
         Counts::new(2, 2, vec![1; 3]),
         2,
@@ -125,8 +129,8 @@ fn counts_that_would_not_add_up() {
     };
     for splitter in [Splitter::Best, Splitter::Random] {
         let parameters = parameters().with_splitter(splitter);
-        let draws = Draws::seeded(&given, &parameters);
-        let forest = RandomForestRegressor::fit_given(&given, &draws, &parameters);
+        let draws = Draws::seeded(&given, parameters);
+        let forest = RandomForestRegressor::fit_given(&given, &draws, parameters);
         refused(
             forest,
             4,
@@ -138,10 +142,10 @@ fn counts_that_would_not_add_up() {
 /// The right number of entries, but divided into other columns or trees.
 #[test]
 fn shapes_that_are_turned() {
-    let x = DenseMatrix::new(3, 2, vec![0.0; 6]).unwrap();
+    let x = DenseMatrix::new(3, 2, vec![0.0; 6], false).unwrap();
     let turned = Listings::from_columns(&[[0, 1], [2, 0], [1, 2]]).unwrap();
     refused(turned.check(&x), 2, "listings: 3 given, 2 required");
-    let x = DenseMatrix::new(6, 1, vec![0.0; 6]).unwrap();
+    let x = DenseMatrix::new(6, 1, vec![0.0; 6], false).unwrap();
     let listings = Listings::sorted(&x);
     let given = |counts: &Counts| {
         let given = Given {
@@ -151,9 +155,9 @@ fn shapes_that_are_turned() {
             counts,
             listings: &listings,
         };
-        let draws = Draws::seeded(&given, &parameters());
-        let tree = DecisionTreeRegressor::fit_given(&given, &draws, &Default::default());
-        let forest = RandomForestRegressor::fit_given(&given, &draws, &parameters());
+        let draws = Draws::seeded(&given, parameters());
+        let tree = DecisionTreeRegressor::fit_given(&given, &draws, Default::default());
+        let forest = RandomForestRegressor::fit_given(&given, &draws, parameters());
         (tree.map(|_| ()), forest.map(|_| ()))
     };
     let (tree, forest) = given(&Counts::ones(2, 3).unwrap());
@@ -178,7 +182,7 @@ fn lent_lengths() {
         }
     }
     let fit = |counts: &Counts, draws: &Draws| {
-        RandomForestRegressor::fit_given(&given(&x, &listings, counts), draws, &parameters())
+        RandomForestRegressor::fit_given(&given(&x, &listings, counts), draws, parameters())
     };
     let counts = Counts::ones(2, 2).unwrap();
     let mut draws = Draws::none();
@@ -200,7 +204,7 @@ fn lent_lengths() {
     let tree = DecisionTreeRegressor::fit_given(
         &given(&x, &listings, &counts),
         &draws,
-        &Default::default(),
+        Default::default(),
     );
     refused(tree, 2, "trees with counts: 2 given, 1 required");
 }
@@ -253,7 +257,7 @@ fn counts_and_draws() {
         let mut draws = Draws::none();
         draws.push_tree(&[0; 3], &[]);
         draws.push_tree(words, &[]);
-        RandomForestRegressor::fit_given(&given, &draws, &parameters())
+        RandomForestRegressor::fit_given(&given, &draws, parameters())
     };
     let large = fit(&[], vec![1, 1, 1, 65_536], &[0; 3]);
     refused(large, 4, "row 1 appears 65536 times in the bag of tree 1");
@@ -340,7 +344,7 @@ fn a_table_that_loops() {
 #[test]
 fn a_listing_with_a_gap() {
     let values: Vec<f64> = (0..40).map(|row| f64::from(row) / 4.0).collect();
-    let x = DenseMatrix::new(40, 1, values).unwrap();
+    let x = DenseMatrix::new(40, 1, values, false).unwrap();
     let mut rows: Vec<u32> = (0..40).collect();
     rows[12] = 13;
     let damaged = Listings::from_columns(&[rows]).unwrap();
@@ -349,7 +353,7 @@ fn a_listing_with_a_gap() {
     let sentence = "feature 0: row 13 appears twice, at positions 12 and 13, and row 12 is missing";
     refused(damaged.check(&x), 5, sentence);
     refused(fitting.check(), 5, sentence);
-    refused(fitting.forest(&parameters()), 5, sentence);
+    refused(fitting.forest(parameters()), 5, sentence);
     let Some(Fault::Listing(fault)) = fitting.check().unwrap_err().fault().cloned() else {
         panic!("no place");
     };

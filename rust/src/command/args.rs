@@ -1,10 +1,18 @@
 //! The command line, and the help text that is made from the same list of options.
 
+use crate::format::{self, Format};
+use crate::input::{MOST, STANDARD};
+use crate::nearest::nearest;
+use crate::number::quoted;
 use crate::output::Output;
+use crate::replace::{place_for, same_file};
 use crate::stop::Stop;
 use crate::{csv, record};
 use std::fmt::Write;
-use tailboardy::{MAX_TREES, RandomForestRegressorParameters, Splitter};
+use tailboardy::{MAX_ROWS, MAX_TREES, RandomForestRegressorParameters, Splitter};
+
+/// Digits beyond these mean nothing, unless a number is very small.
+const MAX_DIGITS: u64 = 17;
 
 /// An option: its name, the name of its value (empty for a flag), and what it does.
 pub struct Choice {
@@ -49,6 +57,10 @@ impl Command {
             let said = format!("{} {}", choice.name, choice.value);
             let _ = writeln!(text, "  {said:<24}{}", choice.help);
         }
+        text += &format!(
+            "\n`-` in place of a file that is read means standard input. A table has at most {MAX_ROWS} rows and {} MiB.\n",
+            MOST >> 20
+        );
         text + "\nExit status: 0 if done, 1 if the input is refused, with the reason on standard error, 2 if the command line is wrong.\n"
     }
 
@@ -63,20 +75,25 @@ impl Command {
                 option if option.starts_with("--") => {
                     let (name, value) = self.option(option, &mut words)?;
                     if said.iter().any(|(it, _)| *it == name)
-                        && !["--features", "--id"].contains(&name)
+                        && !["--features", "--ignore", "--id"].contains(&name)
                     {
                         return Err(self.bad(&format!("{name} is given twice")));
                     }
                     said.push((name, value));
                 }
                 option if option.len() > 1 && option.starts_with('-') => {
-                    return Err(self.bad(&format!("there is no option {option}")));
+                    return Err(self.no_option(option));
                 }
                 _ => files.push(word.clone()),
             }
         }
         if files.len() != self.files.len() {
             return Err(self.bad(&format!("the files required are {}", self.files.join(" "))));
+        }
+        let listing = said.iter().find(|(it, _)| *it == "--listing");
+        let read = files.iter().chain(listing.map(|(_, file)| file));
+        if read.filter(|file| *file == STANDARD).count() > 1 {
+            return Err(self.bad("standard input, `-`, can be only one of the files"));
         }
         Ok(Some(Args { files, said }))
     }
@@ -93,7 +110,7 @@ impl Command {
         };
         let mut choices = self.groups.iter().copied().flatten();
         let choice = choices.find(|choice| choice.name == name);
-        let choice = choice.ok_or_else(|| self.bad(&format!("there is no option {name}")))?;
+        let choice = choice.ok_or_else(|| self.no_option(name))?;
         match (choice.value, behind) {
             ("", None) => Ok((choice.name, String::new())),
             ("", Some(_)) => Err(self.bad(&format!("{name} takes no value"))),
@@ -105,6 +122,11 @@ impl Command {
         }
     }
 
+    fn no_option(&self, name: &str) -> Stop {
+        let names = self.groups.iter().copied().flatten().map(|it| it.name);
+        self.bad(&unknown("option", name, names))
+    }
+
     fn bad(&self, why: &str) -> Stop {
         Stop::Usage(format!(
             "{why}\nusage: {}\nsee `tailboardy {} --help`",
@@ -114,11 +136,43 @@ impl Command {
     }
 }
 
+/// That there is no command or option of this name, and which may be meant.
+pub fn unknown<'a>(what: &str, word: &str, names: impl Iterator<Item = &'a str>) -> String {
+    match nearest(word, names) {
+        Some(meant) => format!("there is no {what} {word}; did you mean {meant}?"),
+        None => format!("there is no {what} {word}"),
+    }
+}
+
 impl Args {
     /// The value of an option, if it was given.
     pub fn get(&self, name: &str) -> Option<&str> {
         let said = self.said.iter().find(|(it, _)| *it == name);
         said.map(|(_, value)| value.as_str())
+    }
+
+    /// Whether a flag was given.
+    pub fn has(&self, name: &str) -> bool {
+        self.get(name).is_some()
+    }
+
+    /// Where to write: to the file that `--out` names, or else to standard output. It is checked before any work is done that the file is
+    /// not one that is read, and that it can be written.
+    pub fn out(&self) -> Result<Option<String>, Stop> {
+        let Some(out) = self.get("--out").filter(|out| *out != "-") else {
+            return Ok(None);
+        };
+        let read = self.files.iter().map(String::as_str);
+        let mut read = read.chain(self.get("--listing")).map(|file| match file {
+            STANDARD => "/dev/stdin",
+            file => file,
+        });
+        if read.any(|file| same_file(file, out)) {
+            let why = "this file is also read; choose another one";
+            return Err(Stop::Usage(format!("--out {out}: {why}")));
+        }
+        place_for(out)?;
+        Ok(Some(out.to_owned()))
     }
 
     /// The list of names that an option was given, separated like the cells of a table; `None` if it was not given.
@@ -131,6 +185,30 @@ impl Args {
             all.extend(record.iter().map(|it| csv::name(it)));
         }
         Ok(names)
+    }
+
+    /// What was said about how tables are written.
+    pub fn format(&self) -> Result<Format, Stop> {
+        let unknown = |name: &str, said: &str, known: &str| {
+            Stop::Usage(format!("{name} {}: {known} is required", quoted(said)))
+        };
+        let delimiter = self.get("--delimiter").map(|said| {
+            let known = "comma, semicolon, tab or bar";
+            format::delimiter(said).ok_or_else(|| unknown("--delimiter", said, known))
+        });
+        let decimal = self.get("--decimal").map(|said| {
+            format::decimal(said).ok_or_else(|| unknown("--decimal", said, "point or comma"))
+        });
+        Ok(Format {
+            delimiter: delimiter.transpose()?,
+            decimal: decimal.transpose()?,
+            skip_incomplete: self.has("--skip-incomplete"),
+        })
+    }
+
+    /// How many digits numbers have after the decimal sign, if that was given.
+    pub fn digits(&self) -> Result<Option<usize>, Stop> {
+        self.number("--digits", MAX_DIGITS)
     }
 
     fn number<N: TryFrom<u64>>(&self, name: &str, most: u64) -> Result<Option<N>, Stop> {
@@ -175,7 +253,7 @@ impl Args {
             min_samples_split: self
                 .number("--min-samples-split", count)?
                 .unwrap_or(plain.min_samples_split),
-            bootstrap: self.get("--no-bootstrap").is_none(),
+            bootstrap: !self.has("--no-bootstrap"),
             keep_samples: true,
             splitter,
             seed: self.number("--seed", u64::MAX)?.unwrap_or(plain.seed),

@@ -5,22 +5,22 @@ use crate::csv::Csv;
 use crate::fit::refused;
 use crate::listing::Listing;
 use crate::output::Output;
-use crate::report;
-use crate::show::{Roles, Show};
+use crate::roles::Roles;
+use crate::show::Show;
 use crate::stop::Stop;
+use crate::summary::Summary;
 use tailboardy::Fitting;
 
 /// Makes the proved checks of a fit on the data in the files.
 pub fn run(args: &Args) -> Result<Output, Stop> {
-    let roles = Roles::said(args)?;
-    let csv = Csv::read(&args.files[0])?;
-    roles.ids_in(&csv)?;
-    let listed = args.get("--listing").map(Csv::read).transpose()?;
-    let features = match (&roles.features, &roles.target, &listed) {
-        (None, None, Some(listed)) => roles.listed(listed)?,
-        _ => roles.features(&csv, None)?,
-    };
-    let show = Show::new(csv, &roles, features)?;
+    let mut roles = Roles::said(args)?;
+    let format = args.format()?;
+    let listed = args.get("--listing");
+    let listed = listed.map(|it| Csv::read(it, &format)).transpose()?;
+    if let (None, None, Some(listed)) = (&roles.features, &roles.target, &listed) {
+        roles.features = Some(roles.listed(listed)?);
+    }
+    let show = Show::read(args, &roles)?;
     let listing = Listing::of(listed, &show)?;
     let mut fitting = Fitting::new(&show.x, &show.y).with_weights(&show.weights);
     if let Some(listing) = &listing {
@@ -28,16 +28,16 @@ pub fn run(args: &Args) -> Result<Output, Stop> {
     }
     let checked = fitting.check();
     checked.map_err(|refusal| refused(&refusal, &show, listing.as_ref()))?;
-    let mut text = format!(
-        "{} can be used\n{}",
-        show.csv.file(),
-        report::columns(&show)
-    );
+    let mut summary = Summary::new(None);
+    let file = show.csv.file();
+    summary.add("show", file, format!("{file} can be used"));
+    summary.show(&show);
     if let Some(listing) = &listing {
-        text += &format!(
-            "{} can be used: every column has each row exactly once, in ascending order of value\n",
-            listing.file()
-        );
+        let file = listing.file();
+        let text =
+            "can be used: every column has each row exactly once, in ascending order of value";
+        summary.add("listing", file, format!("{file} {text}"));
     }
-    Ok(Output::told(text))
+    summary.notes(&show.notes);
+    Ok(summary.told(args))
 }

@@ -1,7 +1,7 @@
 //! The commands, their options, and the functions that run them.
 
 use crate::args::{Choice, Command, choice};
-use crate::{check, fit};
+use crate::{check, correct, fit, list, report};
 
 const COLUMNS: &[Choice] = &[
     choice("--target", "NAME", "the column to predict"),
@@ -13,17 +13,41 @@ const COLUMNS: &[Choice] = &[
     choice(
         "--features",
         "A,B,..",
-        "the columns to use as features; default: all other columns of numbers",
+        "the columns to use as features; default: all other columns of measurements",
+    ),
+    choice(
+        "--ignore",
+        "A,B,..",
+        "columns that are not features, even if they hold measurements",
     ),
     choice(
         "--id",
         "A,B,..",
-        "columns that are not features, even if they hold numbers",
+        "the columns that name a fixture in messages; they are not features",
+    ),
+];
+
+const LISTING: &[Choice] = &[choice(
+    "--listing",
+    "FILE",
+    "your own listings, instead of sorted ones: a column of row numbers for each feature",
+)];
+
+const TABLES: &[Choice] = &[
+    choice(
+        "--delimiter",
+        "NAME",
+        "what separates cells: comma, semicolon, tab or bar; default: found out",
     ),
     choice(
-        "--listing",
-        "FILE",
-        "your own listings, instead of sorted ones: a column of row numbers for each feature",
+        "--decimal",
+        "point|comma",
+        "the decimal sign of numbers; default: found out",
+    ),
+    choice(
+        "--skip-incomplete",
+        "",
+        "leave out rows with empty cells, and tell which; default: they are refused",
     ),
 ];
 
@@ -71,13 +95,50 @@ const GROWTH: &[Choice] = &[
     ),
 ];
 
+const JSON: &[Choice] = &[choice(
+    "--json",
+    "",
+    "report in JSON: one object on standard output, with the reasons if the input is refused",
+)];
+
+const RANGE: &[Choice] = &[
+    choice(
+        "--strict",
+        "",
+        "refuse fixtures outside the range of the old show, and fixtures with the same name",
+    ),
+    choice(
+        "--extrapolate",
+        "",
+        "let a column pass of which every fixture is outside the range of the old show",
+    ),
+];
+
+const SPREAD: &[Choice] = &[choice(
+    "--spread",
+    "",
+    "add columns NAME_low and NAME_high: the tenth and ninetieth percentile of the trees' predictions",
+)];
+
+const DIGITS: &[Choice] = &[choice(
+    "--digits",
+    "N",
+    "how many digits to round to after the decimal sign, up to 17; default: as many as it takes to read the same bits back",
+)];
+
+const PLOT: &[Choice] = &[choice(
+    "--plot",
+    "A,B",
+    "the features that place fixtures in the picture of the rig, across and up; default: the two that are most important",
+)];
+
 const OUT: &[Choice] = &[choice(
     "--out",
     "FILE",
-    "where to write the corrections; default: standard output",
+    "where to write it; default: standard output, which is also meant by -",
 )];
 
-pub const COMMANDS: [Command; 3] = [
+pub static COMMANDS: [Command; 5] = [
     Command {
         name: "check",
         files: &["SHOW.csv"],
@@ -85,7 +146,7 @@ pub const COMMANDS: [Command; 3] = [
         more: "A listing is a table with a column for each feature, named as in the show. Its cells are row numbers, counted\n\
                from 0, in ascending order of the feature's values. Without --target and --features, the columns of the listing\n\
                are the features.",
-        groups: &[COLUMNS],
+        groups: &[COLUMNS, LISTING, TABLES, JSON],
         run: check::run,
     },
     Command {
@@ -93,18 +154,37 @@ pub const COMMANDS: [Command; 3] = [
         files: &["SHOW.csv"],
         about: "Fits a forest on a show and reports its out-of-bag error and importances",
         more: "The forest is not saved, since there is no file format for it yet. `correct` fits and predicts in one run.",
-        groups: &[COLUMNS, GROWTH],
+        groups: &[COLUMNS, LISTING, TABLES, GROWTH, DIGITS, JSON],
         run: fit::fit,
     },
     Command {
         name: "correct",
         files: &["OLD.csv", "NEW.csv"],
         about: "Fits a forest on the old show and writes a correction for each fixture of the new one",
-        more: "The output has the columns of the new show, or only those named by --id, and a column NAME_correction, where NAME is\n\
-               the target. Without --features, the features are the columns of numbers that both shows have. Columns of numbers\n\
-               that only the old show has are ignored, unless the new one has others that may be meant instead. A report on the\n\
-               forest goes to standard error.",
-        groups: &[COLUMNS, GROWTH, OUT],
-        run: fit::correct,
+        more: "The output has the columns of the new show, a column NAME_correction, where NAME is the target, and a column outside\n\
+               that names the measurements outside the range of the old show. Without --features, the features are the columns of\n\
+               measurements that both shows have. Those that only the old show has are ignored, unless the new one has others that\n\
+               may be meant instead. Notes and a report on the forest go to standard error.",
+        groups: &[COLUMNS, LISTING, TABLES, RANGE, GROWTH, SPREAD, DIGITS, OUT],
+        run: correct::correct,
+    },
+    Command {
+        name: "list",
+        files: &["SHOW.csv"],
+        about: "Writes a fresh listing of a show, which --listing of the other commands takes",
+        more: "For each feature the rows are sorted by value, and rows with the same value by number. Row numbers count from 0, not\n\
+               counting the line of names. Which columns are listed goes to standard error.",
+        groups: &[COLUMNS, TABLES, OUT],
+        run: list::run,
+    },
+    Command {
+        name: "report",
+        files: &["OLD.csv", "NEW.csv"],
+        about: "Fits a forest on the old show and writes a page about the corrections of the new one, with pictures",
+        more: "The page is one HTML file for a browser or a printer, which stands by itself. It begins with what to look at first:\n\
+               fixtures outside the range of the old show, and fixtures that the trees disagree about. It ends with a table of all\n\
+               corrections, rounded for reading; `correct` writes them exactly. Notes and a report on the forest go to standard error.",
+        groups: &[COLUMNS, LISTING, TABLES, RANGE, GROWTH, PLOT, OUT],
+        run: report::report,
     },
 ];

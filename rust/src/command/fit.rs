@@ -1,24 +1,26 @@
-//! The commands `fit` and `correct`.
+//! The command `fit`, and the fit that other commands begin with.
 
 use crate::args::Args;
 use crate::csv::Csv;
 use crate::listing::Listing;
-use crate::output::{Output, place_for, same_file};
+use crate::output::Output;
 use crate::progress::Progress;
-use crate::show::{Roles, Show, matrix};
+use crate::roles::Roles;
+use crate::show::Show;
 use crate::stop::Stop;
-use crate::{number, record, report};
+use crate::summary::Summary;
 use tailboardy::{Fault, Fitting, RandomForestRegressor, RandomForestRegressorParameters, Refusal};
 
 /// The command line, checked before any file is read.
-struct Task<'a> {
-    args: &'a Args,
-    roles: Roles,
-    parameters: RandomForestRegressorParameters,
+pub struct Task<'a> {
+    pub args: &'a Args,
+    pub roles: Roles,
+    pub parameters: RandomForestRegressorParameters,
+    pub digits: Option<usize>,
 }
 
 impl<'a> Task<'a> {
-    fn new(args: &'a Args) -> Result<Self, Stop> {
+    pub fn new(args: &'a Args) -> Result<Self, Stop> {
         let roles = Roles::said(args)?;
         if roles.target.is_none() {
             let why = "--target NAME is required: the column to predict";
@@ -28,6 +30,7 @@ impl<'a> Task<'a> {
             args,
             roles,
             parameters: args.parameters()?,
+            digits: args.digits()?,
         })
     }
 }
@@ -35,83 +38,23 @@ impl<'a> Task<'a> {
 /// Fits a forest and reports on it.
 pub fn fit(args: &Args) -> Result<Output, Stop> {
     let task = Task::new(args)?;
-    let csv = Csv::read(&args.files[0])?;
-    task.roles.ids_in(&csv)?;
-    let features = task.roles.features(&csv, None)?;
-    let (_, _, told) = task.fitted(csv, features)?;
-    Ok(Output::told(told))
-}
-
-/// Fits a forest on the old show and predicts the corrections of the new one.
-pub fn correct(args: &Args) -> Result<Output, Stop> {
-    let task = Task::new(args)?;
-    let out = args.get("--out");
-    let listing = args.get("--listing");
-    let mut read = args.files.iter().map(String::as_str).chain(listing);
-    if out.is_some_and(|out| read.any(|file| same_file(file, out))) {
-        return Err(Stop::Usage("--out names a file that is also read".into()));
+    let show = Show::read(args, &task.roles)?;
+    let (_, mut summary) = task.fitted(&show)?;
+    if args.has("--json") {
+        summary.notes(&show.notes);
     }
-    out.map_or(Ok(()), place_for)?;
-    let (old, new) = (Csv::read(&args.files[0])?, Csv::read(&args.files[1])?);
-    let features = task.roles.features(&old, Some(&new))?;
-    let lacking = task.roles.lacking(&old, &new).join(", ");
-    let x = matrix(&new, &features)?;
-    let (columns, name) = written(&task.roles, &new)?;
-    let (show, forest, mut beside) = task.fitted(old, features)?;
-    if !lacking.is_empty() {
-        beside += &format!(
-            "not used, because {} does not have them: {lacking}\n",
-            new.file()
-        );
-    }
-    let means = forest.predict(&x);
-    let means = means.map_err(|refusal| Stop::refused(new.file(), &refusal.to_string()))?;
-    if let Some(row) = means.iter().position(|mean| !mean.is_finite()) {
-        let place = format!("{}, line {}", new.file(), new.line(row));
-        let why = "its correction is not a number: sums overflow because of very large targets or weights in";
-        return Err(Stop::refused(&place, &format!("{why} {}", show.csv.file())));
-    }
-    let mut text = String::new();
-    let names = columns.iter().map(|column| new.names()[*column].as_str());
-    record::write(names.chain([name.as_str()]), &mut text);
-    for (row, mean) in means.iter().enumerate() {
-        let cells = columns.iter().map(|column| new.cell(row, *column));
-        record::write(cells.chain([number::write(*mean).as_str()]), &mut text);
-    }
-    Ok(Output {
-        beside,
-        text,
-        file: out.map(str::to_owned),
-    })
-}
-
-/// Which of the new show's columns are written, and the name of the column of corrections.
-fn written(roles: &Roles, new: &Csv) -> Result<(Vec<usize>, String), Stop> {
-    let columns: Result<Vec<usize>, Stop> = match &roles.ids {
-        Some(ids) => ids.iter().map(|id| new.column(id)).collect(),
-        None => Ok((0..new.names().len()).collect()),
-    };
-    let columns = columns?;
-    let name = format!("{}_correction", roles.target.as_deref().unwrap_or_default());
-    if columns.iter().any(|column| new.names()[*column] == name) {
-        return Err(Stop::refused(
-            &format!("{}, line 1", new.file()),
-            &format!("there is already a column {name}; name the columns to write with --id"),
-        ));
-    }
-    Ok((columns, name))
+    let mut output = summary.told(args);
+    output.note(&show.notes);
+    Ok(output)
 }
 
 impl Task<'_> {
-    /// The show, its forest, and the report on both.
-    fn fitted(
-        &self,
-        csv: Csv,
-        features: Vec<String>,
-    ) -> Result<(Show, RandomForestRegressor, String), Stop> {
-        let show = Show::new(csv, &self.roles, features)?;
-        let listing = self.args.get("--listing").map(Csv::read).transpose()?;
-        let listing = Listing::of(listing, &show)?;
+    /// The forest of a show, and what is reported of both.
+    pub fn fitted(&self, show: &Show) -> Result<(RandomForestRegressor, Summary), Stop> {
+        let listing = self.args.get("--listing");
+        let format = self.args.format()?;
+        let listing = listing.map(|it| Csv::read(it, &format)).transpose()?;
+        let listing = Listing::of(listing, show)?;
         let progress = Progress::new();
         let watch = |stand: usize, all: usize| progress.tell(stand, all);
         let mut fitting = Fitting::new(&show.x, &show.y)
@@ -120,11 +63,13 @@ impl Task<'_> {
         if let Some(listing) = &listing {
             fitting = fitting.with_listings(&listing.listings);
         }
-        let forest = fitting.forest(&self.parameters);
+        let forest = fitting.forest(self.parameters);
         drop(progress);
-        let forest = forest.map_err(|refusal| refused(&refusal, &show, listing.as_ref()))?;
-        let told = report::columns(&show) + &report::forest(&show, &forest, &self.parameters)?;
-        Ok((show, forest, told))
+        let forest = forest.map_err(|refusal| refused(&refusal, show, listing.as_ref()))?;
+        let mut summary = Summary::new(self.digits);
+        summary.show(show);
+        summary.forest(show, &forest, &self.parameters)?;
+        Ok((forest, summary))
     }
 }
 

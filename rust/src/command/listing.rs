@@ -6,6 +6,9 @@ use crate::show::Show;
 use crate::stop::Stop;
 use tailboardy::{Breach, ListingFault, Listings, Refusal};
 
+/// What may have happened if each row is there once, but the order is not that of the show's values.
+const OTHER: &str = "the listing looks like that of another version of the show; `tailboardy list` writes a fresh one";
+
 #[derive(Debug)]
 pub struct Listing {
     csv: Csv,
@@ -36,44 +39,146 @@ impl Listing {
         self.csv.file()
     }
 
-    /// What is wrong, for every column that is wrong.
+    /// What is wrong, as a fault of the whole listing if it can be told as that, and for every column that is wrong.
     pub fn refused(&self, refusal: &Refusal, show: &Show) -> Stop {
-        let faults = (0..self.columns.len()).filter_map(|it| self.listings.fault(&show.x, it));
         let (number, name) = (refusal.number(), refusal.cause().name());
-        let line = |fault| format!("{} (refusal {number}, {name})", self.told(&fault, show));
-        Stop::Refused(faults.map(line).collect())
+        let line = |told| format!("{told} (refusal {number}, {name})");
+        let told = self.told(show).into_iter();
+        Stop::Refused(told.map(line).collect())
     }
 
-    fn told(&self, fault: &ListingFault, show: &Show) -> String {
+    fn told(&self, show: &Show) -> Vec<String> {
+        let features = 0..self.columns.len();
+        let firsts: Vec<Option<u32>> = features.clone().map(|it| self.counted(it, show)).collect();
+        match firsts[..] {
+            [Some(first), ..] if firsts.iter().all(|it| *it == Some(first)) => {
+                return vec![format!("{}: {}", self.file(), counts_from(first))];
+            }
+            _ => (),
+        }
+        let whole = features.clone().all(|it| self.first(it) == Some(0));
+        if self.csv.rows() != show.csv.rows() && whole {
+            let falls = features.filter_map(|it| self.fall(it, 0, show));
+            let falls = falls.map(|fault| self.fault(&fault, show));
+            return [self.other_length(show)].into_iter().chain(falls).collect();
+        }
+        let faults = features.filter_map(|it| self.listings.fault(&show.x, it));
+        let told = |fault: ListingFault| match firsts[fault.feature] {
+            Some(first) => format!("{}: {}", self.place(&fault), counts_from(first)),
+            None => self.fault(&fault, show),
+        };
+        faults.map(told).collect()
+    }
+
+    /// That the listing is not as long as the show, but otherwise complete.
+    fn other_length(&self, show: &Show) -> String {
+        let (is, rows, file) = (self.csv.rows(), show.csv.rows(), show.csv.file());
+        let missing = match is < rows {
+            true => format!(
+                ", and row {is} is missing, which is line {} of {file}",
+                show.csv.line(is)
+            ),
+            false => String::new(),
+        };
+        format!(
+            "{}: it has {is} rows, but {file} has {rows}{missing}; {OTHER}",
+            self.file()
+        )
+    }
+
+    /// Where a fault is: on its line, unless the listing ends before.
+    fn place(&self, fault: &ListingFault) -> String {
         let column = self.columns[fault.feature];
-        let place = match fault.place < self.csv.rows() {
+        match fault.place < self.csv.rows() {
             true => self.csv.place(fault.place, column),
             false => format!("{}, column {}", self.file(), self.csv.names()[column]),
-        };
+        }
+    }
+
+    fn fault(&self, fault: &ListingFault, show: &Show) -> String {
+        let rows = show.csv.rows();
         let what = match fault.breach {
             Breach::NoSuchRow(row) => {
-                format!(
-                    "there is no row {row}; the last row is {}",
-                    show.csv.rows() - 1
-                )
+                format!("there is no row {row}; the last row is {}", rows - 1)
             }
             Breach::Twice { row, before } => {
-                format!(
-                    "row {row} appears twice, first in line {}",
-                    self.csv.line(before)
-                )
+                let line = self.csv.line(before);
+                format!("row {row} appears twice, first in line {line}")
             }
             Breach::Falls { row, after } => {
-                format!("the value of row {row} is lower than that of row {after} before it")
+                let value = |row| value(row, fault.feature, show);
+                format!("{} follows {}, which is higher", value(row), value(after))
             }
-            _ => format!("it ends after {} of {} rows", fault.place, show.csv.rows()),
+            _ => format!("it ends after {} of {rows} rows", fault.place),
         };
-        let missing = fault.missing.map_or(String::new(), |row| {
-            let (line, file) = (show.csv.line(row), show.csv.file());
-            format!(", and row {row} is missing, which is line {line} of {file}")
-        });
-        format!("{place}: {what}{missing}")
+        let more = match (fault.missing, fault.breach) {
+            (Some(row), _) => {
+                let (line, file) = (show.csv.line(row), show.csv.file());
+                format!(", and row {row} is missing, which is line {line} of {file}")
+            }
+            (None, Breach::Falls { .. }) => format!("; {OTHER}"),
+            (None, _) => String::new(),
+        };
+        format!("{}: {what}{more}", self.place(fault))
     }
+
+    /// The number that a feature's listing counts from, if that is not 0 and the listing is right otherwise.
+    fn counted(&self, feature: usize, show: &Show) -> Option<u32> {
+        let first = self.first(feature).filter(|it| *it > 0);
+        first.filter(|it| {
+            self.csv.rows() == show.csv.rows() && self.fall(feature, *it, show).is_none()
+        })
+    }
+
+    /// The lowest row number of a feature's listing, if it and those that follow it are there once each.
+    fn first(&self, feature: usize) -> Option<u32> {
+        let mut rows = self.listings.column(feature)?.to_vec();
+        rows.sort_unstable();
+        let first = *rows.first()?;
+        let mut counted = rows.iter().zip(0..);
+        counted.all(|(row, at)| row - first == at).then_some(first)
+    }
+
+    /// The first place where a value falls, if the row numbers count from `first`. Rows that the show does not have are passed over.
+    fn fall(&self, feature: usize, first: u32, show: &Show) -> Option<ListingFault> {
+        let mut before: Option<(u32, f64)> = None;
+        for (place, row) in self.listings.column(feature)?.iter().enumerate() {
+            let row = row - first;
+            let Some(value) = show.x.get((row as usize, feature)) else {
+                continue;
+            };
+            match before {
+                Some((after, higher)) if value < higher => {
+                    return Some(ListingFault {
+                        feature,
+                        place,
+                        breach: Breach::Falls { row, after },
+                        missing: None,
+                    });
+                }
+                _ => before = Some((row, value)),
+            }
+        }
+        None
+    }
+}
+
+fn counts_from(first: u32) -> String {
+    format!(
+        "row numbers are counted from {first} instead of 0; `tailboardy list` writes a fresh listing"
+    )
+}
+
+/// A row with its value and its line in the show.
+fn value(row: u32, feature: usize, show: &Show) -> String {
+    let at = row as usize;
+    let name = &show.features[feature];
+    let cell = show
+        .csv
+        .find(name)
+        .map_or("", |column| show.csv.cell(at, column));
+    let (line, file) = (show.csv.line(at), show.csv.file());
+    format!("row {row} ({} in line {line} of {file})", cell.trim())
 }
 
 fn rows(csv: &Csv, column: usize) -> Result<Vec<u32>, Stop> {

@@ -3,19 +3,43 @@
 #![forbid(unsafe_code)]
 
 mod args;
+mod both;
 mod check;
+mod column;
 mod commands;
+mod correct;
 mod csv;
+mod decimal;
+mod encoding;
+mod faults;
 mod fit;
+mod fixtures;
+mod format;
+mod incomplete;
+mod input;
+mod json;
+mod list;
 mod listing;
+mod measure;
+mod nearest;
 mod number;
+mod numbering;
 mod output;
+mod outside;
+mod page;
 mod progress;
+mod reading;
 mod record;
+mod replace;
 mod report;
+mod roles;
 mod show;
+mod spread;
 mod stop;
+mod summary;
+mod units;
 
+use args::Command;
 use commands::COMMANDS;
 use output::Output;
 use std::process::ExitCode;
@@ -48,22 +72,34 @@ fn run() -> Result<Output, Stop> {
             overview()
         )));
     };
-    match first.as_str() {
-        "--help" | "-h" | "help" => return Ok(Output::told(overview())),
-        "--version" => {
-            return Ok(Output::told(
-                concat!("tailboardy ", env!("CARGO_PKG_VERSION"), "\n").into(),
-            ));
-        }
-        _ => (),
+    match (first.as_str(), rest) {
+        ("--version" | "-V", _) => Ok(Output::told(
+            concat!("tailboardy ", env!("CARGO_PKG_VERSION"), "\n").into(),
+        )),
+        ("help", [name, ..]) if !name.starts_with('-') => Ok(Output::told(named(name)?.help())),
+        ("--help" | "-h" | "help", _) => Ok(Output::told(overview())),
+        (name, rest) => started(named(name)?, rest),
     }
-    let command = COMMANDS.iter().find(|command| command.name == first);
-    let command = command
-        .ok_or_else(|| Stop::Usage(format!("there is no command {first}\n{}", overview())))?;
-    match command.parse(rest)? {
-        None => Ok(Output::told(command.help())),
-        Some(args) => (command.run)(&args),
+}
+
+fn named(name: &str) -> Result<&'static Command, Stop> {
+    let command = COMMANDS.iter().find(|command| command.name == name);
+    command.ok_or_else(|| {
+        let names = COMMANDS.iter().map(|command| command.name);
+        let why = args::unknown("command", name, names);
+        Stop::Usage(format!("{why}\n{}", overview()))
+    })
+}
+
+fn started(command: &Command, words: &[String]) -> Result<Output, Stop> {
+    let Some(args) = command.parse(words)? else {
+        return Ok(Output::told(command.help()));
+    };
+    let ran = (command.run)(&args);
+    if let (Err(Stop::Refused(lines)), true) = (&ran, args.has("--json")) {
+        Output::told(summary::refused(lines).line(None)).write()?;
     }
+    ran
 }
 
 fn overview() -> String {
@@ -72,5 +108,5 @@ fn overview() -> String {
     for command in &COMMANDS {
         text += &format!("  tailboardy {:<9}{}\n", command.name, command.about);
     }
-    text + "\n`tailboardy COMMAND --help` explains a command and its options\n"
+    text + "\n`tailboardy help COMMAND` explains a command and its options; `tailboardy --version` prints the version\n"
 }

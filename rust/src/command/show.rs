@@ -1,19 +1,13 @@
-//! A show: the roles of the columns of a table, and their numbers.
+//! A show: a table whose columns have their roles, and their numbers.
 
 use crate::args::Args;
-use crate::csv::{self, Csv};
-use crate::number::{self, quoted};
+use crate::csv::Csv;
+use crate::faults::Faults;
+use crate::fixtures::twice;
+use crate::incomplete::leave_out;
+use crate::roles::{Chosen, Roles, measure};
 use crate::stop::Stop;
 use tailboardy::DenseMatrix;
-
-/// The roles of columns, as far as they were given.
-#[derive(Debug)]
-pub struct Roles {
-    pub target: Option<String>,
-    pub weight: Option<String>,
-    pub features: Option<Vec<String>>,
-    pub ids: Option<Vec<String>>,
-}
 
 /// A show with its numbers. The targets are 0 if no target was given, and there are no weights if none were given.
 #[derive(Debug)]
@@ -25,140 +19,49 @@ pub struct Show {
     pub x: DenseMatrix,
     pub y: Vec<f64>,
     pub weights: Vec<f64>,
-}
-
-impl Roles {
-    pub fn said(args: &Args) -> Result<Self, Stop> {
-        let roles = Roles {
-            target: args.get("--target").map(csv::name),
-            weight: args.get("--weight").map(csv::name),
-            features: args.names("--features")?,
-            ids: args.names("--id")?,
-        };
-        let mut taken: Vec<&String> = Vec::new();
-        let lists = [&roles.features, &roles.ids]
-            .into_iter()
-            .flatten()
-            .flatten();
-        for name in lists.chain(&roles.target).chain(&roles.weight) {
-            if taken.contains(&name) {
-                return Err(Stop::Usage(format!(
-                    "the column {} is named twice",
-                    quoted(name)
-                )));
-            }
-            taken.push(name);
-        }
-        Ok(roles)
-    }
-
-    /// Checks that a show has the columns that were given as not being features.
-    pub fn ids_in(&self, show: &Csv) -> Result<(), Stop> {
-        let mut ids = self.ids.iter().flatten();
-        ids.try_for_each(|id| show.column(id).map(|_| ()))
-    }
-
-    fn is_other(&self, name: &String) -> bool {
-        let id = self.ids.as_ref().is_some_and(|ids| ids.contains(name));
-        id || self.target.as_ref() == Some(name) || self.weight.as_ref() == Some(name)
-    }
-
-    /// The features: those that were given, or else all columns of numbers that have no other role and that the next show has too.
-    pub fn features(&self, show: &Csv, next: Option<&Csv>) -> Result<Vec<String>, Stop> {
-        if let Some(said) = &self.features {
-            return Ok(said.clone());
-        }
-        let measured: Vec<String> = self.measured(show).cloned().collect();
-        if measured.is_empty() {
-            let why = "there is no column of numbers besides target and weight";
-            return Err(Stop::refused(show.file(), why));
-        }
-        match next {
-            Some(next) => self.common(show, next, measured),
-            None => Ok(measured),
-        }
-    }
-
-    /// The measurements that both shows have. If each show has a measurement that the other lacks, or one has it as text, they may be
-    /// the same measurement with another name or in another form; that is an error, so that no measurement is lost silently.
-    fn common(&self, show: &Csv, next: &Csv, measured: Vec<String>) -> Result<Vec<String>, Stop> {
-        let (both, lacking): (Vec<String>, Vec<String>) =
-            measured.into_iter().partition(|it| next.find(it).is_some());
-        let own = self.measured(next).filter(|it| !both.contains(it));
-        for name in own {
-            let Some(column) = show.find(name) else {
-                if let Some(lacks) = lacking.first() {
-                    let why = format!(
-                        "there is no column {}, which {} has, while that file has no column {}; name the features with --features",
-                        quoted(lacks),
-                        show.file(),
-                        quoted(name)
-                    );
-                    return Err(Stop::refused(&format!("{}, line 1", next.file()), &why));
-                }
-                continue;
-            };
-            read(show, 0, column)?;
-        }
-        if both.is_empty() {
-            let why = format!(
-                "there is no column of numbers in common with {}",
-                show.file()
-            );
-            return Err(Stop::refused(&format!("{}, line 1", next.file()), &why));
-        }
-        Ok(both)
-    }
-
-    /// The columns of a listing, which are the features if no target is given.
-    pub fn listed(&self, listing: &Csv) -> Result<Vec<String>, Stop> {
-        match listing.names().iter().find(|name| self.is_other(name)) {
-            Some(name) => Err(Stop::refused(
-                &format!("{}, line 1", listing.file()),
-                &format!(
-                    "the column {} is given as not being a feature",
-                    quoted(name)
-                ),
-            )),
-            None => Ok(listing.names().to_vec()),
-        }
-    }
-
-    /// The columns that would be features if the next show had them.
-    pub fn lacking(&self, show: &Csv, next: &Csv) -> Vec<String> {
-        let lacks = |name: &&String| self.features.is_none() && next.find(name).is_none();
-        self.measured(show).filter(lacks).cloned().collect()
-    }
-
-    fn measured<'a>(&'a self, show: &'a Csv) -> impl Iterator<Item = &'a String> {
-        let numeric = |column: usize| show.cells(column).any(|cell| number::read(cell).is_ok());
-        let columns = show.names().iter().enumerate();
-        let measured =
-            columns.filter(move |(column, name)| !self.is_other(name) && numeric(*column));
-        measured.map(|(_, name)| name)
-    }
+    /// What should be known about its columns and fixtures.
+    pub notes: Vec<String>,
 }
 
 impl Show {
-    pub fn new(csv: Csv, roles: &Roles, features: Vec<String>) -> Result<Self, Stop> {
-        let list = |name: &Option<String>| match name {
-            Some(name) => numbers(&csv, name).map(Some),
-            None => Ok(None),
-        };
-        let y = list(&roles.target)?;
-        let weights = list(&roles.weight)?.unwrap_or_default();
+    /// The show of a command that takes one.
+    pub fn read(args: &Args, roles: &Roles) -> Result<Self, Stop> {
+        let mut faults = Faults::default();
+        let mut csv = Csv::read_on(&args.files[0], &args.format()?, &mut faults)?;
+        let named = roles.name_fixtures(&mut csv);
+        let chosen = named.and_then(|()| roles.features(&mut csv, &mut faults));
+        let chosen = chosen.map_err(|stop| faults.stop(stop))?;
+        Show::new(csv, roles, chosen, faults)
+    }
+
+    /// A show, unless there is a fault here or before.
+    pub fn new(
+        mut csv: Csv,
+        roles: &Roles,
+        chosen: Chosen,
+        mut faults: Faults,
+    ) -> Result<Self, Stop> {
+        let used = chosen.features.iter().chain(&roles.target);
+        let incomplete = leave_out(&mut csv, used.chain(&roles.weight), "left out");
+        let incomplete = incomplete.map_err(|stop| faults.stop(stop))?;
+        let read = numbers(&mut csv, roles, &chosen, &mut faults);
+        let (y, weights, x) = read.map_err(|stop| faults.stop(stop))?;
+        faults.end()?;
         if let (Some(weight), true) = (&roles.weight, weights.iter().all(|it| *it == 0.0)) {
             let place = format!("{}, column {weight}", csv.file());
             let why = "all weights are 0, so there is nothing to fit on";
             return Err(Stop::refused(&place, why));
         }
-        let x = matrix(&csv, &features)?;
+        let mut notes = chosen.notes();
+        notes.extend(incomplete);
+        notes.extend(twice(&csv).map(|why| format!("{}: {why}", csv.file())));
         Ok(Show {
-            y: y.unwrap_or_else(|| vec![0.0; csv.rows()]),
+            y,
             target: roles.target.clone(),
             weight: roles.weight.clone(),
+            notes,
+            features: chosen.features,
             csv,
-            features,
             x,
             weights,
         })
@@ -166,39 +69,57 @@ impl Show {
 
     /// Columns that have no role.
     pub fn passed(&self) -> Vec<&str> {
-        let names = self.csv.names().iter();
-        let taken = |name: &&String| {
-            self.features.contains(name)
-                || self.target.as_ref() == Some(name)
-                || self.weight.as_ref() == Some(name)
-        };
-        names
-            .filter(|name| !taken(name))
-            .map(String::as_str)
-            .collect()
+        let names = self.csv.names().iter().filter(|name| !name.is_empty());
+        let passed = names.filter(|name| !self.used().any(|it| it == *name));
+        passed.map(String::as_str).collect()
+    }
+
+    /// The columns whose numbers have a unit, and the units.
+    pub fn units(&self) -> Vec<(&str, &str)> {
+        let unit = |name: &'_ String| self.csv.find(name).map_or("", |it| self.csv.unit(it));
+        let units = self.used().map(|name| (name.as_str(), unit(name)));
+        units.filter(|(_, unit)| !unit.is_empty()).collect()
+    }
+
+    fn used(&self) -> impl Iterator<Item = &String> {
+        self.features.iter().chain(&self.target).chain(&self.weight)
     }
 }
 
-fn read(csv: &Csv, row: usize, column: usize) -> Result<f64, Stop> {
-    let read = number::read(csv.cell(row, column));
-    read.map_err(|why| Stop::refused(&csv.place(row, column), &why))
+/// The targets, weights and features of a show.
+type Numbers = (Vec<f64>, Vec<f64>, DenseMatrix);
+
+fn numbers(
+    csv: &mut Csv,
+    roles: &Roles,
+    chosen: &Chosen,
+    faults: &mut Faults,
+) -> Result<Numbers, Stop> {
+    let y = list(csv, roles.target.as_deref(), faults)?;
+    let weights = list(csv, roles.weight.as_deref(), faults)?.unwrap_or_default();
+    let x = matrix(csv, &chosen.features, faults)?;
+    Ok((y.unwrap_or_else(|| vec![0.0; csv.rows()]), weights, x))
 }
 
-fn numbers(csv: &Csv, name: &str) -> Result<Vec<f64>, Stop> {
+/// The numbers of a column, if it was given.
+fn list(csv: &mut Csv, name: Option<&str>, faults: &mut Faults) -> Result<Option<Vec<f64>>, Stop> {
+    let Some(name) = name else {
+        return Ok(None);
+    };
     let column = csv.column(name)?;
-    (0..csv.rows()).map(|row| read(csv, row, column)).collect()
+    Ok(Some(match measure(csv, column, "", faults) {
+        true => csv.numbers(column, faults),
+        false => vec![0.0; csv.rows()],
+    }))
 }
 
-/// The numbers of the features, row after row.
-pub fn matrix(csv: &Csv, features: &[String]) -> Result<DenseMatrix, Stop> {
+/// The numbers of the features.
+pub fn matrix(csv: &Csv, features: &[String], faults: &mut Faults) -> Result<DenseMatrix, Stop> {
     let columns: Result<Vec<usize>, Stop> = features.iter().map(|it| csv.column(it)).collect();
-    let columns = columns?;
-    let mut values = Vec::with_capacity(csv.rows() * columns.len());
-    for row in 0..csv.rows() {
-        for column in &columns {
-            values.push(read(csv, row, *column)?);
-        }
+    let mut values = Vec::with_capacity(csv.rows() * features.len());
+    for column in columns? {
+        values.append(&mut csv.numbers(column, faults));
     }
-    let matrix = DenseMatrix::new(csv.rows(), columns.len(), values);
+    let matrix = DenseMatrix::new(csv.rows(), features.len(), values, true);
     matrix.map_err(|refusal| Stop::refused(csv.file(), &refusal.to_string()))
 }

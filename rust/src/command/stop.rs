@@ -1,6 +1,8 @@
 //! Why the command stops.
 
+use crate::nearest::nearest_file;
 use std::fmt;
+use std::io::{Error, ErrorKind};
 
 /// Why the command stopped without a result.
 #[derive(Debug)]
@@ -16,6 +18,39 @@ impl Stop {
     pub fn refused(place: &str, why: &str) -> Self {
         Stop::Refused(vec![format!("{place}: {why}")])
     }
+
+    /// A file that cannot be read.
+    pub fn unread(file: &str, error: &Error) -> Self {
+        let why = match error.kind() {
+            ErrorKind::NotFound => match nearest_file(file) {
+                Some(meant) => format!("there is no such file; did you mean {meant}?"),
+                None => "there is no such file; check its name and folder".to_owned(),
+            },
+            ErrorKind::PermissionDenied => {
+                format!("{error}; get permission to read it, or use a copy")
+            }
+            ErrorKind::IsADirectory => "it is a folder; name a file in it".to_owned(),
+            _ => error.to_string(),
+        };
+        Stop::refused(file, &why)
+    }
+
+    /// A file that cannot be written.
+    pub fn unwritten(file: &str, error: &Error) -> Self {
+        let advice = match error.kind() {
+            ErrorKind::PermissionDenied | ErrorKind::ReadOnlyFilesystem => {
+                "get permission to write there, or choose another place with --out"
+            }
+            ErrorKind::StorageFull | ErrorKind::QuotaExceeded | ErrorKind::FileTooLarge => {
+                "make room, or choose another place with --out"
+            }
+            ErrorKind::BrokenPipe => {
+                "the program that reads it stopped before the end; start both again"
+            }
+            _ => "choose another place with --out",
+        };
+        Stop::refused(file, &format!("{error}; {advice}"))
+    }
 }
 
 impl fmt::Display for Stop {
@@ -24,5 +59,31 @@ impl fmt::Display for Stop {
             Stop::Usage(why) => f.write_str(why),
             Stop::Refused(lines) => f.write_str(&lines.join("\n")),
         }
+    }
+}
+
+#[cfg(test)]
+mod tests {
+    use super::*;
+
+    #[test]
+    fn what_to_do_about_a_file_is_told() {
+        let (denied, full) = (13, 28);
+        let unread = |number| Stop::unread("a.csv", &Error::from_raw_os_error(number)).to_string();
+        assert_eq!(
+            unread(denied),
+            "a.csv: Permission denied (os error 13); get permission to read it, or use a copy"
+        );
+        assert_eq!(unread(5), "a.csv: Input/output error (os error 5)");
+        let unwritten =
+            |number| Stop::unwritten("a.csv", &Error::from_raw_os_error(number)).to_string();
+        assert_eq!(
+            unwritten(denied),
+            "a.csv: Permission denied (os error 13); get permission to write there, or choose another place with --out"
+        );
+        assert_eq!(
+            unwritten(full),
+            "a.csv: No space left on device (os error 28); make room, or choose another place with --out"
+        );
     }
 }

@@ -2,10 +2,12 @@
 //! if the library is linked, each call as a function of slices ([`linked`]).
 //!
 //! This is the only part of the crate `tailboardy` with `unsafe` code. The calls are safe on every input: they accept any numbers, and
-//! Rust's slices guarantee what they require of the memory (docs/BOUNDARY.md).
+//! Rust's slices guarantee what they require of the memory (docs/BOUNDARY.md). What the command needs of the C library is in [`signals`].
 
 #[cfg(feature = "linked")]
 pub mod linked;
+#[cfg(target_os = "linux")]
+pub mod signals;
 
 /// The parameters of one tree. `limit` applies only if `limited` is true; the splitter is the best unless `random` is true.
 #[repr(C)]

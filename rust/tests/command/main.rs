@@ -1,7 +1,16 @@
 //! The command, run as a user runs it: on shows/, and on files that are wrong.
 
 mod bad_input;
+mod columns;
+mod faults;
+mod habits;
+mod json;
+mod listings;
+mod markup;
+mod outside;
+mod page;
 mod shows;
+mod tables;
 mod usage;
 
 use std::fs;

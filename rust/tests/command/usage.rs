@@ -96,7 +96,7 @@ const SENSELESS: &[[&str; 2]] = &[
     ],
     [
         "fit a --target p --features \"x",
-        "--features: a quote is opened but never closed",
+        "--features: a quote is opened but never closed; put one at the end of the cell",
     ],
 ];
 
@@ -121,7 +121,7 @@ fn a_show_is_not_written_over() {
         assert_eq!(told.status, Some(2));
         assert_eq!(
             told.err,
-            "tailboardy: --out names a file that is also read\n"
+            format!("tailboardy: --out {read}: this file is also read; choose another one\n")
         );
     }
 }
@@ -132,10 +132,11 @@ fn no_place_for_a_file_is_told_before_a_fit() {
     for (out, why) in [
         (
             "no-folder/x.csv",
-            "no-folder/x.csv: there is no such folder",
+            "no-folder/x.csv: there is no such folder; create it, or choose another one",
         ),
-        (".", "\".\": it is not the name of a file"),
+        (".", "\".\": it is a folder; name a file in it"),
         ("", "\"\": it is not the name of a file"),
+        ("no-folder/", "\"no-folder/\": it is not the name of a file"),
     ] {
         let told = run(&["correct", &old, &new, "--target", "pan", "--out", out]);
         assert_eq!(

@@ -59,13 +59,13 @@ impl Maker {
 
     pub fn matrix(&mut self, rows: usize, features: usize) -> DenseMatrix {
         let values = self.numbers(rows * features);
-        DenseMatrix::new(rows, features, values).expect("as many values")
+        DenseMatrix::new(rows, features, values, false).expect("as many values")
     }
 
     /// Numbers from 0 to 1, and as many targets as rows.
     pub fn plain(&mut self, rows: usize, features: usize) -> (DenseMatrix, Vec<f64>) {
         let values = (0..rows * features).map(|_| self.0.unit()).collect();
-        let x = DenseMatrix::new(rows, features, values).expect("as many values");
+        let x = DenseMatrix::new(rows, features, values, false).expect("as many values");
         (x, (0..rows).map(|_| self.0.unit()).collect())
     }
 

@@ -1,0 +1,179 @@
+//! What is reported about a show and its forest, for people and for programs.
+
+use crate::args::Args;
+use crate::json::Json;
+use crate::number::{Style, write};
+use crate::output::Output;
+use crate::show::Show;
+use crate::stop::Stop;
+use tailboardy::{RandomForestRegressor, RandomForestRegressorParameters, Refusal};
+
+/// What `--json` writes if the input is refused: each line that is also on standard error.
+pub fn refused(lines: &[String]) -> Json {
+    Json::object([("ok", false.into()), ("faults", Json::list(lines))])
+}
+
+/// One thing that is reported: its key and value in JSON, and a line of text that says the same.
+#[derive(Debug)]
+pub struct Entry {
+    pub key: &'static str,
+    pub value: Json,
+    pub text: String,
+}
+
+/// What is reported, and how many digits its numbers have after the decimal sign, if that was given.
+#[derive(Debug)]
+pub struct Summary {
+    entries: Vec<Entry>,
+    digits: Option<usize>,
+}
+
+impl Summary {
+    pub fn new(digits: Option<usize>) -> Self {
+        Summary {
+            entries: Vec::new(),
+            digits,
+        }
+    }
+
+    pub fn add(&mut self, key: &'static str, value: impl Into<Json>, text: impl Into<String>) {
+        self.entries.push(Entry {
+            key,
+            value: value.into(),
+            text: text.into(),
+        });
+    }
+
+    /// A number as it is reported.
+    pub fn number(&self, number: f64) -> String {
+        let digits = self.digits;
+        let style = Style {
+            digits,
+            ..Style::EXACT
+        };
+        write(number, &style)
+    }
+
+    /// A line for each entry.
+    pub fn text(&self) -> String {
+        let entries = self.entries.iter();
+        entries.map(|it| format!("{}\n", it.text)).collect()
+    }
+
+    /// An object with a member for each entry.
+    fn json(self) -> Json {
+        let done = ("ok".to_owned(), true.into());
+        let entries = self.entries.into_iter();
+        let members = entries.map(|it| (it.key.to_owned(), it.value));
+        Json::Object([done].into_iter().chain(members).collect())
+    }
+
+    /// What is told on standard output: text, or JSON if that is requested.
+    pub fn told(self, args: &Args) -> Output {
+        let digits = self.digits;
+        Output::told(match args.has("--json") {
+            true => self.json().line(digits),
+            false => self.text(),
+        })
+    }
+
+    /// The number of fixtures, and the role of each column.
+    pub fn show(&mut self, show: &Show) {
+        let rows = show.csv.rows();
+        self.add("fixtures", rows, format!("fixtures: {rows}"));
+        let features = show.features.join(", ");
+        let names = Json::list(&show.features);
+        self.add("features", names, format!("features: {features}"));
+        if let Some(target) = &show.target {
+            self.add("target", target, format!("target: {target}"));
+        }
+        if let Some(weight) = &show.weight {
+            self.add("weight", weight, format!("weight: {weight}"));
+        }
+        let units = show.units();
+        if !units.is_empty() {
+            let text = units.iter().map(|(name, unit)| format!("{name} {unit}"));
+            let text = format!("units: {}", text.collect::<Vec<_>>().join(", "));
+            let units = units.into_iter().map(|(name, unit)| (name, unit.into()));
+            self.add("units", Json::object(units), text);
+        }
+        let passed = show.passed();
+        if !passed.is_empty() {
+            let text = format!("not used: {}", passed.join(", "));
+            self.add("not_used", Json::list(passed), text);
+        }
+    }
+
+    /// What should be known about the columns and fixtures of a show.
+    pub fn notes(&mut self, notes: &[String]) {
+        if !notes.is_empty() {
+            let text = notes.iter().map(|note| format!("note: {note}"));
+            let text = text.collect::<Vec<_>>().join("\n");
+            self.add("notes", Json::list(notes), text);
+        }
+    }
+
+    /// A description of the forest, and how good it is.
+    pub fn forest(
+        &mut self,
+        show: &Show,
+        forest: &RandomForestRegressor,
+        parameters: &RandomForestRegressorParameters,
+    ) -> Result<(), Stop> {
+        let failed = |refusal: Refusal| Stop::refused(show.csv.file(), &refusal.to_string());
+        self.trees(forest, parameters.seed);
+        let means = forest.predict_oob(&show.x).map_err(failed)?;
+        let error = means.error(&show.y).map_err(failed)?;
+        self.error(error, means.count(), show.csv.rows());
+        let importances = forest.compute_feature_importances().map_err(failed)?;
+        let ranked = importances.ranked();
+        let name = |feature: usize| show.features[feature].as_str();
+        let parts = ranked
+            .iter()
+            .map(|(feature, part)| (name(*feature), (*part).into()));
+        let named = ranked
+            .iter()
+            .map(|(feature, part)| format!("{} {}", name(*feature), self.number(*part)));
+        let text = format!("importances: {}", named.collect::<Vec<_>>().join(", "));
+        self.add("importances", Json::object(parts), text);
+        Ok(())
+    }
+
+    fn trees(&mut self, forest: &RandomForestRegressor, seed: u64) {
+        let (trees, nodes) = (forest.n_trees(), forest.nodes().len());
+        let depth = forest
+            .reports()
+            .iter()
+            .map(|it| it.depth)
+            .max()
+            .unwrap_or(0);
+        let value = Json::object([
+            ("trees", trees.into()),
+            ("nodes", nodes.into()),
+            ("depth", Json::from(u64::from(depth))),
+            ("seed", seed.into()),
+        ]);
+        let text =
+            format!("trees: {trees}, with {nodes} nodes, up to {depth} levels deep; seed {seed}");
+        self.add("forest", value, text);
+    }
+
+    fn error(&mut self, error: f64, told: usize, rows: usize) {
+        if told == 0 {
+            let text = "out-of-bag error: none, because every tree uses every fixture";
+            return self.add("out_of_bag", Json::Null, text);
+        }
+        let root = error.sqrt();
+        let value = Json::object([
+            ("error", error.into()),
+            ("square_root", root.into()),
+            ("fixtures", told.into()),
+        ]);
+        let text = format!(
+            "out-of-bag error: {} (square root {}); {told} of {rows} fixtures are left out by at least one tree",
+            self.number(error),
+            self.number(root),
+        );
+        self.add("out_of_bag", value, text);
+    }
+}
