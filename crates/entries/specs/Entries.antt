@@ -4,7 +4,7 @@ use native.Mathlib.Omega.{arith}
 use mathlib.Core.Path.{_≡_, refl, sym, _∙_}
 use mathlib.Core.Bool.{Bool, true, false, _&&_, _||_, cond}
 use lib.Dec.{ltb, eqb}
-use lib.Ieee.{Float}
+use lib.Ieee.{Float, le}
 use borrow.Author.Tests.{le-ltb, eq-eqb, ne-eqb}
 use Rattle.rules.specs.declared.Kind.the-variants.{Leaf, Split}
 use Rattle.rules.specs.Words.{nought}
@@ -55,3 +55,9 @@ pub node-told : (v : Float) (j : ℕ) (t s : Float) (y o : ℕ) (b : Bool) → n
     → record { value = v; kind = cond b Leaf (Split (record { cut = record { feature = j; threshold = t }; score = s; children = y })) } ≡ nodeOf (entryIs v j t s y o)
 unfolding nodeOf isLeaf
 node-told v j t s y o b h = λ i. record { value = v; kind = cond (sym h i) Leaf (Split (record { cut = record { feature = j; threshold = t }; score = s; children = y })) }
+
+-- ---- a step of a walk
+
+-- from node k: a leaf is stayed at, and of a split the false child comes next after the true one
+abbrev pub nextOf : ℕ → Float → Float → ℕ → ℕ
+nextOf k x t y = cond (eqb y 0) k (cond (le x t) y (suc y))

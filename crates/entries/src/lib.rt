@@ -4,7 +4,7 @@ ghost use mathlib.Core.Bool.{cond};
 ghost use Prim.Native.Nat.{suc};
 ghost use lib.Ieee.{le};
 ghost use Rattle.rules.specs.Table.{goodEntry, nodeOf};
-ghost use Rattle.entries.specs.Entries.{entryIs, bare, noChild, goodSplit};
+ghost use Rattle.entries.specs.Entries.{entryIs, bare, noChild, goodSplit, nextOf};
 use rules::Cut;
 use rules::Fork;
 use rules::Kind;
@@ -94,4 +94,16 @@ pub fn child_of(x: f64, threshold: f64, truechild: u32) -> usize
 {
     let y = truechild as usize;
     if x <= threshold { y } else { y + 1 }
+}
+
+// Where a row with value x is after node k: at the child that it goes to, or still at k if k has none. The child is found before it is known whether there is one, and
+// so the two are chosen between without a branch.
+pub fn next_of(k: usize, x: f64, threshold: f64, truechild: u32) -> usize
+    ensures { λ r. ⌜ r ≡ nextOf k x threshold truechild ⌝ }
+{
+    let child = child_of(x, threshold, truechild);
+    if truechild == 0 {
+        return k;
+    }
+    child
 }
