@@ -1,17 +1,16 @@
 -- Six rows that walk side by side until all are at leaves. Assumes nothing.
 use Prim.Native.Nat.{ℕ, suc, _+_, _-_, _*_, _<_, _≤_}
-use native.Mathlib.Nat.{zero-add}
 use native.Mathlib.Omega.{arith}
 use mathlib.Core.Path.{_≡_, sym, ap, _∙_, subst}
 use mathlib.Core.List.{List, [], _∷_, map}
 use lib.ListN.{length, getD}
 use lib.Ieee.{Float, nan}
 use Rattle.rules.specs.Words.{from}
-use Rattle.rules.specs.Lent.{Columns, Entry, valuesAt, entryAt, entriesAt, shortest}
+use Rattle.rules.specs.Lent.{Columns, Entry, valuesAt, entriesAt}
 use Rattle.lemmas.specs.Cells.{stretch-within}
 use Rattle.tables.specs.Table.{TreeLies}
 use Rattle.walks.specs.declared.Six.{Six}
-use Rattle.walks.specs.Walks.{Readable, leafAt, Reached, walk-starts, walk-stops}
+use Rattle.walks.specs.Walks.{Readable, leafAt, Reached, walk-starts}
 use Rattle.walks.specs.Steps.{stepOf, Steppable, Stepped, stepped, stops}
 
 abbrev pub stepsOf : ℕ → List Float → List ℕ → List Float → List ℕ → ℕ → Six → Six

@@ -3,20 +3,16 @@ use Prim.Native.Nat.{ℕ, suc, _+_, _-_, _*_, _<_, _≤_, min}
 use native.Mathlib.Nat.{zero-add}
 use native.Mathlib.Decide.{ℕ-discrete}
 use native.Mathlib.Omega.{arith}
-use mathlib.Core.Path.{_≡_, refl, sym, ap, _∙_, subst}
-use mathlib.Core.Bool.{true, cond}
-use mathlib.Core.List.{List, [], _∷_, map}
+use mathlib.Core.Path.{_≡_, sym, ap, _∙_, subst}
+use mathlib.Core.Bool.{cond}
+use mathlib.Core.List.{List}
 use lib.ListN.{length, getD}
-use lib.Dec.{eqb}
 use lib.Ieee.{Float, nan, le}
 use borrow.Author.Tests.{eq-eqb, ne-eqb}
-use Rattle.rules.specs.Words.{from}
 use Rattle.rules.specs.Lent.{Columns, Entry, cell, valuesAt, entryAt, entriesAt}
-use Rattle.rules.specs.Table.{goodTree}
 use Rattle.entries.specs.Entries.{nextOf}
 use Rattle.tables.specs.Table.{TreeLies}
-use Rattle.walks.specs.declared.Six.{Six}
-use Rattle.walks.specs.Walks.{leafAt, Reached, node, onward, walk-starts, walk-stops, walk-goes, sent, sent-up}
+use Rattle.walks.specs.Walks.{leafAt, Reached, onward, walk-stops, walk-goes, sent, sent-up}
 
 -- from node k of a tree that is lent alone. At a leaf the feature may be any number: what is then looked at does not matter, but it must be there
 abbrev pub stepOf : ℕ → List Float → List ℕ → List Float → List ℕ → ℕ → ℕ → ℕ

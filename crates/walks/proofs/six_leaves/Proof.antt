@@ -1,6 +1,6 @@
 -- `walks::six_leaves` meets its contract: each row is where its own walk is, until all have come to leaves. Assumes nothing.
 use native.Mathlib.Omega.{arith}
-use mathlib.Core.Path.{_≡_, sym, _∙_, subst}
+use mathlib.Core.Path.{sym, _∙_, subst}
 use Prim.Native.Nat.{_-_, _*_, _<_}
 use denote.Ref.{now}
 use Rattle.rules.specs.Lent.{Columns, columnsOf}
