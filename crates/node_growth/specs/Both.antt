@@ -81,6 +81,6 @@ module _ (g : Ground) (P : Params) (W : List ℕ) (M : List Float) (wholes : Lis
             ∙ d₂ .same;
         laid = λ low l x y z u.
             let b : t .waiting ≤ s .waiting + 1 = subst (MostStep (s .waiting + 1)) es (d .most) in
-            d₂ .laid m (subst (LaidStep wholes₁ reals₁ m) es (d .laid low l x y (omega arith))) (omega arith) (le-refl m) u;
+            d₂ .laid m (subst (LaidStep g wholes₁ reals₁ m) es (d .laid low l x y (omega arith))) (omega arith) (le-refl m) u;
         fair = d₂ .fair;
       }

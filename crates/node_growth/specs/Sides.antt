@@ -1,7 +1,7 @@
 -- The children of a node that was taken off the waiting list. Where neither is searched, the rest of the list stands over the columns as they are;
 -- else the columns are parted by the flags, and each side's rows lie together. Assumes nothing.
 use Prim.Native.Nat.{ℕ, suc, _+_, _<_, _≤_}
-use native.Mathlib.Nat.{le-refl, lt-of-le-of-lt}
+use native.Mathlib.Nat.{le-refl}
 use native.Mathlib.Omega.{arith}
 use mathlib.Core.Path.{_≡_, refl, sym, ap, _∙_, subst}
 use mathlib.Core.Logic.{inl}
@@ -34,16 +34,16 @@ use Rattle.node_growth.specs.declared.Step.the-variants.{Goes}
 use Rattle.node_growth.specs.Rooms.{Ground, cutOf, askedOf, nodeRows, waitingOf, waitingList, BelowTo, searchTwo, Taken, BothAsks, BothDone, SidesDone}
 use Rattle.node_growth.specs.Steps.{laid-more}
 use Rattle.node_growth.specs.Both.{onto, chain}
-use Rattle.node_growth.specs.InColumns.{withOrder, column-at, child-rows, below-still, good-alike, good-room, good-cleft, good-asks, part-short, ones-map, rows-of}
+use Rattle.node_growth.specs.InColumns.{withOrder, column-at, child-rows, below-still, laid-still, good-alike, good-cleft, good-asks, part-short, ones-map, rows-of}
 
 -- ---- a node's ends as the code widened them
 
 ends-at : (Q : ℕ → ℕ → Type 0) {a e a′ e′ : ℕ} → a′ ≡ a → e′ ≡ e → Q a e → Q a′ e′
 ends-at Q {a} {e} {a′} {e′} ea ee h = subst (λ z. Q z e′) (sym ea) (subst (Q a) (sym ee) h)
 
-pub split-at : {rows features a e a′ e′ fl : ℕ} {x y ws : List Float} {ks order : List ℕ} {c : Cut} → a′ ≡ a → e′ ≡ e → SplitAsks rows features a e x y ws ks c order fl
-    → SplitAsks rows features a′ e′ x y ws ks c order fl
-split-at {rows} {features} {a} {e} {a′} {e′} {fl} {x} {y} {ws} {ks} {order} {c} = ends-at (λ u v. SplitAsks rows features u v x y ws ks c order fl)
+pub split-at : {rows features a e a′ e′ n fl : ℕ} {x y ws : List Float} {ks order : List ℕ} {c : Cut} → a′ ≡ a → e′ ≡ e → SplitAsks rows features a e x y ws ks c order n fl
+    → SplitAsks rows features a′ e′ x y ws ks c order n fl
+split-at {rows} {features} {a} {e} {a′} {e′} {n} {fl} {x} {y} {ws} {ks} {order} {c} = ends-at (λ u v. SplitAsks rows features u v x y ws ks c order n fl)
 
 pub done-at : {rows a e a′ e′ : ℕ} {el : ℕ → Element} {c : Cut} {order : List ℕ} {fl : List Bool} {h : Sides} → a′ ≡ a → e′ ≡ e → SplitDone rows a′ e′ el c order fl h
     → SplitDone rows a e el c order fl h
@@ -78,34 +78,32 @@ module _ (g : Ground) (P : Params) (W : List ℕ) (sc : ℕ) (flags : List Bool)
       some-rows : w .start < w .end
       some-rows = rows-of (g .rows) (g .order) (w .start) (w .end) (w .feature) el (goesTrue (cutOf w)) (subst (λ z. 0 < total (λ x. 1) (trueSide (cutOf w) z)) (sym mine) (q .ripe .fine .someTrue))
 
-  pub taken-splits : w .count < 4294967296
-      → SplitAsks (g .rows) (g .features) (w .start) (w .end) (g .tables .values) (g .tables .targets) (g .tables .weights) (g .tables .counts) (cutOf w)
-      (g .order) (length flags)
-  taken-splits m =
+  pub taken-splits : SplitAsks (g .rows) (g .features) (w .start) (w .end) (g .tables .values) (g .tables .targets) (g .tables .weights) (g .tables .counts) (cutOf w)
+      (g .order) (w .rows) (length flags)
+  taken-splits =
       record {
         shaped = record { tables = record { counted = q .shape .counted; weighed = q .shape .weighed }; wide = q .shape .wide; targeted = q .shape .targets };
-        few = q .small;
         known = known;
         long = omega (arith, q .long);
         ordered = q .ordered;
         high = q .high;
         flagRoom = q .flag-room;
         below = λ k h. part-every (λ r. r < g .rows) (g .rows) k 0 (w .end) (w .start) (w .end) (g .order) (omega arith) (le-refl (w .end)) (q .ordered) (q .below k h);
-        alike = λ k h. good-alike g P (q .same) (w .start) (w .end) (askedOf w) (q .ripe .good) (w .feature) k known h;
-        count = lt-of-le-of-lt (good-room g P (q .same) (w .start) (w .end) (askedOf w) (q .ripe .good) (w .feature) known) m;
-        cleft = good-cleft g P (q .same) (w .start) (w .end) (askedOf w) (q .ripe .good) (cutOf w) known;
+        alike = λ k h. good-alike g P (q .same) (w .start) (w .end) (askedOf g w) (q .ripe .good) (w .feature) k known h;
+        count = q .sized .small;
+        cleft = good-cleft g P (q .same) (w .start) (w .end) (askedOf g w) (q .ripe .good) (cutOf w) known (w .rows) (q .sized .rows);
       }
 
   module _ (h : Sides) (d : SplitDone (g .rows) (w .start) (w .end) el (cutOf w) (g .order) flags h) where
     -- what the partition asks: the split column is parted by the flags as it stands
-    pub taken-parts : w .count < 4294967296 → {a e k : ℕ} → a ≡ w .start → e ≡ w .end → k ≡ w .feature
+    pub taken-parts : {a e k : ℕ} → a ≡ w .start → e ≡ w .end → k ≡ w .feature
         → ColumnsAsk (g .rows) (g .features) a e (g .order) sc (length flags) × (parted (flagged flags) (part (g .rows) k a e (g .order)) ≡ part (g .rows) k a e (g .order))
-    taken-parts m {a} {e} {k} ea ee ek = (
+    taken-parts {a} {e} {k} ea ee ek = (
       ends-at (λ u v. ColumnsAsk (g .rows) (g .features) u v (g .order) sc (length flags)) ea ee
           (columns-ask (g .rows) (g .features) (w .start) (w .end) (g .tables .values) (g .tables .targets) (g .tables .weights) (g .tables .counts) (cutOf w)
-          (g .order) sc (length flags) (taken-splits m) (q .scratch-room)),
+          (g .order) (w .rows) sc (length flags) taken-splits (q .scratch-room)),
       ap (parted (flagged flags)) there ∙ marked-parted (goes el (cutOf w)) flags rows-of-split rows-of-split (λ f. refl) (d .marks)
-          ∙ cleft-parted (goes el (cutOf w)) rows-of-split (taken-splits m .cleft) ∙ sym there,
+          ∙ cleft-parted (goes el (cutOf w)) rows-of-split (w .rows) (taken-splits .cleft) ∙ sym there,
     )
       where
         there : part (g .rows) k a e (g .order) ≡ rows-of-split
@@ -136,7 +134,7 @@ module _ (g : Ground) (P : Params) (W : List ℕ) (sc : ℕ) (flags : List Bool)
               (chain (λ t. searchIf P (search (tape (P .features)) P) (second i) (suc n) (w .level + 1) (child onFalse top) t))) (onto (waitingList g wholes reals (s .waiting)));
           long = refl;
           below = λ m u v b. b;
-          laid = laid-more wholes reals (s .waiting) (w .start) (w .end) (q .ordered) (q .laid);
+          laid = laid-more g wholes reals (s .waiting) (w .start) (w .end) (q .ordered) (q .laid);
           fair = q .fair;
         }
       where
@@ -151,7 +149,7 @@ module _ (g : Ground) (P : Params) (W : List ℕ) (sc : ℕ) (flags : List Bool)
     sides-fit = omega (arith, d .within, q .ordered)
 
     -- parted by the flags
-    module _ (m : w .count < 4294967296) (order′ : List ℕ) {a z : ℕ} (ea : a ≡ w .start) (ez : z ≡ w .end) (p : order′ ≡ partedColumns (g .rows) a z (flagged flags) (g .features) (g .order)) where
+    module _ (order′ : List ℕ) {a z : ℕ} (ea : a ≡ w .start) (ez : z ≡ w .end) (p : order′ ≡ partedColumns (g .rows) a z (flagged flags) (g .features) (g .order)) where
       e : order′ ≡ partedColumns (g .rows) (w .start) (w .end) (flagged flags) (g .features) (g .order)
       e = p ∙ (λ i. partedColumns (g .rows) (ea i) (ez i) (flagged flags) (g .features) (g .order))
 
@@ -164,23 +162,23 @@ module _ (g : Ground) (P : Params) (W : List ℕ) (sc : ℕ) (flags : List Bool)
       long : length order′ ≡ length (g .order)
       long =
           split-long (g .rows) (g .features) (w .start) (w .end) (g .tables .values) (g .tables .targets) (g .tables .weights) (g .tables .counts) (cutOf w)
-          (g .order) order′ flags h (taken-splits m) d e
+          (g .order) order′ flags h (w .rows) taken-splits d e
 
       below : (j : ℕ) → w .end ≤ j → j ≤ g .rows → BelowTo g j → BelowTo g′ j
       below j u v b k l =
           split-every (g .rows) (g .features) (w .start) (w .end) (g .tables .values) (g .tables .targets) (g .tables .weights) (g .tables .counts) (cutOf w)
-          (g .order) order′ flags h (taken-splits m) d e
+          (g .order) order′ flags h (w .rows) taken-splits d e
           (λ r. r < g .rows) k j l u v (b k l)
 
       part-true : (k : ℕ) → k < g .features → part (g .rows) k (w .start) mid order′ ≡ keep (λ r. goesTrue (cutOf w) (el r)) (part (g .rows) k (w .start) (w .end) (g .order))
       part-true =
           true-part (g .rows) (g .features) (w .start) (w .end) (g .tables .values) (g .tables .targets) (g .tables .weights) (g .tables .counts) (cutOf w)
-          (g .order) order′ flags h (taken-splits m) d e
+          (g .order) order′ flags h (w .rows) taken-splits d e
 
       part-false : (k : ℕ) → k < g .features → part (g .rows) k mid (w .end) order′ ≡ keep (λ r. not (goesTrue (cutOf w) (el r))) (part (g .rows) k (w .start) (w .end) (g .order))
       part-false =
           false-part (g .rows) (g .features) (w .start) (w .end) (g .tables .values) (g .tables .targets) (g .tables .weights) (g .tables .counts) (cutOf w)
-          (g .order) order′ flags h (taken-splits m) d e
+          (g .order) order′ flags h (w .rows) taken-splits d e
 
       true-rows : nodeRows g′ (w .start) mid (h .trueside) ≡ child onTrue top
       true-rows = child-rows g w order′ onTrue (w .start) mid (h .trueside) known part-true true-side
@@ -235,15 +233,15 @@ module _ (g : Ground) (P : Params) (W : List ℕ) (sc : ℕ) (flags : List Bool)
             same = (λ i. bind (searchTwo P n (w .level + 1) (sym true-rows i) (sym false-rows i) (drawsAt W M (s .drawn))) (λ o. ok (o .0 ++ sym under i, o .1))) ∙ b .same;
             long = long;
             below = below;
-            laid = b .laid (w .start) (q .laid) (q .place) (le-refl (w .start)) starts sides-fit;
+            laid = b .laid (w .start) (laid-still g order′ (w .start) beside wholes reals (w .start) (s .waiting) (le-refl (w .start)) (q .laid)) (q .place) (le-refl (w .start)) starts sides-fit;
             fair = b .fair;
           }
         where
+          beside : (k b f : ℕ) → b ≤ f → f ≤ w .start → part (g .rows) k b f order′ ≡ part (g .rows) k b f (g .order)
+          beside k b f o u =
+              split-beside (g .rows) (g .features) (w .start) (w .end) (g .tables .values) (g .tables .targets) (g .tables .weights) (g .tables .counts)
+              (cutOf w) (g .order) order′ flags h (w .rows) taken-splits d e
+              k b f (inl u) o (omega (arith, u, q .ordered, q .high))
+
           under : waitingList g′ wholes reals (s .waiting) ≡ waitingList g wholes reals (s .waiting)
           under = below-still g order′ (w .start) beside wholes reals (w .start) (s .waiting) (le-refl (w .start)) (q .laid)
-            where
-              beside : (k b f : ℕ) → b ≤ f → f ≤ w .start → part (g .rows) k b f order′ ≡ part (g .rows) k b f (g .order)
-              beside k b f o u =
-                  split-beside (g .rows) (g .features) (w .start) (w .end) (g .tables .values) (g .tables .targets) (g .tables .weights) (g .tables .counts)
-                  (cutOf w) (g .order) order′ flags h (taken-splits m) d e
-                  k b f (inl u) o (omega (arith, u, q .ordered, q .high))

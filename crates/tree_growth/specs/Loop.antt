@@ -49,7 +49,7 @@ pub record GrowAsks (g : Ground) (P : Params) (W : List ℕ) (top scratch flags 
   pub whole-room : g .rows ≤ length wholes
   pub real-room : g .rows ≤ length reals
   pub deep : P .limit ≤ 65535
-  pub laid : Laid wholes reals kept (at .waiting)
+  pub laid : Laid g wholes reals kept (at .waiting)
   pub ripe : Every (Ripe P) (waitingList g wholes reals (at .waiting))
   pub levels : Every (λ v. v .level < P .limit) (waitingList g wholes reals (at .waiting))
   pub numbers : Every (λ v. v .number < at .nodes) (waitingList g wholes reals (at .waiting))
@@ -116,8 +116,8 @@ module _ (g : Ground) (P : Params) (W : List ℕ) (top sc fl : ℕ) (c : Columns
       room : (n r l a b : ℕ) → 1 ≤ a → 1 ≤ b → a + b ≡ r → n + 2 * ((r - 1) + l) ≤ top → n + 2 ≤ top
       room n r l a b h₁ h₂ h₃ h₄ = omega arith
 
-  top-laid : Laid wholes reals (q .kept) (suc (at .waiting - 1))
-  top-laid = subst (Laid wholes reals (q .kept)) (less-one (at .waiting) hw) (q .laid)
+  top-laid : Laid g wholes reals (q .kept) (suc (at .waiting - 1))
+  top-laid = subst (Laid g wholes reals (q .kept)) (less-one (at .waiting) hw) (q .laid)
 
   top-below : BelowTo g (waitingAt wholes reals (at .waiting - 1) .end)
   top-below k h = part-every (λ r. r < g .rows) (g .rows) k 0 (q .kept) 0 (waitingAt wholes reals (at .waiting - 1) .end) (g .order) (le-refl 0) (top-laid .2) (omega arith) (q .below k h)
@@ -142,6 +142,7 @@ module _ (g : Ground) (P : Params) (W : List ℕ) (top sc fl : ℕ) (c : Columns
           real-room = q .real-room;
           place = top-laid .0;
           laid = top-laid .3;
+          sized = top-laid .4;
           ripe = ripe′ .0;
           level = let a = levels′ .0 in let b = q .deep in omega (arith, a, b);
           number = let a = two-left in let b = q .node-small in omega (arith, a, b);
@@ -234,7 +235,7 @@ module _ (g : Ground) (P : Params) (W : List ℕ) (top sc fl : ℕ) (c : Columns
             whole-room = subst (λ n. g .rows ≤ n) (sym lw) (q .whole-room);
             real-room = subst (λ n. g .rows ≤ n) (sym lr) (q .real-room);
             deep = q .deep;
-            laid = laid-more wholes′ reals′ (at′ .waiting) (waitingAt wholes reals (at .waiting - 1) .end) (q .kept) (top-laid .2) (d .keeps .0);
+            laid = laid-more g′ wholes′ reals′ (at′ .waiting) (waitingAt wholes reals (at .waiting - 1) .end) (q .kept) (top-laid .2) (d .keeps .0);
             ripe = after .0;
             levels = levelled;
             numbers = subst (λ n. Every (λ v. v .number < n) (waitingList g′ wholes′ reals′ (at′ .waiting))) (sym (d .keeps .2)) numbered;

@@ -33,9 +33,9 @@ abbrev pub meantTurn : Ground → List ℕ → List Float → List (List ℕ) �
 meantTurn g W M wholes reals ns (U.Refused k) = bad k
 meantTurn g W M wholes reals ns (U.Goes at) = ok (waitingList g wholes reals (at .waiting), stateAt W M ns at)
 
-abbrev pub TurnKeeps : ℕ → List ℕ → ℕ → List (List ℕ) → List (List Float) → Turned → Type 0
-TurnKeeps high W n wholes reals (U.Refused k) = Unit {0}
-TurnKeeps high W n wholes reals (U.Goes at) = Laid wholes reals high (at .waiting) × Fair W (at .drawn) × (at .nodes ≡ n + 2)
+abbrev pub TurnKeeps : Ground → ℕ → List ℕ → ℕ → List (List ℕ) → List (List Float) → Turned → Type 0
+TurnKeeps g high W n wholes reals (U.Refused k) = Unit {0}
+TurnKeeps g high W n wholes reals (U.Goes at) = Laid g wholes reals high (at .waiting) × Fair W (at .drawn) × (at .nodes ≡ n + 2)
 
 -- of any nodes that the columns hold: one step of the definition's waiting list
 pub record TurnDone (g g′ : Ground) (P : Params) (W : List ℕ) (M : List Float) (c c′ : Columns) (wholes : List (List ℕ)) (reals : List (List Float))
@@ -49,4 +49,4 @@ pub record TurnDone (g g′ : Ground) (P : Params) (W : List ℕ) (M : List Floa
       → NodesIn old (withChildren (waitingOf g (waitingAt wholes reals (at .waiting - 1))) ns) c′
   pub long : length (g′ .order) ≡ length (g .order)
   pub below : (n : ℕ) → waitingAt wholes reals (at .waiting - 1) .end ≤ n → n ≤ g .rows → BelowTo g n → BelowTo g′ n
-  pub keeps : TurnKeeps (waitingAt wholes reals (at .waiting - 1) .end) W (at .nodes) wholes′ reals′ r
+  pub keeps : TurnKeeps g′ (waitingAt wholes reals (at .waiting - 1) .end) W (at .nodes) wholes′ reals′ r

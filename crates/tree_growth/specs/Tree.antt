@@ -69,7 +69,7 @@ startAsk g P W M kept q =
 
 pub record StartDone (g : Ground) (P : Params) (W : List ℕ) (M : List Float) (wholes′ : List (List ℕ)) (reals′ : List (List Float)) (kept : ℕ) (q : Side) (r : Step) : Type 0 where
   pub same : bind (startAsk g P W M kept q) (λ o. ok (o .0 ++ [], o .1)) ≡ meantStep g W M wholes′ reals′ r
-  pub laid : LaidStep wholes′ reals′ kept r
+  pub laid : LaidStep g wholes′ reals′ kept r
   pub fair : FairStep W r
 
 -- a tree as the definition has it, its nodes written at the front of the columns: past them the columns keep what they held
@@ -194,7 +194,7 @@ module _ (g : Ground) (P : Params) (W : List ℕ) (M : List Float) (top kept : �
           whole-room = subst (λ n. g .rows ≤ n) (sym lw) (h .whole-room);
           real-room = subst (λ n. g .rows ≤ n) (sym lr) (h .real-room);
           deep = h .deep;
-          laid = subst (LaidStep wholes′ reals′ kept) e (d .laid);
+          laid = subst (LaidStep g wholes′ reals′ kept) e (d .laid);
           ripe = b .0;
           levels = started (Every (λ v. v .level < P .limit)) (then-after (startAsk g P W M kept q) _ _
               (root-level P (search (tape (P .features)) P) (rootRows g kept q) (drawsAt W M unused))

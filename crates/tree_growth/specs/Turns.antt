@@ -147,7 +147,7 @@ module _ (g : Ground) (P : Params) (W : List ℕ) (sc : ℕ) (flags : List Bool)
             nodes = turn-nodes;
             long = b .long;
             below = b .below;
-            keeps = (subst (LaidStep wholes′ reals′ (e .end)) es (b .laid), subst (FairStep W) es (b .fair), refl);
+            keeps = (subst (LaidStep g′ wholes′ reals′ (e .end)) es (b .laid), subst (FairStep W) es (b .fair), refl);
           }
 
 -- ---- the same by what the code read: the top is z, and the flags are as long as they were
@@ -166,11 +166,11 @@ module _ (g : Ground) (P : Params) (W : List ℕ) (sc : ℕ) (flags : List Bool)
   pub code-taken : {z : WaitingNode} → z ≡ topWaiting → Taken g P W sc (length flags) wholes reals z (at .nodes) left
   code-taken ez = subst (λ z. Taken g P W sc (length flags) wholes reals z (at .nodes) left) (sym ez) (q .taken)
 
-  pub code-split : {z : WaitingNode} → z ≡ topWaiting → z .count < 4294967296
-      → SplitAsks (g .rows) (g .features) (z .start) (z .end) (g .tables .values) (g .tables .targets) (g .tables .weights) (g .tables .counts) (cutOf z) (g .order) (length flags)
+  pub code-split : {z : WaitingNode} → z ≡ topWaiting
+      → SplitAsks (g .rows) (g .features) (z .start) (z .end) (g .tables .values) (g .tables .targets) (g .tables .weights) (g .tables .counts) (cutOf z) (g .order) (z .rows) (length flags)
       × (LongAll (at .nodes + 2) c × (z .node < at .nodes) × (at .nodes + 2 < 4294967296))
-  code-split {z} ez m =
-      (taken-splits g P W sc flags wholes reals z (at .nodes) left (code-taken ez) m, (q .node-room, subst (λ (z : WaitingNode). z .node < at .nodes) (sym ez) (q .number), q .node-small))
+  code-split {z} ez =
+      (taken-splits g P W sc flags wholes reals z (at .nodes) left (code-taken ez), (q .node-room, subst (λ (z : WaitingNode). z .node < at .nodes) (sym ez) (q .number), q .node-small))
 
   module _ (flags′ : List Bool) (lf : length flags′ ≡ length flags) where
     abbrev DoneAt : Sides → WaitingNode → Type 0

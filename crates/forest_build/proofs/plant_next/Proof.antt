@@ -63,24 +63,21 @@ abbrev start-of-reals : tie.After-reals → tie.Start
 start-of-reals c = start-of-parts-of (parts-of-of-reals c)
 
 counts-in : (b : tie.After-parts-of) → Within (b .parts-of .result .count) (b .parts-of .result .countend)
-    (length (now (b .before .before .before .before .before .before .before .before .before .before .before .before .before .before .before .before .before .before .before .args
-    .counts)))
+    (length (now (start-of-parts-of b .args .counts)))
 counts-in b =
     let a =
     start-of-parts-of b .args in counts-within (a .rows) (a .t) (length (now (a .counts))) (now (a .wordstarts)) (now (a .thresholdstarts)) (b .parts-of .result)
     (b .parts-of .ensures) (start-of-parts-of b .pre .counted)
 
 words-in : (b : tie.After-parts-of) → Within (b .parts-of .result .word) (b .parts-of .result .wordend)
-    (length (now (b .before .before .before .before .before .before .before .before .before .before .before .before .before .before .before .before .before .before .before .args
-    .words)))
+    (length (now (start-of-parts-of b .args .words)))
 words-in b =
     let a =
     start-of-parts-of b .args in words-within (a .rows) (a .t) (length (now (a .words))) (now (a .wordstarts)) (now (a .thresholdstarts)) (b .parts-of .result)
     (b .parts-of .ensures) (start-of-parts-of b .pre .word)
 
 thresholds-in : (b : tie.After-parts-of) → Within (b .parts-of .result .threshold) (b .parts-of .result .thresholdend)
-    (length (now (b .before .before .before .before .before .before .before .before .before .before .before .before .before .before .before .before .before .before .before .args
-    .thresholds)))
+    (length (now (start-of-parts-of b .args .thresholds)))
 thresholds-in b =
     let a =
     start-of-parts-of b .args in thresholds-within (a .rows) (a .t) (length (now (a .thresholds))) (now (a .wordstarts)) (now (a .thresholdstarts)) (b .parts-of .result)

@@ -13,7 +13,7 @@ passed e = omega (arith, e .if1 .left)
 abbrev start-place : tie.Else1 → tie.Start
 start-place c = c .before .before .before .before .before .before .before .before .before
 
-few : (e : tie.Else1) → e .before .before .before .before .before .before .before .before .before .args .shape .features ≤ 1024
+few : (e : tie.Else1) → start-place e .args .shape .features ≤ 1024
 few e = few-features _ _ _ _ _ _ _ _ _ _ _ (e .before .forest-verdict .ensures) (passed e) (start-place e .args .settings) (start-place e .args .tried)
 
 forest-verdict-requires : tie.Need-forest-verdict-requires

@@ -1,5 +1,4 @@
 -- `node_growth::search_sides` meets its contract: the columns are parted where a child is searched, and only there. Assumes nothing.
-use Prim.Native.Nat.{_<_}
 use native.Mathlib.Omega.{arith}
 use mathlib.Core.Path.{sym, _∙_}
 use denote.Ref.{now}
@@ -7,9 +6,6 @@ use borrow.Author.Needs.{needs}
 use Rattle.node_growth.specs.Sides.{taken-parts, sides-fit, sides-skip, both-asks, sides-both}
 use Rattle.node_growth.proofs.search_sides.Statement.{statement}
 use Rattle.node_growth.proofs.search_sides.Tie as tie
-
-few : (c : tie.Start) → c .args .w .count < 4294967296
-few c = c .good .1 .1 .1 .1 .1 .1 .1 .1 .1 .1 .1 .1 .1 .1 .0 .1 .1 .1 .1 .1 .1 .0 .1
 
 abbrev start-of : tie.After-either-searched → tie.Start
 start-of c = c .before .before .before .before .before .before .before .before .before .before .before .before .before
@@ -47,7 +43,7 @@ wide-requires-3 c κs = search needs
 partition-columns-requires : tie.Need-partition-columns-requires
 partition-columns-requires c κs =
     let b = start-to-part c in
-    taken-parts _ _ _ _ (now (b .args .flags)) _ _ _ _ _ (b .pre .taken) _ (b .pre .split) (few b) (c .before .before .wide .ensures)
+    taken-parts _ _ _ _ (now (b .args .flags)) _ _ _ _ _ (b .pre .taken) _ (b .pre .split) (c .before .before .wide .ensures)
     (c .before .wide2 .ensures) (c .wide3 .ensures)
 
 add-mid : tie.Need-add-mid
@@ -59,7 +55,7 @@ search-both-requires : tie.Need-search-both-requires
 search-both-requires c κs =
     let p = parted-to-search c in
     let b = start-to-part (p .before) in
-    both-asks _ _ _ _ (now (b .args .flags)) _ _ _ _ _ (b .pre .taken) _ (b .pre .split) (few b) _ (p .before .before .before .wide .ensures)
+    both-asks _ _ _ _ (now (b .args .flags)) _ _ _ _ _ (b .pre .taken) _ (b .pre .split) _ (p .before .before .before .wide .ensures)
     (p .before .before .wide2 .ensures) (p .partition-columns .ensures)
 
 same-length : tie.Need-same-length
@@ -78,7 +74,7 @@ returns : tie.Need-returns
 returns c =
     let p = parted-end c in
     let b = start-to-part (p .before) in
-    sides-both _ _ _ _ (now (b .args .flags)) _ _ _ _ _ (b .pre .taken) _ (b .pre .split) (few b) _ (p .before .before .before .wide .ensures)
+    sides-both _ _ _ _ (now (b .args .flags)) _ _ _ _ _ (b .pre .taken) _ (b .pre .split) _ (p .before .before .before .wide .ensures)
     (p .before .before .wide2 .ensures) (p .partition-columns .ensures) _ _ _ _ (c .before .before .search-both .ensures)
 
 returns-2 : tie.Need-returns-2

@@ -72,7 +72,7 @@ split-node-requires : tie.Need-split-node-requires
 split-node-requires c κs =
     let b = start-to-split c in
     let t = top-to-split c .top in
-    code-split _ _ _ _ (now (b .args .flags)) _ _ _ _ (b .pre) (t .ensures) (t .ok .1 .1 .1 .1 .1 .1 .0 .1)
+    code-split _ _ _ _ (now (b .args .flags)) _ _ _ _ (b .pre) (t .ensures)
 
 search-sides-requires : tie.Need-search-sides-requires
 search-sides-requires c κs =

@@ -96,7 +96,7 @@ loop-less c = search needs
 loop-again : tie.Need-loop-again Inv-loop μ-loop
 loop-again c =
     let b = c .before .before .before in
-    let a = b .before .before .before .before .before .before in
+    let a = start-of-known (c .before .before) in
     let k = b .before .loop in
     let p = keptIn (now (a .args .weights)) (now (a .args .counts)) in
     ⊎-elim

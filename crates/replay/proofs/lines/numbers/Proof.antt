@@ -64,8 +64,11 @@ add-at c = search needs
 loop-less : tie.Need-loop-less Inv-loop μ-loop
 loop-less c = search needs
 
+abbrev loop-place : tie.After-known-told Inv-loop μ-loop → tie.At-loop Inv-loop μ-loop
+loop-place c = c .before .before .before .before .before .before .before .before
+
 loop-again : tie.Need-loop-again Inv-loop μ-loop
-loop-again c = (search needs, (simp length-set (omega arith), simp length-set (c .before .before .before .before .before .before .before .before .loop .inv .1 .1)))
+loop-again c = (search needs, (simp length-set (omega arith), simp length-set (loop-place c .loop .inv .1 .1)))
 
 same-length-3 : tie.Need-same-length-3 Inv-loop μ-loop
 same-length-3 c = search needs

@@ -8,8 +8,11 @@ use Rattle.replay.proofs.nodes.read.Tie as tie
 read-node-requires : tie.Need-read-node-requires
 read-node-requires c κs = search needs
 
+abbrev start-place : tie.After-read-node → tie.Start
+start-place c = c .before .before .before .before .before .before .before
+
 node-told-of-requires : tie.Need-node-told-of-requires
-node-told-of-requires c κs = child-below _ _ _ (c .read-node .ensures) (omega (arith, c .before .shared-slice-known6 .given (c .before .before .before .before .before .before .before .args .k)))
+node-told-of-requires c κs = child-below _ _ _ (c .read-node .ensures) (omega (arith, c .before .shared-slice-known6 .given (start-place c .args .k)))
 
 returns : tie.Need-returns
 returns c = search needs
