@@ -73,67 +73,27 @@ fn step(
 // A step of each.
 fn steps(
     i: usize,
-    six: Six,
+    v: Six,
     features: usize,
     values: &[f64],
     feature: &[u32],
     threshold: &[f64],
     truechild: &[u32],
 ) -> Six
-    requires { ⌜ SixSteppable features i six (now values) (now feature) (now threshold) (now truechild) ⌝ }
-    ensures { λ r. ⌜ r ≡ stepsOf features (now (values .entry)) (now (feature .entry)) (now (threshold .entry)) (now (truechild .entry)) i six ⌝ }
+    requires { ⌜ SixSteppable features i v (now values) (now feature) (now threshold) (now truechild) ⌝ }
+    ensures { λ r. ⌜ r ≡ stepsOf features (now (values .entry)) (now (feature .entry)) (now (threshold .entry)) (now (truechild .entry)) i v ⌝ }
 {
     let second = i + 1;
     let third = i + 2;
     let fourth = i + 3;
     let fifth = i + 4;
     let sixth = i + 5;
-    let p = step(i, six.p, features, values, feature, threshold, truechild);
-    let q = step(
-        second,
-        six.q,
-        features,
-        values,
-        feature,
-        threshold,
-        truechild,
-    );
-    let r = step(
-        third,
-        six.r,
-        features,
-        values,
-        feature,
-        threshold,
-        truechild,
-    );
-    let s = step(
-        fourth,
-        six.s,
-        features,
-        values,
-        feature,
-        threshold,
-        truechild,
-    );
-    let t = step(
-        fifth,
-        six.t,
-        features,
-        values,
-        feature,
-        threshold,
-        truechild,
-    );
-    let u = step(
-        sixth,
-        six.u,
-        features,
-        values,
-        feature,
-        threshold,
-        truechild,
-    );
+    let p = step(i, v.p, features, values, feature, threshold, truechild);
+    let q = step(second, v.q, features, values, feature, threshold, truechild);
+    let r = step(third, v.r, features, values, feature, threshold, truechild);
+    let s = step(fourth, v.s, features, values, feature, threshold, truechild);
+    let t = step(fifth, v.t, features, values, feature, threshold, truechild);
+    let u = step(sixth, v.u, features, values, feature, threshold, truechild);
     Six { p, q, r, s, t, u }
 }
 
