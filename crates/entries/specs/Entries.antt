@@ -1,11 +1,10 @@
 -- One entry of a table by what is read of it, and laws of its tests. Assumes nothing.
-use Prim.Native.Nat.{ℕ, suc, _≤_}
-use native.Mathlib.Omega.{arith}
-use mathlib.Core.Path.{_≡_, refl, sym, _∙_}
-use mathlib.Core.Bool.{Bool, true, false, _&&_, _||_, cond}
+use Prim.Native.Nat.{ℕ, suc, _+_}
+use native.Mathlib.Numerals.{add-one}
+use mathlib.Core.Path.{_≡_, refl, sym, ap}
+use mathlib.Core.Bool.{Bool, _&&_, _||_, cond}
 use lib.Dec.{ltb, eqb}
-use lib.Ieee.{Float}
-use borrow.Author.Tests.{le-ltb, eq-eqb, ne-eqb}
+use lib.Ieee.{Float, le}
 use Rattle.rules.specs.declared.Kind.the-variants.{Leaf, Split}
 use Rattle.rules.specs.Words.{nought}
 use Rattle.rules.specs.Lent.{Entry}
@@ -24,27 +23,12 @@ noChild y o = eqb y 0 && eqb o 0
 
 -- ---- whether it is good
 
-abbrev pub goodSplit : ℕ → ℕ → ℕ → ℕ → ℕ → ℕ → Bool
-goodSplit features n k j y o = ltb k y && (eqb o (suc y) && (ltb o n && ltb j features))
+-- by what is looked at, all of it asked
+pub entry-asked : (features n k j y o : ℕ) → ((eqb y 0 && eqb o 0) || (ltb k y && (eqb o (y + 1) && (ltb o n && ltb j features)))) ≡ goodEntry features n k (bare j y o)
+unfolding goodEntry isLeaf
+entry-asked features n k j y o = ap (λ m. (eqb y 0 && eqb o 0) || (ltb k y && (eqb o m && (ltb o n && ltb j features)))) (add-one y)
 
-module _ (features n k j y o : ℕ) where
-  -- a leaf, or exactly one child is 0
-  pub entry-none : y ≡ 0 → eqb o 0 ≡ goodEntry features n k (bare j y o)
-  unfolding goodEntry isLeaf
-  entry-none h = alone (eqb o 0) ∙ sym (λ i. (eq-eqb y 0 h i && eqb o 0) || (le-ltb k y (low k y h) i && (eqb o (suc y) && (ltb o n && ltb j features))))
-    where
-      low : (k y : ℕ) → y ≡ 0 → y ≤ k
-      low k y h = omega arith
-
-      alone : (b : Bool) → b ≡ (b || false)
-      alone true = refl
-      alone false = refl
-
-  pub entry-split : (y ≡ 0 → ⊥) → goodSplit features n k j y o ≡ goodEntry features n k (bare j y o)
-  unfolding goodEntry isLeaf
-  entry-split h = sym (λ i. (ne-eqb y 0 h i && eqb o 0) || goodSplit features n k j y o)
-
--- an entry is good by what is looked at
+-- whatever stands beside it
 pub bare-same : (features n k : ℕ) (e : Entry) → goodEntry features n k (bare (e .feature) (e .trueChild) (e .falseChild)) ≡ goodEntry features n k e
 unfolding goodEntry isLeaf
 bare-same features n k e = refl
@@ -55,3 +39,9 @@ pub node-told : (v : Float) (j : ℕ) (t s : Float) (y o : ℕ) (b : Bool) → n
     → record { value = v; kind = cond b Leaf (Split (record { cut = record { feature = j; threshold = t }; score = s; children = y })) } ≡ nodeOf (entryIs v j t s y o)
 unfolding nodeOf isLeaf
 node-told v j t s y o b h = λ i. record { value = v; kind = cond (sym h i) Leaf (Split (record { cut = record { feature = j; threshold = t }; score = s; children = y })) }
+
+-- ---- a step of a walk
+
+-- from node k: a leaf is stayed at, and of a split the false child comes next after the true one
+abbrev pub nextOf : ℕ → Float → Float → ℕ → ℕ
+nextOf k x t y = cond (eqb y 0) k (cond (le x t) y (suc y))

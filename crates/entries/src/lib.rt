@@ -4,7 +4,7 @@ ghost use mathlib.Core.Bool.{cond};
 ghost use Prim.Native.Nat.{suc};
 ghost use lib.Ieee.{le};
 ghost use Rattle.rules.specs.Table.{goodEntry, nodeOf};
-ghost use Rattle.entries.specs.Entries.{entryIs, bare, noChild, goodSplit};
+ghost use Rattle.entries.specs.Entries.{entryIs, bare, noChild, nextOf};
 use rules::Cut;
 use rules::Fork;
 use rules::Kind;
@@ -20,33 +20,8 @@ pub fn is_leaf(truechild: u32, falsechild: u32) -> bool
     }
 }
 
-// Whether a split at node k of a tree of n nodes is good. Its children are widened first: one more than the largest u32 must not wrap.
-fn split_good(
-    features: usize,
-    n: usize,
-    k: usize,
-    feature: u32,
-    truechild: u32,
-    falsechild: u32,
-) -> bool
-    ensures { λ r. ⌜ r ≡ goodSplit features n k feature truechild falsechild ⌝ }
-{
-    let y = slices::wide(truechild);
-    let o = slices::wide(falsechild);
-    let j = slices::wide(feature);
-    if y <= k {
-        return false;
-    }
-    if o != y + 1 {
-        return false;
-    }
-    if n <= o {
-        return false;
-    }
-    j < features
-}
-
-// Whether node k of a tree of n nodes is good, by its feature, its true child and its false child.
+// Whether node k of a tree of n nodes is good, by its feature, its true child and its false child. All is asked of every node, since which of them is a leaf cannot be foreseen.
+// The children are widened first: one more than the largest u32 must not wrap.
 pub fn entry_good(
     features: usize,
     n: usize,
@@ -57,10 +32,15 @@ pub fn entry_good(
 ) -> bool
     ensures { λ r. ⌜ r ≡ goodEntry features n k (bare feature truechild falsechild) ⌝ }
 {
-    if truechild == 0 {
-        return falsechild == 0;
-    }
-    split_good(features, n, k, feature, truechild, falsechild)
+    let y = slices::wide(truechild);
+    let o = slices::wide(falsechild);
+    let j = slices::wide(feature);
+    let leaf = (y == 0) & (o == 0);
+    let above = k < y;
+    let next = o == y + 1;
+    let inside = o < n;
+    let known = j < features;
+    leaf | (above & (next & (inside & known)))
 }
 
 // What it says when it is read out.
@@ -94,4 +74,16 @@ pub fn child_of(x: f64, threshold: f64, truechild: u32) -> usize
 {
     let y = truechild as usize;
     if x <= threshold { y } else { y + 1 }
+}
+
+// Where a row with value x is after node k: at the child that it goes to, or still at k if k has none. The child is found before it is known whether there is one, and
+// so the two are chosen between without a branch.
+pub fn next_of(k: usize, x: f64, threshold: f64, truechild: u32) -> usize
+    ensures { λ r. ⌜ r ≡ nextOf k x threshold truechild ⌝ }
+{
+    let child = child_of(x, threshold, truechild);
+    if truechild == 0 {
+        return k;
+    }
+    child
 }

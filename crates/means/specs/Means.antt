@@ -18,6 +18,7 @@ use Rattle.lemmas.specs.Lists.{is-true}
 use Rattle.lemmas.specs.Passed.{past, and2}
 use Rattle.checks.specs.Asks.{Ranges}
 use Rattle.lemmas.specs.Tests.{and-both, within-top, rows-low}
+use Rattle.walks.specs.Walks.{features-some}
 use Rattle.means.specs.Sums.{ForestReadable, out-all}
 
 abbrev pub tableTests : Shape → List Float → ForestTable → List Float → List Test
@@ -45,6 +46,7 @@ module _ (S : Shape) (xs : List Float) (F : ForestTable) (out : List Float) wher
       record {
         trees =
             record { lying = record { started = record { few = r .few; long = leb→le (suc (F .trees)) (length (F .starts)) s }; good = is-true _ x }; good = is-true _ y };
+        some = features-some S (r .shape);
         few = rows-low S (r .shape);
         long = eqb-true _ _ (is-true _ l);
         room = eqb-true _ _ (is-true _ o);

@@ -17,13 +17,17 @@ use Rattle.rules.specs.OutOfBag.{outTrees, outOfBagMean}
 use Rattle.lemmas.specs.Scans.{range-next, range-end, range-all}
 use Rattle.tables.specs.Table.{TreeLies, TreesLie}
 use Rattle.tables.specs.Laws.{tree-lies}
-use Rattle.predict.specs.Walks.{leafAt}
-use Rattle.bags.specs.Bags.{isOut, outMark, outNumber}
+use Rattle.walks.specs.Walks.{leafAt}
+use Rattle.bags.specs.Bags.{isOut, outMark, outNumber, out-beyond}
 use Rattle.predict.specs.Rows.{rewritten, length-rewritten, rewritten-twice, rewritten-same, rewritten-kept, rewritten-all, rewritten-filled}
 
 -- a tree taken in, where its count is 0
 abbrev pub withTree : List ℕ → ℕ → (ℕ → Float) → ℕ → Float → Float
 withTree counts base f k x = cond (isOut counts (base + k)) (add binary64 x (f k)) x
+
+-- without counts it is taken in everywhere
+pub taken-in : (counts : List ℕ) → length counts ≡ 0 → (base : ℕ) (f : ℕ → Float) (k : ℕ) (x : Float) → add binary64 x (f k) ≡ withTree counts base f k x
+taken-in counts h base f k x = sym (ap (λ b. cond b (add binary64 x (f k)) x) (out-beyond counts (base + k) (omega arith)))
 
 -- and the trees from tree t on
 abbrev pub summed : ℕ → ℕ → List Float → List ℕ → ℕ → List (List Entry) → ℕ → Float → Float
@@ -37,6 +41,7 @@ pub record Countable (base : ℕ) : Type 0 where
 -- a good forest, and values and places of all rows
 pub record ForestReadable (rows features : ℕ) (xs : List Float) (F : ForestTable) (out : List Float) : Type 0 where
   pub trees : TreesLie features F
+  pub some : 0 < features
   pub few : rows ≤ 65535
   pub long : length xs ≡ rows * features
   pub room : length out ≡ rows

@@ -3,15 +3,15 @@
 ghost use mathlib.Core.Path.{_≡_};
 ghost use mathlib.Core.Bool.{cond};
 ghost use mathlib.Core.List.{map};
-ghost use Prim.Native.Nat.{_≤_};
-ghost use lib.ListN.{length};
-ghost use lib.Ieee.{binary64, add, div};
+ghost use Prim.Native.Nat.{_+_, _<_, _≤_};
+ghost use lib.ListN.{length, getD};
+ghost use lib.Ieee.{nan, binary64, add, div};
 ghost use Rattle.rules.specs.Words.{float, from};
 ghost use Rattle.rules.specs.Lent.{entriesAt, columnsOf};
 ghost use Rattle.rules.specs.Table.{treesOf, tableOf};
 ghost use Rattle.rules.specs.OutOfBag.{outOfBagMean};
-ghost use Rattle.predict.specs.Walks.{Walkable, Readable, leafAt};
-ghost use Rattle.predict.specs.Rows.{rewritten};
+ghost use Rattle.walks.specs.Walks.{Walkable, Readable, leafAt};
+ghost use Rattle.predict.specs.Rows.{rewritten, Further, Laid};
 ghost use Rattle.bags.specs.Bags.{isOut, outNumber};
 ghost use Rattle.means.specs.Sums.{withTree, summed, Countable, ForestReadable};
 use rules::Shape;
@@ -41,7 +41,7 @@ fn sum_with(
         (columnsOf (now (value .entry)) (now (feature .entry)) (now (threshold .entry)) (now (score .entry)) (now (truechild .entry)) (now (falsechild .entry))) a n) i)) x ⌝ }
 {
     if bags::is_out(counts, at) {
-        let v = predict::row_value(
+        let v = walks::row_value(
             i,
             features,
             a,
@@ -60,8 +60,23 @@ fn sum_with(
     }
 }
 
-// The tree whose counts start at base.
-fn add_tree(
+// Six values, added to those from place i on.
+fn add_six(out: &mut [f64], i: usize, six: [f64; 6])
+    requires { ⌜ i + 6 ≤ length (now out) ⌝ }
+    ensures { λ _. ⌜ Laid (λ k x. add binary64 x (getD six k nan)) i 6 (now (out .entry)) (now (out .exit)) ⌝ }
+{
+    let mut k: usize = 0;
+    while k < 6 {
+        let at = i + k;
+        out[at] = out[at] + six[k];
+        k += 1;
+    }
+}
+
+// The rows from the first that is left on, one at a time.
+fn add_rest(
+    out: &mut [f64],
+    first: usize,
     rows: usize,
     features: usize,
     base: usize,
@@ -75,14 +90,13 @@ fn add_tree(
     score: &[f64],
     truechild: &[u32],
     falsechild: &[u32],
-    out: &mut [f64],
 )
-    requires { ⌜ Countable base × Readable rows features a n (now values) (columnsOf (now value) (now feature) (now threshold) (now score) (now truechild) (now falsechild)) (now out) ⌝ }
-    ensures { λ _. ⌜ now (out .exit) ≡ rewritten (withTree (now (counts .entry)) base
+    requires { ⌜ (first ≤ rows) × Countable base × Readable rows features a n (now values) (columnsOf (now value) (now feature) (now threshold) (now score) (now truechild) (now falsechild)) (now out) ⌝ }
+    ensures { λ _. ⌜ Further (withTree (now (counts .entry)) base
         (leafAt features (now (values .entry)) (entriesAt (columnsOf (now (value .entry)) (now (feature .entry)) (now (threshold .entry)) (now (score .entry))
-        (now (truechild .entry)) (now (falsechild .entry))) a n))) 0 rows (now (out .entry)) ⌝ }
+        (now (truechild .entry)) (now (falsechild .entry))) a n))) first rows (now (out .entry)) (now (out .exit)) ⌝ }
 {
-    let mut i: usize = 0;
+    let mut i = first;
     while i < rows {
         let at = base + i;
         let x = out[i];
@@ -104,6 +118,76 @@ fn add_tree(
         );
         i += 1;
     }
+}
+
+// How many rows may be walked side by side: all, or none if there are counts, since a tree then takes in only some of them.
+fn alike(rows: usize, counts: &[u32]) -> usize
+    ensures { λ r. ⌜ (r ≤ rows) × (0 < r → length (now (counts .entry)) ≡ 0) ⌝ }
+{
+    if counts.len() == 0 {
+        return rows;
+    }
+    0
+}
+
+// The tree whose counts start at base. Six rows at a time as long as there are six.
+fn add_tree(
+    rows: usize,
+    features: usize,
+    base: usize,
+    a: usize,
+    n: usize,
+    values: &[f64],
+    counts: &[u32],
+    value: &[f64],
+    feature: &[u32],
+    threshold: &[f64],
+    score: &[f64],
+    truechild: &[u32],
+    falsechild: &[u32],
+    out: &mut [f64],
+)
+    requires { ⌜ Countable base × Readable rows features a n (now values) (columnsOf (now value) (now feature) (now threshold) (now score) (now truechild) (now falsechild)) (now out) ⌝ }
+    ensures { λ _. ⌜ now (out .exit) ≡ rewritten (withTree (now (counts .entry)) base
+        (leafAt features (now (values .entry)) (entriesAt (columnsOf (now (value .entry)) (now (feature .entry)) (now (threshold .entry)) (now (score .entry))
+        (now (truechild .entry)) (now (falsechild .entry))) a n))) 0 rows (now (out .entry)) ⌝ }
+{
+    let end = alike(rows, counts);
+    let mut i: usize = 0;
+    while i + 6 <= end {
+        let six = walks::six_values(
+            i,
+            features,
+            a,
+            n,
+            values,
+            value,
+            feature,
+            threshold,
+            score,
+            truechild,
+            falsechild,
+        );
+        add_six(out, i, six);
+        i += 6;
+    }
+    add_rest(
+        out,
+        i,
+        rows,
+        features,
+        base,
+        a,
+        n,
+        values,
+        counts,
+        value,
+        feature,
+        threshold,
+        score,
+        truechild,
+        falsechild,
+    );
 }
 
 fn add_trees(

@@ -1,5 +1,3 @@
--- a row's walk, and what it asks
-pub mod Walks
 -- a result room rewritten from its front on
 pub mod Rows
 -- what passed tests say

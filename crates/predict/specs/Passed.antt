@@ -14,7 +14,7 @@ use Rattle.rules.specs.Reading.{predictTests}
 use Rattle.lemmas.specs.Lists.{is-true}
 use Rattle.lemmas.specs.Passed.{past}
 use Rattle.lemmas.specs.Tests.{rows-low}
-use Rattle.predict.specs.Walks.{Readable}
+use Rattle.walks.specs.Walks.{Readable, features-some}
 
 pub predict-passed : (S : Shape) (xs : List Float) (c : Columns) (out : List Float) → firstFailed (predictTests S xs c out) ≡ 0
     → Readable (S .rows) (S .features) 0 (shortest c) xs c out
@@ -26,6 +26,7 @@ predict-passed S xs c out h =
     let (g, h₄) = past 7 (goodTree (S .features) (entriesAt c 0 (shortest c))) _ h₃ in
     record {
       tree = record { inside = omega arith; good = is-true _ g };
+      some = features-some S (is-true _ a);
       few = rows-low S (is-true _ a);
       long = eqb-true _ _ (is-true _ b);
       room = eqb-true _ _ (is-true _ r);

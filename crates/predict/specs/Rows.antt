@@ -3,9 +3,9 @@ use Prim.Native.Nat.{ℕ, zero, suc, _+_, _<_, _≤_}
 use native.Mathlib.Nat.{not-suc-le-zero, le-of-suc-le-suc, zero-add, add-zero}
 use native.Mathlib.Numerals.{add-one}
 use native.Mathlib.Omega.{arith}
-use mathlib.Core.Path.{_≡_, refl, sym, ap, _∙_}
+use mathlib.Core.Path.{_≡_, refl, sym, ap, _∙_, subst}
 use mathlib.Core.List.{List, [], _∷_, map}
-use lib.ListN.{length, getD, set}
+use lib.ListN.{length, getD, set, length-set}
 use lib.Ieee.{Float, nan}
 use Rattle.rules.specs.Words.{from, filled}
 
@@ -65,6 +65,65 @@ module _ (f : ℕ → Float → Float) where
     where
       same : (i n : ℕ) → i ≤ n → n ≤ i → i ≡ n
       same i n h g = omega arith
+
+  -- ---- a loop over some of the rows
+
+  -- a room whose places before i are rewritten has become one whose places before j are
+  pub record Further (i j : ℕ) (room new : List Float) : Type 0 where
+    pub long : length new ≡ length room
+    pub goes : (old : List Float) → Written old i room → Written old j new
+
+  pub further-none : (i : ℕ) (room : List Float) → Further i i room room
+  further-none i room = record { long = refl; goes = λ old w. w }
+
+  pub further-next : (i j : ℕ) (room new : List Float) (v : Float) → j < length room → Further i j room new → v ≡ f j (getD new j nan) → Further i (j + 1) room (set new j v)
+  further-next i j room new v h g e =
+      record {
+        long = length-set new j v ∙ g .long;
+        goes = λ old w. row-next old new j v (subst (λ n. j < n) (w .long) h) (g .goes old w) e;
+      }
+
+  pub further-last : (i j n : ℕ) (room new : List Float) → j ≤ n → n ≤ j → Further i j room new → Further i n room new
+  further-last i j n room new h g w = subst (λ m. Further i m room new) (same j n h g) w
+    where
+      same : (j n : ℕ) → j ≤ n → n ≤ j → j ≡ n
+      same j n h g = omega arith
+
+  pub further-on : (i j k : ℕ) (room new last : List Float) → Further i j room new → Further j k new last → Further i k room last
+  further-on i j k room new last g h = record { long = h .long ∙ g .long; goes = λ old w. h .goes old (g .goes old w) }
+
+  pub further-all : (old new : List Float) (n : ℕ) → Further 0 n old new → new ≡ rewritten f 0 n old
+  further-all old new n g = g .goes old (row-first old) .exact
+
+-- ---- a loop over six places
+
+-- n of the six places from i on have become what w says, by their number among the six and by what stood there
+pub record Laid (w : ℕ → Float → Float) (i n : ℕ) (room new : List Float) : Type 0 where
+  pub within : n ≤ 6
+  pub long : length new ≡ length room
+  pub goes : (f : ℕ → Float → Float) → ((k : ℕ) (x : Float) → k < 6 → w k x ≡ f (i + k) x) → Further f i (i + n) room new
+
+module _ (w : ℕ → Float → Float) (i : ℕ) (room : List Float) where
+  pub lay-first : Laid w i 0 room room
+  lay-first = record { within = omega arith; long = refl; goes = λ f h. subst (λ j. Further f i j room room) (sym (add-zero i)) (further-none f i room) }
+
+  pub lay-next : (n : ℕ) (new : List Float) (v : Float) → n < 6 → i + 6 ≤ length room → Laid w i n room new → v ≡ w n (getD new (i + n) nan)
+      → Laid w i (n + 1) room (set new (i + n) v)
+  lay-next n new v h g l e =
+      record {
+        within = omega arith;
+        long = length-set new (i + n) v ∙ l .long;
+        goes = λ f s. subst (λ j. Further f i j room (set new (i + n) v)) (up i n) (further-next f i (i + n) room new v (omega arith) (l .goes f s) (e ∙ s n _ h));
+      }
+    where
+      up : (i n : ℕ) → i + n + 1 ≡ i + (n + 1)
+      up i n = omega arith
+
+  pub lay-last : (n : ℕ) (new : List Float) → 6 ≤ n → Laid w i n room new → Laid w i 6 room new
+  lay-last n new h l = subst (λ m. Laid w i m room new) (same n h (l .within)) l
+    where
+      same : (n : ℕ) → 6 ≤ n → n ≤ 6 → n ≡ 6
+      same n h g = omega arith
 
 -- twice over the same rows
 pub rewritten-twice : (f g : ℕ → Float → Float) (a n : ℕ) (l : List Float) → rewritten f a n (rewritten g a n l) ≡ rewritten (λ k x. f k (g k x)) a n l

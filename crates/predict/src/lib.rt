@@ -1,21 +1,39 @@
-// A row's walk through a tree, and the predictions of one tree.
+// The predictions of one tree.
 ghost use mathlib.Core.Path.{_≡_};
 ghost use mathlib.Core.List.{List, map};
-ghost use lib.ListN.{length};
-ghost use lib.Ieee.{Float};
+ghost use Prim.Native.Nat.{_+_, _≤_};
+ghost use lib.ListN.{length, getD};
+ghost use lib.Ieee.{Float, nan};
 ghost use Rattle.rules.specs.Words.{from};
 ghost use Rattle.rules.specs.Lent.{outcomeOf, entriesAt, columnsOf};
 ghost use Rattle.rules.specs.Checks.{firstFailed};
 ghost use Rattle.rules.specs.Reading.{predictTests, predictTree};
-ghost use Rattle.predict.specs.Walks.{Walkable, Readable, leafAt};
+ghost use Rattle.walks.specs.Walks.{Readable, leafAt};
+ghost use Rattle.predict.specs.Rows.{Further, Laid};
 use rules::Reply;
 use rules::Shape;
 
-// What row i comes to in the tree of n nodes from place a on.
-pub fn row_value(
-    i: usize,
+// ---- row by row
+
+// Six values, from place i on.
+fn put_six(out: &mut [f64], i: usize, six: [f64; 6])
+    requires { ⌜ i + 6 ≤ length (now out) ⌝ }
+    ensures { λ _. ⌜ Laid (λ k x. getD six k nan) i 6 (now (out .entry)) (now (out .exit)) ⌝ }
+{
+    let mut k: usize = 0;
+    while k < 6 {
+        let at = i + k;
+        out[at] = six[k];
+        k += 1;
+    }
+}
+
+// The rows from the first that is left on, one at a time.
+fn predict_rest(
+    out: &mut [f64],
+    first: usize,
+    rows: usize,
     features: usize,
-    a: usize,
     n: usize,
     values: &[f64],
     value: &[f64],
@@ -24,23 +42,32 @@ pub fn row_value(
     score: &[f64],
     truechild: &[u32],
     falsechild: &[u32],
-) -> f64
-    requires { ⌜ Walkable features a n i (now values) (columnsOf (now value) (now feature) (now threshold) (now score) (now truechild) (now falsechild)) ⌝ }
-    ensures { λ r. ⌜ r ≡ leafAt features (now (values .entry))
-        (entriesAt (columnsOf (now (value .entry)) (now (feature .entry)) (now (threshold .entry)) (now (score .entry)) (now (truechild .entry)) (now (falsechild .entry))) a n) i ⌝ }
+)
+    requires { ⌜ (first ≤ rows) × Readable rows features 0 n (now values) (columnsOf (now value) (now feature) (now threshold) (now score) (now truechild) (now falsechild)) (now out) ⌝ }
+    ensures { λ _. ⌜ Further (λ k x. leafAt features (now (values .entry))
+        (entriesAt (columnsOf (now (value .entry)) (now (feature .entry)) (now (threshold .entry)) (now (score .entry)) (now (truechild .entry)) (now (falsechild .entry))) 0 n) k)
+        first rows (now (out .entry)) (now (out .exit)) ⌝ }
 {
-    let base = i * features;
-    let mut k: usize = 0;
-    while truechild[a + k] != 0 {
-        let at = a + k;
-        let j = base + feature[at] as usize;
-        k = entries::child_of(values[j], threshold[at], truechild[at]);
+    let mut i = first;
+    while i < rows {
+        out[i] = walks::row_value(
+            i,
+            features,
+            0,
+            n,
+            values,
+            value,
+            feature,
+            threshold,
+            score,
+            truechild,
+            falsechild,
+        );
+        i += 1;
     }
-    value[a + k]
 }
 
-// ---- predictions of one tree
-
+// Six at a time as long as there are six.
 fn predict_rows(
     rows: usize,
     features: usize,
@@ -60,8 +87,8 @@ fn predict_rows(
         (from 0 rows) ⌝ }
 {
     let mut i: usize = 0;
-    while i < rows {
-        out[i] = row_value(
+    while i + 6 <= rows {
+        let six = walks::six_values(
             i,
             features,
             0,
@@ -74,8 +101,23 @@ fn predict_rows(
             truechild,
             falsechild,
         );
-        i += 1;
+        put_six(out, i, six);
+        i += 6;
     }
+    predict_rest(
+        out,
+        i,
+        rows,
+        features,
+        n,
+        values,
+        value,
+        feature,
+        threshold,
+        score,
+        truechild,
+        falsechild,
+    );
 }
 
 // For a result room of so many places.

@@ -53,15 +53,21 @@ module _ (features : ℕ) (c : Columns) (a n : ℕ) where
       up : (a k : ℕ) → suc (a + k) ≡ a + (k + 1)
       up a k = omega arith
 
-  pub tree-goes : (k : ℕ) {whole : Bool} → k < n → whole ≡ goodOn k → goodEntry features n k (entryAt c (a + k)) ≡ true → whole ≡ goodOn (k + 1)
-  tree-goes k h so t = so ∙ tree-next k h ∙ ap (λ b. b && goodOn (k + 1)) t
+  pub tree-goes : (k : ℕ) (good one : Bool) {whole : Bool} → k < n → whole ≡ (good && goodOn k) → one ≡ goodEntry features n k (entryAt c (a + k))
+      → whole ≡ ((good && one) && goodOn (k + 1))
+  tree-goes k good one h so t = so ∙ ap (λ b. good && b) (tree-next k h ∙ ap (λ b. b && goodOn (k + 1)) (sym t)) ∙ apart good
+    where
+      apart : (b : Bool) → (b && (one && goodOn (k + 1))) ≡ ((b && one) && goodOn (k + 1))
+      apart true = refl
+      apart false = refl
 
-  pub tree-stops : (k : ℕ) {whole : Bool} → k < n → whole ≡ goodOn k → goodEntry features n k (entryAt c (a + k)) ≡ false → false ≡ whole
-  tree-stops k h so t = sym (so ∙ tree-next k h ∙ ap (λ b. b && goodOn (k + 1)) t)
-
-  pub tree-ends : (k : ℕ) {whole : Bool} → n ≤ k → whole ≡ goodOn k → true ≡ whole
+  pub tree-ends : (k : ℕ) (good : Bool) {whole : Bool} → n ≤ k → whole ≡ (good && goodOn k) → good ≡ whole
   unfolding entriesAt goodFrom
-  tree-ends k h so = sym (so ∙ ap (λ l. goodFrom features n k (map (entryAt c) l)) (range-end (a + k) k n h))
+  tree-ends k good h so = sym (so ∙ ap (λ l. good && goodFrom features n k (map (entryAt c) l)) (range-end (a + k) k n h) ∙ alone good)
+    where
+      alone : (b : Bool) → (b && true) ≡ b
+      alone true = refl
+      alone false = refl
 
 -- ---- starts that rise
 

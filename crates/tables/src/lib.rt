@@ -29,15 +29,15 @@ pub fn tree_good(
     if n == 0 {
         return false;
     }
+    let mut good = true;
     let mut k: usize = 0;
     while k < n {
         let at = a + k;
-        if !entries::entry_good(features, n, k, feature[at], truechild[at], falsechild[at]) {
-            return false;
-        }
+        let one = entries::entry_good(features, n, k, feature[at], truechild[at], falsechild[at]);
+        good = good & one;
         k += 1;
     }
-    true
+    good
 }
 
 // ---- a forest

@@ -1,19 +1,21 @@
--- `predict::predict_rows` meets its contract: the places before row i hold their predictions. Assumes nothing.
+-- `predict::predict_rows` meets its contract: the places before row i hold their predictions, six more after each turn. Assumes nothing.
 use native.Mathlib.Omega.{arith}
-use mathlib.Core.Path.{_∙_}
-use Prim.Native.Nat.{ℕ, _-_, _<_, _≤_}
+use mathlib.Core.Path.{ap, _∙_}
+use Prim.Native.Nat.{ℕ, _-_, _≤_}
 use denote.Ref.{now}
-use lib.ListN.{length}
-use lib.Ieee.{Float}
+use lib.ListN.{getD}
+use lib.Ieee.{Float, nan}
 use Rattle.rules.specs.Lent.{Columns, entriesAt, columnsOf}
-use Rattle.predict.specs.Walks.{leafAt, walkable}
-use Rattle.predict.specs.Rows.{Written, row-first, row-next, row-last, rewritten-all}
+use Rattle.lemmas.specs.Lists.{getD-from}
+use Rattle.walks.specs.Walks.{leafAt, still-readable}
+use Rattle.walks.specs.Sixes.{six-walkable}
+use Rattle.predict.specs.Rows.{Further, further-none, further-on, further-all, rewritten-all}
 use Rattle.predict.proofs.predict_rows.Statement.{statement}
 use Rattle.predict.proofs.predict_rows.Tie as tie
 
 abbrev Inv-loop : tie.InvT-loop
 Inv-loop rows features n values value feature threshold score trues falses out₀ i₀ out i =
-    (i ≤ rows) × Written (λ k x. leafAt features values (entriesAt (columnsOf value feature threshold score trues falses) 0 n) k) out₀ i out
+    (i ≤ rows) × Further (λ k x. leafAt features values (entriesAt (columnsOf value feature threshold score trues falses) 0 n) k) 0 i out₀ out
 
 abbrev μ-loop : tie.MeasureT-loop
 μ-loop rows features n values value feature threshold score trues falses out₀ i₀ out i = rows - i
@@ -27,54 +29,63 @@ predicted s = leafAt (s .args .features) (now (s .args .values)) (entriesAt (col
 abbrev start-of-slice-known : tie.After-slice-known Inv-loop μ-loop → tie.Start Inv-loop μ-loop
 start-of-slice-known c = c .before .before .before .before .before .before .before .before
 
-abbrev start-of-in-loop : tie.In-loop Inv-loop μ-loop → tie.Start Inv-loop μ-loop
-start-of-in-loop c = start-of-slice-known (c .before .before)
+abbrev start-of-loop : tie.At-loop Inv-loop μ-loop → tie.Start Inv-loop μ-loop
+start-of-loop c = start-of-slice-known (c .before)
 
-abbrev start-of-after-loop : tie.After-loop Inv-loop μ-loop → tie.Start Inv-loop μ-loop
-start-of-after-loop c = start-of-slice-known (c .before .before)
+abbrev loop-of-slice-known2 : tie.After-slice-known2 Inv-loop μ-loop → tie.At-loop Inv-loop μ-loop
+loop-of-slice-known2 c = c .before .before .before .before .before .before
 
-abbrev start-of-row-value : tie.After-row-value Inv-loop μ-loop → tie.Start Inv-loop μ-loop
-start-of-row-value c = start-of-in-loop (c .before)
-
-placed : (c : tie.In-loop Inv-loop μ-loop) → c .before .loop .i < length (now (start-of-in-loop c .args .out))
-placed c = omega (arith, c .loop-test .taken, start-of-in-loop c .pre .room)
+abbrev loop-of-slice-known3 : tie.After-slice-known3 Inv-loop μ-loop → tie.At-loop Inv-loop μ-loop
+loop-of-slice-known3 c = c .before .before .before .before .before
 
 loop-holds : tie.Need-loop-holds Inv-loop μ-loop
-loop-holds c = (omega arith, row-first (λ k x. predicted (start-of-slice-known c) k) (now (start-of-slice-known c .args .out)))
+loop-holds c = let s = start-of-slice-known c in (omega arith, further-none (λ k x. predicted s k) 0 (now (s .args .out)))
 
-row-value-requires : tie.Need-row-value-requires Inv-loop μ-loop
-row-value-requires c κs =
-    let s = start-of-in-loop c in walkable (s .args .rows) (s .args .features) 0 (s .args .n) (now (s .args .values)) (columns s) (now (s .args .out)) (s .pre) (c .before .loop .i)
-    (c .loop-test .taken)
+add-loop : tie.Need-add-loop Inv-loop μ-loop
+add-loop c = omega (arith, c .loop .inv .0, start-of-loop c .pre .few)
 
-mul-out : tie.Need-mul-out Inv-loop μ-loop
-mul-out c = omega (arith, placed (c .before), c .before .before .loop .inv .1 .long)
+six-values-requires : tie.Need-six-values-requires Inv-loop μ-loop
+six-values-requires c κs =
+    let s = start-of-loop (c .before) in
+    six-walkable (s .args .rows) (s .args .features) 0 (s .args .n) (now (s .args .values)) (columns s) (now (s .args .out)) (s .pre) (c .before .loop .i) (c .loop-test .taken)
 
-slice-write-out : tie.Need-slice-write-out Inv-loop μ-loop
-slice-write-out c = omega (arith, placed (c .before), c .before .before .loop .inv .1 .long)
+put-six-requires : tie.Need-put-six-requires Inv-loop μ-loop
+put-six-requires c κs =
+    let at = c .before .before .before in omega (arith, c .before .before .loop-test .taken, at .loop .inv .1 .long, start-of-loop at .pre .room)
 
 add-i : tie.Need-add-i Inv-loop μ-loop
-add-i c = omega (arith, c .before .loop-test .taken, start-of-row-value c .pre .few)
+add-i c = let at = loop-of-slice-known2 c in omega (arith, at .loop .inv .0, start-of-loop at .pre .few)
 
 loop-less : tie.Need-loop-less Inv-loop μ-loop
-loop-less c = omega (arith, c .before .loop-test .taken)
+loop-less c = omega (arith, c .before .before .before .before .before .loop-test .taken)
 
 loop-again : tie.Need-loop-again Inv-loop μ-loop
 loop-again c =
-    let s = start-of-row-value c in (
-      omega (arith, c .before .loop-test .taken),
-      row-next (λ k x. predicted s k) (now (s .args .out)) (c .before .before .loop .out) (c .before .before .loop .i)
-          (c .row-value .result) (placed (c .before)) (c .before .before .loop .inv .1) (c .row-value .ensures),
+    let at = loop-of-slice-known2 c in
+    let s = start-of-loop at in (
+      c .before .before .before .before .before .loop-test .taken,
+      further-on (λ k x. predicted s k) 0 (at .loop .i) _ (now (s .args .out)) (at .loop .out) _ (at .loop .inv .1)
+          (c .before .before .put-six .ensures .goes (λ k x. predicted s k)
+          (λ k x h. ap (λ l. getD l k nan) (c .before .before .before .before .six-values .ensures) ∙ getD-from (predicted s) (at .loop .i) 6 k nan h)),
+    )
+
+predict-rest-requires : tie.Need-predict-rest-requires Inv-loop μ-loop
+predict-rest-requires c κs =
+    let at = c .before .before in
+    let s = start-of-loop at in (
+      at .loop .inv .0,
+      still-readable (s .args .rows) (s .args .features) 0 (s .args .n) (now (s .args .values)) (columns s) (now (s .args .out)) (at .loop .out) (s .pre) (at .loop .inv .1 .long),
     )
 
 same-length : tie.Need-same-length Inv-loop μ-loop
-same-length c = c .before .loop .inv .1 .long
+same-length c = c .before .before .predict-rest .ensures .long ∙ loop-of-slice-known3 c .loop .inv .1 .long
 
 returns : tie.Need-returns Inv-loop μ-loop
 returns c =
-    let s = start-of-after-loop c in
-    row-last (λ k x. predicted s k) (now (s .args .out)) (c .before .loop .out) (c .before .loop .i) (s .args .rows) (c .before .loop .inv .0) (c .loop-test .left)
-    (c .before .loop .inv .1)
+    let at = loop-of-slice-known3 c in
+    let s = start-of-loop at in
+    further-all (λ k x. predicted s k) (now (s .args .out)) _ (s .args .rows)
+    (further-on (λ k x. predicted s k) 0 (at .loop .i) (s .args .rows) (now (s .args .out)) (at .loop .out) _ (at .loop .inv .1) (c .before .before .predict-rest .ensures))
     ∙ rewritten-all (predicted s) 0 (s .args .rows) (now (s .args .out)) (s .pre .room)
 
 pub predict-rows-spec : {M : Type 1} → statement M
@@ -84,11 +95,12 @@ predict-rows-spec =
     Inv-loop
     μ-loop
     loop-holds
-    row-value-requires
-    mul-out
-    slice-write-out
+    add-loop
+    six-values-requires
+    put-six-requires
     add-i
     loop-less
     loop-again
+    predict-rest-requires
     same-length
     returns)

@@ -11,7 +11,7 @@ use Rattle.rules.specs.Checks.{firstFailed}
 use Rattle.rules.specs.Table.{treeIn}
 use Rattle.rules.specs.Reading.{predictTests, predictTree}
 use Rattle.lemmas.specs.Tests.{reads-refused, reads-done}
-use Rattle.predict.specs.Walks.{Readable, leafAt}
+use Rattle.walks.specs.Walks.{Readable, leafAt}
 use Rattle.predict.specs.Passed.{predict-passed}
 use Rattle.predict.proofs.predict_tree.Statement.{statement}
 use Rattle.predict.proofs.predict_tree.Tie as tie

@@ -10,7 +10,7 @@ use lib.ListN.{getD}
 use Rattle.rules.specs.Lent.{Entry, entriesAt, columnsOf}
 use Rattle.rules.specs.Table.{ForestTable, treeAt, tableOf}
 use Rattle.tables.specs.Laws.{start-below}
-use Rattle.predict.specs.Walks.{leafAt}
+use Rattle.walks.specs.Walks.{leafAt}
 use Rattle.predict.specs.Rows.{rewritten}
 use Rattle.means.specs.Sums.{withTree, Adding, tree-first, tree-next, tree-last, tree-at}
 use Rattle.means.proofs.sums.add_trees.Statement.{statement}
@@ -108,6 +108,7 @@ add-tree-requires c κs =
         tree =
             tree-at (s .args .rows) (s .args .features) (now (s .args .values)) (table s) (now (s .args .out)) (s .pre) (c .before .before .before .before .loop .t)
             (c .before .before .before .loop-test .taken);
+        some = s .pre .some;
         few = s .pre .few;
         long = s .pre .long;
         room = c .before .before .before .before .loop .inv .long ∙ s .pre .room;

@@ -60,6 +60,7 @@ add-trees-requires c κs =
     let s = start-of-add-trees-arg c in
     record {
       trees = s .pre .trees;
+      some = s .pre .some;
       few = s .pre .few;
       long = s .pre .long;
       room = cleared (c .before .before .before);

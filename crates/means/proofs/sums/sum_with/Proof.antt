@@ -5,7 +5,7 @@ use mathlib.Core.Bool.{cond}
 use denote.Ref.{now}
 use lib.Ieee.{Float, binary64, add}
 use Rattle.rules.specs.Lent.{entriesAt, columnsOf}
-use Rattle.predict.specs.Walks.{leafAt}
+use Rattle.walks.specs.Walks.{leafAt}
 use Rattle.means.proofs.sums.sum_with.Statement.{statement}
 use Rattle.means.proofs.sums.sum_with.Tie as tie
 

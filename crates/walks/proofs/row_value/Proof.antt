@@ -1,4 +1,4 @@
--- `predict::row_value` meets its contract: the walk is where the definition's is after as many steps, and stops at a leaf. Assumes nothing.
+-- `walks::row_value` meets its contract: the walk is where the definition's is after as many steps, and stops at a leaf. Assumes nothing.
 use borrow.Author.Needs.{needs}
 use native.Mathlib.Omega.{arith}
 use mathlib.Core.Path.{_≡_, sym, ap, _∙_, subst}
@@ -10,9 +10,9 @@ use lib.Ieee.{nan, le}
 use Rattle.rules.specs.Lent.{Columns, cell, valuesAt, shortest, entryAt, entriesAt, columnsOf}
 use Rattle.lemmas.specs.Tables.{Onward}
 use Rattle.lemmas.specs.Cells.{cell-lies}
-use Rattle.predict.specs.Walks.{Reached, onward, walk-starts, walk-stops, walk-goes, sent, sent-up}
-use Rattle.predict.proofs.row_value.Statement.{statement}
-use Rattle.predict.proofs.row_value.Tie as tie
+use Rattle.walks.specs.Walks.{Reached, onward, walk-starts, walk-stops, walk-goes, sent, sent-up}
+use Rattle.walks.proofs.row_value.Statement.{statement}
+use Rattle.walks.proofs.row_value.Tie as tie
 
 abbrev Inv-loop : tie.InvT-loop
 Inv-loop i features a n values value feature threshold score trues falses base k₀ k =

@@ -5,10 +5,12 @@ use mathlib.Core.Path.{_≡_, refl, sym, ap, _∙_, subst}
 use mathlib.Core.Bool.{Bool, true, false, _&&_, cond}
 use mathlib.Core.List.{List}
 use lib.ListN.{length, getD}
-use lib.Dec.{T, ltb, eqb, ltb→lt}
+use lib.Dec.{T, leb, ltb, eqb, leb→le, ltb→lt}
 use lib.Ieee.{Float, nan, le}
-use lib.Ieee.Fits.{and-l}
+use lib.Ieee.Fits.{and-l, and-r}
 use borrow.Author.Tests.{ne-eqb}
+use Rattle.rules.specs.declared.Shape.{Shape}
+use Rattle.rules.specs.Checks.{within, rowsIn, featuresIn, shapeIn}
 use Rattle.rules.specs.Lent.{Columns, Entry, valuesAt, entryAt, entriesAt}
 use Rattle.rules.specs.Table.{isLeaf, goodFrom, goodTree}
 use Rattle.rules.specs.Reading.{noEntry, onto, walked, leafValue}
@@ -26,6 +28,7 @@ pub record Walkable (features a n i : ℕ) (xs : List Float) (c : Columns) : Typ
 -- and of all rows, with a place for each in the result room
 pub record Readable (rows features a n : ℕ) (xs : List Float) (c : Columns) (out : List Float) : Type 0 where
   pub tree : TreeLies features a n c
+  pub some : 0 < features
   pub few : rows ≤ 65535
   pub long : length xs ≡ rows * features
   pub room : length out ≡ rows
@@ -33,6 +36,15 @@ pub record Readable (rows features a n : ℕ) (xs : List Float) (c : Columns) (o
 pub walkable : (rows features a n : ℕ) (xs : List Float) (c : Columns) (out : List Float) → Readable rows features a n xs c out → (i : ℕ) → i < rows → Walkable features a n i xs c
 walkable rows features a n xs c out r i h =
     record { tree = r .tree; row = subst (λ m. i * features + features ≤ m) (sym (r .long)) (stretch-within i rows features h) }
+
+-- after some of them are written
+pub still-readable : (rows features a n : ℕ) (xs : List Float) (c : Columns) (out new : List Float) → Readable rows features a n xs c out → length new ≡ length out
+    → Readable rows features a n xs c new
+still-readable rows features a n xs c out new r e = record { tree = r .tree; some = r .some; few = r .few; long = r .long; room = e ∙ r .room }
+
+pub features-some : (S : Shape) → shapeIn S ≡ true → 0 < S .features
+unfolding within
+features-some S h = leb→le 1 (S .features) (and-l (leb 1 (S .features)) (leb (S .features) 1024) (and-r (rowsIn (S .rows)) (featuresIn (S .features)) (subst T (sym h) tt)))
 
 -- what row i comes to in a tree
 abbrev pub leafAt : ℕ → List Float → List Entry → ℕ → Float
