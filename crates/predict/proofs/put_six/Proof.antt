@@ -40,7 +40,9 @@ loop-less : tie.Need-loop-less Inv-loop μ-loop
 loop-less c = search needs
 
 loop-again : tie.Need-loop-again Inv-loop μ-loop
-loop-again c = lay-next _ (c .before .before .args .i) (now (c .before .before .args .out)) (c .before .loop .k) (c .before .loop .out) _ (c .loop-test .taken) (c .before .before .pre) (c .before .loop .inv) refl
+loop-again c =
+    let at = c .before in
+    lay-next _ (at .before .args .i) (now (at .before .args .out)) (at .loop .k) (at .loop .out) _ (c .loop-test .taken) (at .before .pre) (at .loop .inv) refl
 
 same-length : tie.Need-same-length Inv-loop μ-loop
 same-length c = search needs
