@@ -1,11 +1,11 @@
 // The small choices of a growth: which node is searched, which threshold counts, and which candidate is held.
 ghost use mathlib.Core.Path.{_≡_};
 ghost use mathlib.Core.Bool.{cond, _&&_, _||_};
-ghost use Prim.Native.Nat.{ℕ, _≤_};
+ghost use Prim.Native.Nat.{ℕ};
 ghost use lib.Ieee.{le, lt};
 ghost use Rattle.rules.specs.Search.{better};
 ghost use Rattle.rules.specs.Growth.{searchable};
-ghost use Rattle.candidates.specs.Held.{bare, heldOf, earlierOf};
+ghost use Rattle.candidates.specs.Held.{bare, heldOf, earlierOf, Moved, HeldAt};
 use criterion::Side;
 use rules::Cut;
 use rules::Held;
@@ -17,6 +17,12 @@ pub struct Spot {
     pub held: bool,
     pub proxy: f64,
     pub place: usize,
+}
+
+// The candidate that a search holds, if any, and how many rows of its column are on the true side.
+pub struct Candidate {
+    pub held: Held,
+    pub rows: usize,
 }
 
 // ---- which node is searched
@@ -72,19 +78,6 @@ pub fn spot_of(h: Held) -> Spot
     }
 }
 
-// The cut that was held before the column.
-pub fn earlier_of(h: Held) -> Cut
-    ensures { λ r. ⌜ r ≡ earlierOf h ⌝ }
-{
-    match h {
-        Held::Nothing => Cut {
-            feature: 0,
-            threshold: 0.0,
-        },
-        Held::Holds(c, _) => c,
-    }
-}
-
 // What is held, field by field: a copy of the whole would carry the bytes between its fields from row to row, through memory.
 pub fn anew(s: Spot) -> Spot
     ensures { λ r. ⌜ r ≡ s ⌝ }
@@ -117,8 +110,7 @@ pub fn pick(b: bool, n: usize, m: usize) -> usize
 
 // A candidate at a place, of proxy q, against what is held.
 pub fn better_spot(s: Spot, place: usize, q: f64) -> Spot
-    requires { ⌜ s .place ≤ place ⌝ }
-    ensures { λ r. ⌜ (r .place ≤ place) × ((c : ℕ → Cut) → heldOf c r ≡ better (heldOf c s) (c place) q) ⌝ }
+    ensures { λ r. ⌜ Moved s place r × ((c : ℕ → Cut) → heldOf c r ≡ better (heldOf c s) (c place) q) ⌝ }
 {
     if s.held {
         return Spot {
@@ -131,5 +123,19 @@ pub fn better_spot(s: Spot, place: usize, q: f64) -> Spot
         held: true,
         proxy: q,
         place,
+    }
+}
+
+// What is held once a column was tried: the cut c that it has at the place of s, with the rows before that place, which are its true side; or what was held before the column.
+pub fn held_at(h: Candidate, s: Spot, c: Cut) -> Candidate
+    ensures { λ r. ⌜ HeldAt h s c r ⌝ }
+{
+    if s.place == 0 {
+        return h;
+    }
+    let n = s.place - 1;
+    Candidate {
+        held: Held::Holds(c, s.proxy),
+        rows: n,
     }
 }

@@ -32,7 +32,7 @@ apart w =
       start = w .start;
       end = w .end;
       level = w .level;
-      count = w .count;
+      rows = w .rows;
       feature = w .feature;
       sum = w .totals .sum;
       mass = w .totals .mass;
@@ -46,7 +46,7 @@ together w =
       start = w .start;
       end = w .end;
       level = w .level;
-      count = w .count;
+      rows = w .rows;
       feature = w .feature;
       totals = record { sum = w .sum; mass = w .mass };
       threshold = w .cut;

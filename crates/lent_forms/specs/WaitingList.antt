@@ -13,7 +13,7 @@ use Rattle.lent_forms.specs.declared.Popped.the-variants.{Nothing, Top}
 
 -- what is read where a list has no entry
 abbrev pub noEntry : Waiting
-noEntry = record { node = 0; start = 0; end = 0; level = 0; count = 0; feature = 0; totals = record { sum = nan; mass = nan }; threshold = nan }
+noEntry = record { node = 0; start = 0; end = 0; level = 0; rows = 0; feature = 0; totals = record { sum = nan; mass = nan }; threshold = nan }
 
 -- the list with w at n; a list that is no longer than n has no such place, and stays as it is
 abbrev pub pushed : List Waiting → ℕ → Waiting → Outcome Bool (List Waiting)
@@ -25,7 +25,7 @@ popped l n = cond (ltb 0 n && leb n (length l)) (Top (getD l (n - 1) noEntry)) N
 
 -- an entry whose numbers are all zero
 abbrev pub zeroEntry : Waiting
-zeroEntry = record { node = 0; start = 0; end = 0; level = 0; count = 0; feature = 0; totals = record { sum = nought; mass = nought }; threshold = nought }
+zeroEntry = record { node = 0; start = 0; end = 0; level = 0; rows = 0; feature = 0; totals = record { sum = nought; mass = nought }; threshold = nought }
 
 -- such a list as a form of the waiting list that a fit is lent
 abbrev pub listed : WaitingForm (List Waiting)

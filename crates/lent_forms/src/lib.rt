@@ -12,13 +12,13 @@ pub fn add_to(t: &mut Totals, y: f64, m: f64)
     *t = criterion::take_in(*t, y, m);
 }
 
-// A node that waits: its number, where its rows lie, its level and count, the feature of the cut that its search found, its totals, and the cut's threshold.
+// A node that waits: its number, where its rows lie, its level, how many of them are on the true side of the cut that its search found, the cut's feature, the node's totals, and the cut's threshold.
 pub struct Waiting {
     pub node: u32,
     pub start: u32,
     pub end: u32,
     pub level: u32,
-    pub count: u32,
+    pub rows: u32,
     pub feature: u32,
     pub totals: Totals,
     pub threshold: f64,

@@ -13,7 +13,7 @@ use Rattle.node_entries.specs.declared.NodeEntry.{NodeEntry}
 -- ---- a waiting node
 
 abbrev pub wholesOf : WaitingNode → List ℕ
-wholesOf w = w .node ∷ w .start ∷ w .end ∷ w .level ∷ w .count ∷ w .feature ∷ []
+wholesOf w = w .node ∷ w .start ∷ w .end ∷ w .level ∷ w .rows ∷ w .feature ∷ []
 
 abbrev pub realsOf : WaitingNode → List Float
 realsOf w = w .sum ∷ w .mass ∷ w .cut ∷ []
@@ -25,7 +25,7 @@ waitingIn w r =
       start = getD w 1 0;
       end = getD w 2 0;
       level = getD w 3 0;
-      count = getD w 4 0;
+      rows = getD w 4 0;
       feature = getD w 5 0;
       sum = getD r 0 nan;
       mass = getD r 1 nan;

@@ -6,13 +6,13 @@ ghost use Rattle.rules.specs.Lent.{columnsOf};
 ghost use Rattle.node_entries.specs.Entries.{wholesOf, realsOf, waitingAt, LongAll, putEntry, leafFor, wroteSplit};
 use rules::Totals;
 
-// A node that waits: its number, where its rows lie, its level and count, its totals, and the cut that its search found.
+// A node that waits: its number, where its rows lie, its level, its totals, and the cut that its search found, with how many rows are on the true side.
 pub struct WaitingNode {
     pub node: u32,
     pub start: u32,
     pub end: u32,
     pub level: u32,
-    pub count: u32,
+    pub rows: u32,
     pub feature: u32,
     pub sum: f64,
     pub mass: f64,
@@ -33,7 +33,7 @@ pub fn push(wholes: &mut [[u32; 6]], reals: &mut [[f64; 3]], n: usize, w: Waitin
     requires { ⌜ (n < length (now wholes)) × (n < length (now reals)) ⌝ }
     ensures { λ _. ⌜ (now (wholes .exit) ≡ set (now (wholes .entry)) n (wholesOf w)) × (now (reals .exit) ≡ set (now (reals .entry)) n (realsOf w)) ⌝ }
 {
-    wholes[n] = [w.node, w.start, w.end, w.level, w.count, w.feature];
+    wholes[n] = [w.node, w.start, w.end, w.level, w.rows, w.feature];
     reals[n] = [w.sum, w.mass, w.cut];
 }
 
@@ -48,7 +48,7 @@ pub fn top(wholes: &[[u32; 6]], reals: &[[f64; 3]], i: usize) -> WaitingNode
         start: w[1],
         end: w[2],
         level: w[3],
-        count: w[4],
+        rows: w[4],
         feature: w[5],
         sum: r[0],
         mass: r[1],

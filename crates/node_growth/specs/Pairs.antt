@@ -78,12 +78,12 @@ pub record PairAsks (g : Ground) (P : Params) (W : List ℕ) (wholes : List (Lis
   pub two : q .sides ≤ 2
   pub small : q .node + q .sides < 4294967296
   pub each : (k : ℕ) → k < q .sides → SideAsks g (length wholes) (length reals) q s k
-  pub laid : Laid wholes reals (q .from) (s .waiting)
+  pub laid : Laid g wholes reals (q .from) (s .waiting)
 
 pub record PairDone (g : Ground) (P : Params) (W : List ℕ) (M : List Float) (wholes : List (List ℕ)) (reals : List (List Float)) (wholes′ : List (List ℕ)) (reals′ : List (List Float))
     (q : Pair) (s : Stand) (r : Step) : Type 0 where
   pub same : sought g P W M wholes reals q s ≡ meantStep g W M wholes′ reals′ r
-  pub laid : LaidStep wholes′ reals′ (edge q (q .sides)) r
+  pub laid : LaidStep g wholes′ reals′ (edge q (q .sides)) r
   pub fair : FairStep W r
 
 -- ---- the loop over them: what is left to search of what now waits is what was to be searched
@@ -92,7 +92,7 @@ pub record Searching (g : Ground) (P : Params) (W : List ℕ) (M : List Float) (
     (wholes : List (List ℕ)) (reals : List (List Float)) (t : Stand) (k : ℕ) : Type 0 where
   pub within : k ≤ q .sides
   pub same : soughtFrom g P q (q .sides - k) k (waitingList g wholes reals (t .waiting)) (drawsAt W M (t .drawn)) ≡ sought g P W M wholes₀ reals₀ q s
-  pub laid : Laid wholes reals (edge q k) (t .waiting)
+  pub laid : Laid g wholes reals (edge q k) (t .waiting)
   pub most : t .waiting ≤ s .waiting + k
   pub fair : Fair W (t .drawn)
   pub waiting-wholes : length wholes ≡ length wholes₀
@@ -116,7 +116,7 @@ module _ (g : Ground) (P : Params) (W : List ℕ) (M : List Float) (wholes₀ : 
     searching-end e =
         record {
           same = sym (i .same) ∙ ap (λ n. soughtFrom g P q n k (waitingList g wholes reals (t .waiting)) (drawsAt W M (t .drawn))) (none (q .sides) k e);
-          laid = subst (λ n. Laid wholes reals (edge q n) (t .waiting)) (all k (q .sides) (i .within) e) (i .laid);
+          laid = subst (λ n. Laid g wholes reals (edge q n) (t .waiting)) (all k (q .sides) (i .within) e) (i .laid);
           fair = i .fair;
         }
       where
@@ -173,8 +173,8 @@ module _ (g : Ground) (P : Params) (W : List ℕ) (M : List Float) (wholes₀ : 
             record {
               within = omega (arith, m);
               same = sym (stepped ∙ ap (λ z. bind (meantStep g W M wholes′ reals′ z) next) er);
-              laid = subst (λ n. Laid wholes′ reals′ (edge q n) (u .waiting)) (sym (add-one k))
-                  (subst (LaidStep wholes′ reals′ (stretchAt q k .to)) er
+              laid = subst (λ n. Laid g wholes′ reals′ (edge q n) (u .waiting)) (sym (add-one k))
+                  (subst (LaidStep g wholes′ reals′ (stretchAt q k .to)) er
                   (d′ .laid (edge q k) (i .laid) (omega (arith, i .most, h .each k m .place)) (reached k (omega (arith, m, h .two))) (h .each k m .node .ordered)));
               most = let n : u .waiting ≤ t .waiting + 1 = subst (MostStep (t .waiting + 1)) er (d′ .most) in omega (arith, n, i .most);
               fair = subst (FairStep W) er (d′ .fair);

@@ -1,7 +1,7 @@
 -- The children of a node that was taken off the waiting list. Where neither is searched, the rest of the list stands over the columns as they are;
 -- else the columns are parted by the flags, and each side's rows lie together. Assumes nothing.
 use Prim.Native.Nat.{ℕ, zero, suc, _+_, _<_, _≤_}
-use native.Mathlib.Nat.{le-refl, lt-of-le-of-lt, add-zero}
+use native.Mathlib.Nat.{le-refl, add-zero}
 use native.Mathlib.Omega.{arith}
 use mathlib.Core.Path.{_≡_, refl, sym, ap, _∙_, subst}
 use mathlib.Core.Logic.{inl}
@@ -32,16 +32,16 @@ use Rattle.node_growth.specs.declared.Pair.{Pair}
 use Rattle.node_growth.specs.declared.Stand.{Stand}
 use Rattle.node_growth.specs.Rooms.{Ground, cutOf, askedOf, nodeRows, waitingOf, waitingList, BelowTo, Taken}
 use Rattle.node_growth.specs.Pairs.{sought, edge, SideAsks, PairAsks, child-both, child-neither, childrenWith, soughtTwo, PartAsks, PartDone}
-use Rattle.node_growth.specs.InColumns.{withOrder, column-at, child-rows, below-still, good-alike, good-room, good-cleft, good-asks, part-short, ones-map, rows-of}
+use Rattle.node_growth.specs.InColumns.{withOrder, column-at, child-rows, below-still, laid-still, good-alike, good-cleft, good-asks, part-short, ones-map, rows-of}
 
 -- ---- a node's ends as the code widened them
 
 ends-at : (Q : ℕ → ℕ → Type 0) {a e a′ e′ : ℕ} → a′ ≡ a → e′ ≡ e → Q a e → Q a′ e′
 ends-at Q {a} {e} {a′} {e′} ea ee h = subst (λ z. Q z e′) (sym ea) (subst (Q a) (sym ee) h)
 
-pub split-at : {rows features a e a′ e′ fl : ℕ} {x y ws : List Float} {ks order : List ℕ} {c : Cut} → a′ ≡ a → e′ ≡ e → SplitAsks rows features a e x y ws ks c order fl
-    → SplitAsks rows features a′ e′ x y ws ks c order fl
-split-at {rows} {features} {a} {e} {a′} {e′} {fl} {x} {y} {ws} {ks} {order} {c} = ends-at (λ u v. SplitAsks rows features u v x y ws ks c order fl)
+pub split-at : {rows features a e a′ e′ n fl : ℕ} {x y ws : List Float} {ks order : List ℕ} {c : Cut} → a′ ≡ a → e′ ≡ e → SplitAsks rows features a e x y ws ks c order n fl
+    → SplitAsks rows features a′ e′ x y ws ks c order n fl
+split-at {rows} {features} {a} {e} {a′} {e′} {n} {fl} {x} {y} {ws} {ks} {order} {c} = ends-at (λ u v. SplitAsks rows features u v x y ws ks c order n fl)
 
 pub done-at : {rows a e a′ e′ : ℕ} {el : ℕ → Element} {c : Cut} {order : List ℕ} {fl : List Bool} {h : Sides} → a′ ≡ a → e′ ≡ e → SplitDone rows a′ e′ el c order fl h
     → SplitDone rows a e el c order fl h
@@ -85,35 +85,33 @@ module _ (g : Ground) (P : Params) (W : List ℕ) (sc : ℕ) (flags : List Bool)
       some-rows : w .start < w .end
       some-rows = rows-of (g .rows) (g .order) (w .start) (w .end) (w .feature) el (goesTrue (cutOf w)) (subst (λ z. 0 < total (λ x. 1) (trueSide (cutOf w) z)) (sym mine) (q .ripe .fine .someTrue))
 
-  pub taken-splits : w .count < 4294967296
-      → SplitAsks (g .rows) (g .features) (w .start) (w .end) (g .tables .values) (g .tables .targets) (g .tables .weights) (g .tables .counts) (cutOf w)
-      (g .order) (length flags)
-  taken-splits m =
+  pub taken-splits : SplitAsks (g .rows) (g .features) (w .start) (w .end) (g .tables .values) (g .tables .targets) (g .tables .weights) (g .tables .counts) (cutOf w)
+      (g .order) (w .rows) (length flags)
+  taken-splits =
       record {
         shaped = record { tables = record { counted = q .shape .counted; weighed = q .shape .weighed }; wide = q .shape .wide; targeted = q .shape .targets };
-        few = q .small;
         known = known;
         long = omega (arith, q .long);
         ordered = q .ordered;
         high = q .high;
         flagRoom = q .flag-room;
         below = λ k h. part-every (λ r. r < g .rows) (g .rows) k 0 (w .end) (w .start) (w .end) (g .order) (omega arith) (le-refl (w .end)) (q .ordered) (q .below k h);
-        alike = λ k h. good-alike g P (q .same) (w .start) (w .end) (askedOf w) (q .ripe .good) (w .feature) k known h;
-        count = lt-of-le-of-lt (good-room g P (q .same) (w .start) (w .end) (askedOf w) (q .ripe .good) (w .feature) known) m;
-        cleft = good-cleft g P (q .same) (w .start) (w .end) (askedOf w) (q .ripe .good) (cutOf w) known;
+        alike = λ k h. good-alike g P (q .same) (w .start) (w .end) (askedOf g w) (q .ripe .good) (w .feature) k known h;
+        count = q .sized .small;
+        cleft = good-cleft g P (q .same) (w .start) (w .end) (askedOf g w) (q .ripe .good) (cutOf w) known (w .rows) (q .sized .rows);
       }
 
   module _ (h : Sides) (d : SplitDone (g .rows) (w .start) (w .end) el (cutOf w) (g .order) flags h) where
     -- what the partition asks, and the numbers of the children
-    pub part-asks : w .count < 4294967296 → PartAsks (g .rows) (g .features) (g .order) sc flags w h
-    part-asks m =
+    pub part-asks : PartAsks (g .rows) (g .features) (g .order) sc flags w h
+    part-asks =
         record {
           columns =
               columns-ask (g .rows) (g .features) (w .start) (w .end) (g .tables .values) (g .tables .targets) (g .tables .weights) (g .tables .counts) (cutOf w)
-              (g .order) sc (length flags) (taken-splits m) (q .scratch-room);
+              (g .order) (w .rows) sc (length flags) taken-splits (q .scratch-room);
           split =
               marked-parted (goes el (cutOf w)) flags rows-of-split rows-of-split (λ f. refl) (d .marks)
-              ∙ cleft-parted (goes el (cutOf w)) rows-of-split (taken-splits m .cleft);
+              ∙ cleft-parted (goes el (cutOf w)) rows-of-split (w .rows) (taken-splits .cleft);
           level = q .level;
           mid = omega (arith, d .within, q .ordered, q .high, q .small);
         }
@@ -138,7 +136,7 @@ module _ (g : Ground) (P : Params) (W : List ℕ) (sc : ℕ) (flags : List Bool)
     sides-fit = omega (arith, d .within, q .ordered)
 
     -- parted by the flags
-    module _ (m : w .count < 4294967296) (order′ : List ℕ) (e : order′ ≡ partedColumns (g .rows) (w .start) (w .end) (flagged flags) (g .features) (g .order)) where
+    module _ (order′ : List ℕ) (e : order′ ≡ partedColumns (g .rows) (w .start) (w .end) (flagged flags) (g .features) (g .order)) where
       abbrev g′ : Ground
       g′ = withOrder g order′
 
@@ -148,23 +146,23 @@ module _ (g : Ground) (P : Params) (W : List ℕ) (sc : ℕ) (flags : List Bool)
       long : length order′ ≡ length (g .order)
       long =
           split-long (g .rows) (g .features) (w .start) (w .end) (g .tables .values) (g .tables .targets) (g .tables .weights) (g .tables .counts) (cutOf w)
-          (g .order) order′ flags h (taken-splits m) d e
+          (g .order) order′ flags h (w .rows) taken-splits d e
 
       below : (j : ℕ) → w .end ≤ j → j ≤ g .rows → BelowTo g j → BelowTo g′ j
       below j u v b k l =
           split-every (g .rows) (g .features) (w .start) (w .end) (g .tables .values) (g .tables .targets) (g .tables .weights) (g .tables .counts) (cutOf w)
-          (g .order) order′ flags h (taken-splits m) d e
+          (g .order) order′ flags h (w .rows) taken-splits d e
           (λ r. r < g .rows) k j l u v (b k l)
 
       part-true : (k : ℕ) → k < g .features → part (g .rows) k (w .start) mid order′ ≡ keep (λ r. goesTrue (cutOf w) (el r)) (part (g .rows) k (w .start) (w .end) (g .order))
       part-true =
           true-part (g .rows) (g .features) (w .start) (w .end) (g .tables .values) (g .tables .targets) (g .tables .weights) (g .tables .counts) (cutOf w)
-          (g .order) order′ flags h (taken-splits m) d e
+          (g .order) order′ flags h (w .rows) taken-splits d e
 
       part-false : (k : ℕ) → k < g .features → part (g .rows) k mid (w .end) order′ ≡ keep (λ r. not (goesTrue (cutOf w) (el r))) (part (g .rows) k (w .start) (w .end) (g .order))
       part-false =
           false-part (g .rows) (g .features) (w .start) (w .end) (g .tables .values) (g .tables .targets) (g .tables .weights) (g .tables .counts) (cutOf w)
-          (g .order) order′ flags h (taken-splits m) d e
+          (g .order) order′ flags h (w .rows) taken-splits d e
 
       true-rows : nodeRows g′ (w .start) mid (h .trueside) ≡ child onTrue top
       true-rows = child-rows g w order′ onTrue (w .start) mid (h .trueside) known part-true true-side
@@ -220,14 +218,14 @@ module _ (g : Ground) (P : Params) (W : List ℕ) (sc : ℕ) (flags : List Bool)
           over : (k : ℕ) → suc (suc k) < 2 → ⊥
           over k u = omega arith
 
+      beside : (k b f : ℕ) → b ≤ f → f ≤ w .start → part (g .rows) k b f order′ ≡ part (g .rows) k b f (g .order)
+      beside k b f o u =
+          split-beside (g .rows) (g .features) (w .start) (w .end) (g .tables .values) (g .tables .targets) (g .tables .weights) (g .tables .counts)
+          (cutOf w) (g .order) order′ flags h (w .rows) taken-splits d e
+          k b f (inl u) o (omega (arith, u, q .ordered, q .high))
+
       under : waitingList g′ wholes reals (s .waiting) ≡ waitingList g wholes reals (s .waiting)
       under = below-still g order′ (w .start) beside wholes reals (w .start) (s .waiting) (le-refl (w .start)) (q .laid)
-        where
-          beside : (k b f : ℕ) → b ≤ f → f ≤ w .start → part (g .rows) k b f order′ ≡ part (g .rows) k b f (g .order)
-          beside k b f o u =
-              split-beside (g .rows) (g .features) (w .start) (w .end) (g .tables .values) (g .tables .targets) (g .tables .weights) (g .tables .counts)
-              (cutOf w) (g .order) order′ flags h (taken-splits m) d e
-              k b f (inl u) o (omega (arith, u, q .ordered, q .high))
 
       both-sought : (M : List Float) → SidesDone g g′ P W M wholes reals w n s (childrenWith w n h 2)
       both-sought M =
@@ -244,7 +242,7 @@ module _ (g : Ground) (P : Params) (W : List ℕ) (sc : ℕ) (flags : List Bool)
               two = le-refl 2;
               small = q .number;
               each = each;
-              laid = q .laid;
+              laid = laid-still g order′ (w .start) beside wholes reals (w .start) (s .waiting) (le-refl (w .start)) (q .laid);
             };
             long = long;
             below = below;
@@ -285,13 +283,13 @@ module _ (g : Ground) (P : Params) (W : List ℕ) (sc : ℕ) (flags : List Bool)
         second = sym (ap (λ z. searchable P (w .level + 1) (bare z)) false-child) ∙ neither (searchable P (w .level + 1) (bare (h .trueside))) (searchable P (w .level + 1) (bare (h .falseside))) e .1
 
     -- by what the code did
-    pub sides-sought : w .count < 4294967296 → (M : List Float) (order′ : List ℕ) (r : Pair) → PartDone (g .rows) (g .features) (g .order) order′ flags P w n h r
+    pub sides-sought : (M : List Float) (order′ : List ℕ) (r : Pair) → PartDone (g .rows) (g .features) (g .order) order′ flags P w n h r
         → SidesDone g (withOrder g order′) P W M wholes reals w n s r
-    sides-sought m M order′ r p = go (searchable P (w .level + 1) (bare (h .trueside)) || searchable P (w .level + 1) (bare (h .falseside))) refl
+    sides-sought M order′ r p = go (searchable P (w .level + 1) (bare (h .trueside)) || searchable P (w .level + 1) (bare (h .falseside))) refl
       where
         go : (b : Bool) → (searchable P (w .level + 1) (bare (h .trueside)) || searchable P (w .level + 1) (bare (h .falseside))) ≡ b
             → SidesDone g (withOrder g order′) P W M wholes reals w n s r
-        go true e = subst (SidesDone g (withOrder g order′) P W M wholes reals w n s) (sym is) (both-sought m order′ (p .searched (λ z. some (sym (ap (λ (x : Pair). x .sides) is) ∙ z))) M)
+        go true e = subst (SidesDone g (withOrder g order′) P W M wholes reals w n s) (sym is) (both-sought order′ (p .searched (λ z. some (sym (ap (λ (x : Pair). x .sides) is) ∙ z))) M)
           where
             is : r ≡ childrenWith w n h 2
             is = p .pair ∙ ap (childrenWith w n h) (sym (child-both P (w .level + 1) (h .trueside) (h .falseside) e))

@@ -6,7 +6,7 @@ ghost use Rattle.rules.specs.Lent.{columnsOf};
 ghost use Rattle.rules.specs.Fit.{elementIn};
 ghost use Rattle.work_columns.specs.Split.{SplitAsks, SplitDone};
 ghost use Rattle.node_entries.specs.Entries.{LongAll};
-ghost use Rattle.node_growth.specs.Rooms.{groundOf, PushDone, ChildAsks, ChildDone, cutOf, wroteSides};
+ghost use Rattle.node_growth.specs.Rooms.{groundOf, RowsTo, PushDone, ChildAsks, ChildDone, cutOf, wroteSides};
 ghost use Rattle.node_growth.specs.Pairs.{stretchAt, PairAsks, PairDone, rootSides, rootPair, childSides, childrenOf, PartAsks, PartDone};
 use criterion::Side;
 use node_entries::WaitingNode;
@@ -63,25 +63,27 @@ pub fn push_found(
     d: Drawn,
     r: Search,
 ) -> Step
-    requires { ⌜ (n < length (now wholes)) × (n < length (now reals)) ⌝ }
+    requires { ⌜ (n < length (now wholes)) × (n < length (now reals)) × RowsTo to r ⌝ }
     ensures { λ s. ⌜ PushDone (now (wholes .entry)) (now (reals .entry)) (now (wholes .exit)) (now (reals .exit)) n node level from to a d r s ⌝ }
 {
     let Search::Goes(h, e) = r else {
         return Step::Refused(d.searches);
     };
-    match h {
+    let g = h.held;
+    match g {
         Held::Nothing => Step::Goes(Stand {
             waiting: n,
             drawn: e,
         }),
         Held::Holds(c, _) => {
             let t = a.totals;
+            let m = h.rows as u32;
             let w = WaitingNode {
                 node,
                 start: from,
                 end: to,
                 level,
-                count: a.count,
+                rows: m,
                 feature: c.feature,
                 sum: t.sum,
                 mass: t.mass,
@@ -166,7 +168,7 @@ pub fn split_node(
     w: WaitingNode,
     n: u32,
 ) -> Sides
-    requires { ⌜ SplitAsks rows features (w .start) (w .end) (now values) (now targets) (now weights) (now counts) (cutOf w) (now order) (length (now flags)) ⌝ }
+    requires { ⌜ SplitAsks rows features (w .start) (w .end) (now values) (now targets) (now weights) (now counts) (cutOf w) (now order) (w .rows) (length (now flags)) ⌝ }
     requires { ⌜
         LongAll (n + 2) (columnsOf (now value) (now feature) (now threshold) (now score) (now truechild) (now falsechild)) × (w .node < n) × (n + 2 < 4294967296) ⌝ }
     ensures { λ s. ⌜
@@ -192,6 +194,7 @@ pub fn split_node(
         slices::wide(w.start),
         slices::wide(w.end),
         c,
+        w.rows,
     );
     let a = s.trueside;
     let b = s.falseside;

@@ -1,5 +1,5 @@
 -- The definition by the code's branches. Each law takes what the tests and the calls on the way gave, in their order. Assumes nothing.
-use Prim.Native.Nat.{ℕ, _+_, _-_, _<_, _≤_}
+use Prim.Native.Nat.{ℕ, suc, _+_, _-_, _<_, _≤_}
 use native.Mathlib.Nat.{add-assoc, zero-add}
 use native.Mathlib.Omega.{arith}
 use native.Mathlib.Numerals.{add-one}
@@ -21,10 +21,11 @@ use Rattle.rules.specs.Totals.{takeIn, less, proxy, empty}
 use Rattle.rules.specs.Lent.{cell, countIn, massIn}
 use Rattle.rules.specs.Fit.{elementIn}
 use Rattle.criterion.specs.declared.Side.{Side}
-use Rattle.criterion.specs.Sides.{sideOn, joined}
+use Rattle.criterion.specs.Sides.{joined}
 use Rattle.candidates.specs.Held.{bare}
 use Rattle.search.specs.declared.Cell.{Cell}
-use Rattle.search.specs.Flat.{Tables, elementOf, cellOf, stepIn, step-cell, tooFew, cutBetween, sideStep}
+use Rattle.search.specs.declared.random.TrueSide.{TrueSide}
+use Rattle.search.specs.Flat.{Tables, elementOf, cellOf, stepIn, step-cell, tooFew, cutBetween, sideStep, trueOn}
 
 module _ (P : Params) (a : Side) (h : Held) (t : Totals) (k : ℕ) (c : Cut) where
   judge-by : (b : Bool) → tooFew P a k ≡ b → judge P (bare a) h t k c ≡ cond b h (better h c (proxy t (less (a .totals) t)))
@@ -102,46 +103,75 @@ turn-end el l i h P a j v = ap (λ r. sweep P (bare a) j v (map el r)) (drop-of-
 
 -- ---- the true side, gathered row by row onto what stands
 
-abbrev pub onto : Cut → Side → Column → Side
-onto c s es = record { totals = totalsOf (s .totals) (trueSide c es); count = s .count + tally (trueSide c es) }
+abbrev pub onto : Cut → TrueSide → Column → TrueSide
+onto c s es =
+    record {
+      side = record { totals = totalsOf (s .side .totals) (trueSide c es); count = s .side .count + tally (trueSide c es) };
+      rows = s .rows + length (trueSide c es);
+    }
 
-onto-step : (c : Cut) (s : Side) (e : Element) (es : Column) → onto c (sideStep (c .threshold) s (cellOf (c .feature) e)) es ≡ onto c s (e ∷ es)
+-- no row yet
+abbrev pub noRow : TrueSide
+noRow = record { side = record { totals = empty; count = 0 }; rows = 0 }
+
+onto-step : (c : Cut) (s : TrueSide) (e : Element) (es : Column) → onto c (sideStep (c .threshold) s (cellOf (c .feature) e)) es ≡ onto c s (e ∷ es)
 unfolding sideStep cellOf keep goesTrue joined total totalsOf putIf
 onto-step c s e es = go (le (at (c .feature) e) (c .threshold))
   where
-    go : (b : Bool) → onto c (cond b (joined s (e .target) (e .mass) (e .count)) s) es
-        ≡ record { totals = totalsOf (s .totals) (putIf b e (trueSide c es)); count = s .count + tally (putIf b e (trueSide c es)) }
-    go true = λ i. record { totals = totalsOf (takeIn (s .totals) (e .target) (e .mass)) (trueSide c es); count = add-assoc (s .count) (e .count) (tally (trueSide c es)) i }
+    go : (b : Bool) → onto c (cond b (record { side = joined (s .side) (e .target) (e .mass) (e .count); rows = s .rows + 1 }) s) es
+        ≡ record {
+          side = record { totals = totalsOf (s .side .totals) (putIf b e (trueSide c es)); count = s .side .count + tally (putIf b e (trueSide c es)) };
+          rows = s .rows + length (putIf b e (trueSide c es));
+        }
+    go true = λ i.
+        record {
+          side = record { totals = totalsOf (takeIn (s .side .totals) (e .target) (e .mass)) (trueSide c es); count = add-assoc (s .side .count) (e .count) (tally (trueSide c es)) i };
+          rows = one (s .rows) (length (trueSide c es)) i;
+        }
+      where
+        one : (n m : ℕ) → n + 1 + m ≡ n + suc m
+        one n m = omega arith
     go false = refl
 
-side-most : (t : Float) (s : Side) (e : Cell) → sideStep t s e .count ≤ s .count + e .count
+side-most : (t : Float) (s : TrueSide) (e : Cell) → (sideStep t s e .side .count ≤ s .side .count + e .count) × (sideStep t s e .rows ≤ s .rows + 1)
 unfolding sideStep joined
 side-most t s e = go (le (e .value) t)
   where
-    go : (b : Bool) → cond b (joined s (e .target) (e .mass) (e .count)) s .count ≤ s .count + e .count
-    go true = omega arith
-    go false = omega arith
+    next : Bool → TrueSide
+    next b = cond b (record { side = joined (s .side) (e .target) (e .mass) (e .count); rows = s .rows + 1 }) s
+
+    go : (b : Bool) → (next b .side .count ≤ s .side .count + e .count) × (next b .rows ≤ s .rows + 1)
+    go true = (omega arith, omega arith)
+    go false = (omega arith, omega arith)
 
 module _ (el : ℕ → Element) (l : List ℕ) (i : ℕ) (h : i < length l) where
-  pub turn-side : (j : ℕ) (t : Float) (s : Side) {e : Cell} {s′ : Side} → e ≡ cellOf j (el (getD l i 0)) → s′ ≡ sideStep t s e
+  pub turn-side : (j : ℕ) (t : Float) (s : TrueSide) {e : Cell} {s′ : TrueSide} → e ≡ cellOf j (el (getD l i 0)) → s′ ≡ sideStep t s e
       → onto (record { feature = j; threshold = t }) s′ (map el (drop (i + 1) l)) ≡ onto (record { feature = j; threshold = t }) s (map el (drop i l))
   turn-side j t s ee es =
       ap (λ u. onto (record { feature = j; threshold = t }) u (map el (drop (i + 1) l))) (es ∙ ap (sideStep t s) ee)
       ∙ onto-step (record { feature = j; threshold = t }) s (el (getD l i 0)) (map el (drop (i + 1) l))
       ∙ sym (ap (onto (record { feature = j; threshold = t }) s) (ahead el l i h))
 
-  pub turn-most : (j : ℕ) (t : Float) (s : Side) (n : ℕ) {e : Cell} {s′ : Side} → e ≡ cellOf j (el (getD l i 0)) → s′ ≡ sideStep t s e
-      → s .count + tally (map el (drop i l)) ≤ n → s′ .count + tally (map el (drop (i + 1) l)) ≤ n
+  pub turn-most : (j : ℕ) (t : Float) (s : TrueSide) (n : ℕ) {e : Cell} {s′ : TrueSide} → e ≡ cellOf j (el (getD l i 0)) → s′ ≡ sideStep t s e
+      → s .side .count + tally (map el (drop i l)) ≤ n → s .rows ≤ i → (s′ .side .count + tally (map el (drop (i + 1) l)) ≤ n) × (s′ .rows ≤ i + 1)
   unfolding total cellOf
-  turn-most j t s n {e} {s′} ee es b = omega (arith, b, ap tally (ahead el l i h), ap (λ (x : Cell). x .count) ee, ap (λ (x : Side). x .count) es, side-most t s e)
+  turn-most j t s n {e} {s′} ee es b k =
+      let m = side-most t s e in (
+        omega (arith, b, ap tally (ahead el l i h), ap (λ (x : Cell). x .count) ee, ap (λ (x : TrueSide). x .side .count) es, m .0),
+        omega (arith, k, ap (λ (x : TrueSide). x .rows) es, m .1),
+      )
 
-pub side-end : (el : ℕ → Element) (l : List ℕ) (i : ℕ) → length l ≤ i → (c : Cut) (s : Side) → onto c s (map el (drop i l)) ≡ onto c (record { totals = empty; count = 0 }) (map el l)
-    → s ≡ sideOn (trueSide c (map el l))
+pub side-end : (el : ℕ → Element) (l : List ℕ) (i : ℕ) → length l ≤ i → (c : Cut) (s : TrueSide) → onto c s (map el (drop i l)) ≡ onto c noRow (map el l)
+    → s ≡ trueOn c (map el l)
 unfolding keep totalsOf total
 side-end el l i h c s e =
-    (λ k. record { totals = s .totals; count = sym (add-zero′ (s .count)) k })
+    (λ k. record { side = record { totals = s .side .totals; count = sym (add-zero′ (s .side .count)) k }; rows = sym (add-zero′ (s .rows)) k })
     ∙ sym (ap (λ r. onto c s (map el r)) (drop-of-length-le l h)) ∙ e
-    ∙ (λ k. record { totals = totalsOf empty (trueSide c (map el l)); count = zero-add (tally (trueSide c (map el l))) k })
+    ∙ (λ k.
+    record {
+      side = record { totals = totalsOf empty (trueSide c (map el l)); count = zero-add (tally (trueSide c (map el l))) k };
+      rows = zero-add (length (trueSide c (map el l))) k;
+    })
   where
     add-zero′ : (n : ℕ) → n + 0 ≡ n
     add-zero′ n = omega arith

@@ -3,22 +3,23 @@ use Prim.Native.Nat.{ℕ, zero, suc, _+_, _-_, _<_}
 use native.Mathlib.Omega.{arith}
 use native.Mathlib.Numerals.{add-one}
 use mathlib.Core.Path.{_≡_, refl, sym, ap, _∙_, subst}
+use mathlib.Core.Logic.{_⊎_, inl, inr}
 use mathlib.Core.Bool.{Bool, true, false, not, cond}
 use mathlib.Core.List.{List}
-use lib.ListN.{getD}
+use lib.ListN.{length, getD}
 use lib.Dec.{T}
 use lib.Ieee.{Float, binary64, ofBits, fits, eq}
 use Rattle.floats.specs.Zero.{eq-same}
 use Rattle.rules.specs.declared.Cut.{Cut}
-use Rattle.rules.specs.declared.Held.the-variants.{Nothing, Holds}
 use Rattle.rules.specs.Lent.{cell}
 use Rattle.rules.specs.Threshold.{thresholdBetween}
 use Rattle.rules.specs.Words.{nought}
 use Rattle.candidates.specs.declared.Spot.{Spot}
-use Rattle.candidates.specs.Held.{heldOf}
+use Rattle.candidates.specs.Held.{Moved}
 use Rattle.search.specs.declared.Cell.{Cell}
+use Rattle.search.specs.declared.best.Run.{Run}
 use Rattle.search.specs.Laws.{value-is}
-use Rattle.search.specs.Flat.{Tables, elementOf, cellOf, cutBetween, runAt, cutsIn}
+use Rattle.search.specs.Flat.{Tables, elementOf, cellOf, cutBetween, runAt, cutsIn, Stepped, Stood}
 
 module _ (v : ℕ → Float) (l : List ℕ) where
   pub run-next : (i : ℕ) → runAt v l (i + 1) ≡ cond (eq (v (getD l i 0)) (runAt v l i)) (runAt v l i) (v (getD l i 0))
@@ -63,19 +64,25 @@ module _ (f : ℕ) (t : Tables) (j : ℕ) (l : List ℕ) (i : ℕ) {e : Cell} (e
   pub turn-run : {u : Float} → u ≡ cond (eq (e .value) z) z (e .value) → u ≡ runAt (cell f (t .values) j) l (i + 1)
   turn-run eu = eu ∙ (λ k. cond (eq (turn-value k) (ez k)) (ez k) (turn-value k)) ∙ sym (run-next (cell f (t .values) j) l i)
 
+-- where what is held stands
+
+pub moved-step : (w : Run) (e : Cell) {s r : Spot} {n : ℕ} → s ≡ w .spot → eq (e .value) (w .last) ≡ false → Moved s n r
+    → (r ≡ w .spot) ⊎ ((r .held ≡ true) × (r .place ≡ n) × (eq (e .value) (w .last) ≡ false))
+moved-step w e es q (inl m) = inl (m ∙ es)
+moved-step w e es q (inr m) = inr (m .0, m .1, q)
+
+-- one turn at place i
+pub turn-stood : (f : ℕ) (t : Tables) (j : ℕ) (l : List ℕ) (i : ℕ) → i < length l → (s : Spot) (w r : Run) (e : Cell) → e ≡ cellOf j (elementOf f t (getD l i 0))
+    → w .last ≡ runAt (cell f (t .values) j) l i → Stepped w e (i + 1) r → Stood (cell f (t .values) j) l s (w .spot) → Stood (cell f (t .values) j) l s (r .spot)
+turn-stood f t j l i h s w r e ee ez (inl m) g = subst (Stood (cell f (t .values) j) l s) (sym m) g
+turn-stood f t j l i h s w r e ee ez (inr m) g =
+    inr (i, m .0, m .1, h, sym (λ k. eq (turn-value f t j l i ee ez k) (ez k)) ∙ m .2)
+
 -- ---- what is held once the column is swept
 
-module _ (f : ℕ) (x : List Float) (j : ℕ) (l : List ℕ) (b : Cut) (s : Spot) where
-  held-at : s .held ≡ true → {n : ℕ} → s .place ≡ n → Holds (cutsIn f x j l b n) (s .proxy) ≡ heldOf (cutsIn f x j l b) s
-  unfolding heldOf
-  held-at h e = ap (λ n. Holds (cutsIn f x j l b n) (s .proxy)) (sym e) ∙ sym (ap (λ z. cond z (Holds (cutsIn f x j l b (s .place)) (s .proxy)) Nothing) h)
-
-  pub held-earlier : s .held ≡ true → s .place ≡ 0 → Holds b (s .proxy) ≡ heldOf (cutsIn f x j l b) s
-  unfolding cutsIn
-  held-earlier h e = held-at h e
-
-  pub held-here : s .held ≡ true → (s .place ≡ 0 → ⊥) → {low high t : Float} → low ≡ runAt (cell f x j) l (s .place - 1) → high ≡ cell f x j (getD l (s .place - 1) 0)
-      → t ≡ thresholdBetween low high → Holds (record { feature = j; threshold = t }) (s .proxy) ≡ heldOf (cutsIn f x j l b) s
-  unfolding cutsIn
-  held-here h n el eh et =
-      ap (λ z. Holds (record { feature = j; threshold = z }) (s .proxy)) (et ∙ (λ k. thresholdBetween (el k) (eh k))) ∙ held-at h (let q : s .place ≡ suc (s .place - 1) = omega (arith, n) in q)
+-- the cut at a place, by the values read again there
+pub cut-again : (f : ℕ) (x : List Float) (j : ℕ) (l : List ℕ) (b : Cut) (n : ℕ) → (n ≡ 0 → ⊥) → {low high t : Float}
+    → low ≡ runAt (cell f x j) l (n - 1) → high ≡ cell f x j (getD l (n - 1) 0) → t ≡ thresholdBetween low high → record { feature = j; threshold = t } ≡ cutsIn f x j l b n
+cut-again f x j l b n h el eh et =
+    ap (λ z. record { feature = j; threshold = z }) (et ∙ (λ k. thresholdBetween (el k) (eh k)))
+    ∙ sym (cut-next f x j l b (n - 1)) ∙ ap (cutsIn f x j l b) (let q : n - 1 + 1 ≡ n = omega (arith, h) in q)

@@ -21,8 +21,9 @@ use Rattle.rules.specs.Totals.{takeIn, empty}
 use Rattle.rules.specs.Draws.{Out, bad, ok, bind, Tapes, tape, nextThreshold, takeThreshold, takeWords}
 use Rattle.criterion.specs.declared.Side.{Side}
 use Rattle.criterion.specs.Sides.{sideOn}
+use Rattle.candidates.specs.declared.Candidate.{Candidate}
 use Rattle.candidates.specs.Held.{bare}
-use Rattle.search.specs.Flat.{Tables, elementOf, left, meantTries, drawAt, nodeRowsAt, drawsAt, Fair, Searched}
+use Rattle.search.specs.Flat.{Tables, elementOf, left, meantTries, drawAt, nodeRowsAt, drawsAt, Fair, RowsTried, Searched}
 use Rattle.search.specs.declared.Drawn.{Drawn}
 use Rattle.search.specs.declared.Search.the-variants as S
 use lib.Seq.{take-take, drop-drop}
@@ -54,12 +55,12 @@ module _ (P : Params) (a : Side) (j : ℕ) (h : Held) (es : Column) (W : List �
   unfolding takeThreshold bind
   draw-out k e = draw-by k false e
 
-  pub draw-good : m < length M → (le lo (getD M m nan) && lt (getD M m nan) hi) ≡ true → {q : Side} {b : Held}
-      → q ≡ sideOn (trueSide (record { feature = j; threshold = getD M m nan }) es) → b ≡ judge P (bare a) h (q .totals) (q .count) (record { feature = j; threshold = getD M m nan })
+  pub draw-good : m < length M → (le lo (getD M m nan) && lt (getD M m nan) hi) ≡ true → {q : Side} (b : Candidate)
+      → q ≡ sideOn (trueSide (record { feature = j; threshold = getD M m nan }) es) → b .held ≡ judge P (bare a) h (q .totals) (q .count) (record { feature = j; threshold = getD M m nan })
       → meantTries W M s (Goes b (m + 1)) ≡ drawAt P (bare a) j h es (left W M s m) lo hi
   unfolding takeThreshold bind drawn
-  draw-good k e {q} {b} eq′ eb =
-      ap (λ z. meantTries W M s (Goes z (m + 1))) (eb ∙ ap (λ (z : Side). judge P (bare a) h (z .totals) (z .count) (record { feature = j; threshold = getD M m nan })) eq′)
+  draw-good k e {q} b eq′ eb =
+      ap (λ z. ok (record { best = z; left = left W M s (m + 1) })) (eb ∙ ap (λ (z : Side). judge P (bare a) h (z .totals) (z .count) (record { feature = j; threshold = getD M m nan })) eq′)
       ∙ ap (λ n. ok (record { best = drawn P (bare a) j h es (getD M m nan); left = left W M s n })) (add-one m)
       ∙ draw-by k true e
 
@@ -75,15 +76,16 @@ unfolding randomIn
 random-none el [] e P node j r = refl
 random-none el (x ∷ l) e P node j r = absurd (omega arith)
 
-module _ (el : ℕ → Element) (P : Params) (a : Side) (j : ℕ) (h : Held) (W : List ℕ) (M : List Float) (s m : ℕ) where
+module _ (el : ℕ → Element) (P : Params) (a : Side) (j : ℕ) (h : Candidate) (W : List ℕ) (M : List Float) (s m : ℕ) where
   random-by : (l : List ℕ) → (length l ≡ 0 → ⊥) → (lo hi : Float) → lo ≡ at j (el (getD l 0 0)) → hi ≡ at j (el (getD l (length l - 1) 0)) → (b : Bool) → lt lo hi ≡ b → (q : Out (Tries Tapes))
-      → ((e : Element) (es : Column) → (e ∷ es) ≡ map el l → at j e ≡ lo → at j (final e es) ≡ hi → q ≡ drawIn (tape (P .features)) b P (bare a) j (record { best = h; left = left W M s m }) e es)
-      → q ≡ randomIn (tape (P .features)) P (bare a) j (record { best = h; left = left W M s m }) (map el l)
+      → ((e : Element) (es : Column) → (e ∷ es) ≡ map el l → at j e ≡ lo → at j (final e es) ≡ hi
+      → q ≡ drawIn (tape (P .features)) b P (bare a) j (record { best = h .held; left = left W M s m }) e es)
+      → q ≡ randomIn (tape (P .features)) P (bare a) j (record { best = h .held; left = left W M s m }) (map el l)
   unfolding randomIn
   random-by [] n lo hi el′ eh b e q k = absurd (n refl)
   random-by (x ∷ l) n lo hi el′ eh b e q k =
       k (el x) (map el l) refl (sym el′) last
-      ∙ sym (ap (λ z. drawIn (tape (P .features)) z P (bare a) j (record { best = h; left = left W M s m }) (el x) (map el l)) (ap (λ z. lt z (at j (final (el x)
+      ∙ sym (ap (λ z. drawIn (tape (P .features)) z P (bare a) j (record { best = h .held; left = left W M s m }) (el x) (map el l)) (ap (λ z. lt z (at j (final (el x)
       (map el l)))) (sym el′) ∙ ap (lt lo) last ∙ e))
     where
       less-one : (n : ℕ) → suc n - 1 ≡ n
@@ -93,17 +95,18 @@ module _ (el : ℕ → Element) (P : Params) (a : Side) (j : ℕ) (h : Held) (W 
       last = ap (at j) (final-at el x l) ∙ ap (λ n. at j (el (getD (x ∷ l) n 0))) (sym (less-one (length l))) ∙ sym eh
 
   pub random-flat : (l : List ℕ) → (length l ≡ 0 → ⊥) → (lo hi : Float) → lo ≡ at j (el (getD l 0 0)) → hi ≡ at j (el (getD l (length l - 1) 0)) → lt lo hi ≡ false
-      → meantTries W M s (Goes h m) ≡ randomIn (tape (P .features)) P (bare a) j (record { best = h; left = left W M s m }) (map el l)
+      → meantTries W M s (Goes h m) ≡ randomIn (tape (P .features)) P (bare a) j (record { best = h .held; left = left W M s m }) (map el l)
   unfolding drawIn
   random-flat l n lo hi el′ eh e = random-by l n lo hi el′ eh false e (meantTries W M s (Goes h m)) (λ x es i p q. refl)
 
   pub random-draws : (l : List ℕ) → (length l ≡ 0 → ⊥) → (lo hi : Float) → lo ≡ at j (el (getD l 0 0)) → hi ≡ at j (el (getD l (length l - 1) 0)) → lt lo hi ≡ true
-      → (q : Out (Tries Tapes)) → q ≡ drawAt P (bare a) j h (map el l) (left W M s m) lo hi → q ≡ randomIn (tape (P .features)) P (bare a) j (record { best = h; left = left W M s m }) (map el l)
+      → (q : Out (Tries Tapes)) → q ≡ drawAt P (bare a) j (h .held) (map el l) (left W M s m) lo hi
+      → q ≡ randomIn (tape (P .features)) P (bare a) j (record { best = h .held; left = left W M s m }) (map el l)
   unfolding drawIn drawAt tape
   random-draws l n lo hi el′ eh e q d =
       random-by l n lo hi el′ eh true e q
-      (λ x es i p r. d ∙ ap (λ z. drawAt P (bare a) j h z (left W M s m) lo hi) (sym i)
-      ∙ ap (λ z. drawAt P (bare a) j h (x ∷ es) (left W M s m) z hi) (sym p) ∙ ap (λ z. drawAt P (bare a) j h (x ∷ es) (left W M s m) (at j x) z) (sym r))
+      (λ x es i p r. d ∙ ap (λ z. drawAt P (bare a) j (h .held) z (left W M s m) lo hi) (sym i)
+      ∙ ap (λ z. drawAt P (bare a) j (h .held) (x ∷ es) (left W M s m) z hi) (sym p) ∙ ap (λ z. drawAt P (bare a) j (h .held) (x ∷ es) (left W M s m) (at j x) z) (sym r))
 
 -- ---- of a node only the totals and the count are read
 
@@ -197,9 +200,9 @@ module _ (n : ℕ) (words : List ℕ) (p : ℕ) (room : p + n ≤ length words) 
 
 -- ---- the features, one after the other
 
-module _ (P : Params) (node : NodeRows) (M : List Float) (words : List ℕ) (p k i : ℕ) (room : p + k ≤ length words) (h : i < k) (best : Held) (used : ℕ) (W : List ℕ) (s : ℕ) where
+module _ (P : Params) (node : NodeRows) (M : List Float) (words : List ℕ) (p k i : ℕ) (room : p + k ≤ length words) (h : i < k) (best : Candidate) (used : ℕ) (W : List ℕ) (s : ℕ) where
   abbrev here : Tries Tapes
-  here = record { best = best; left = left W M s used }
+  here = record { best = best .held; left = left W M s used }
 
   tries-head : tryAll (tape (P .features)) P node (drop i (take k (drop p words))) here ≡ bind
       (tryOne (tape (P .features)) (P .splitter) P node (getD words (p + i) 0) here)
@@ -212,11 +215,12 @@ module _ (P : Params) (node : NodeRows) (M : List Float) (words : List ℕ) (p k
   unfolding bind
   tries-stop e q = ap (λ m. bind m (λ r. tryAll (tape (P .features)) P node (drop (suc i) (take k (drop p words))) r)) (sym (ap (meantTries W M s) e) ∙ q) ∙ sym tries-head
 
-  pub tries-next : {r : Attempt} {b : Held} {n : ℕ} → r ≡ Goes b n → meantTries W M s r ≡ tryOne (tape (P .features)) (P .splitter) P node (getD words (p + i) 0) here
-      → tryAll (tape (P .features)) P node (drop (i + 1) (take k (drop p words))) (record { best = b; left = left W M s n }) ≡ tryAll (tape (P .features)) P node (drop i (take k (drop p words))) here
+  pub tries-next : {r : Attempt} {b : Candidate} {n : ℕ} → r ≡ Goes b n → meantTries W M s r ≡ tryOne (tape (P .features)) (P .splitter) P node (getD words (p + i) 0) here
+      → tryAll (tape (P .features)) P node (drop (i + 1) (take k (drop p words))) (record { best = b .held; left = left W M s n })
+      ≡ tryAll (tape (P .features)) P node (drop i (take k (drop p words))) here
   unfolding bind
   tries-next {r} {b} {n} e q =
-      ap (λ j. tryAll (tape (P .features)) P node (drop j (take k (drop p words))) (record { best = b; left = left W M s n })) (add-one i)
+      ap (λ j. tryAll (tape (P .features)) P node (drop j (take k (drop p words))) (record { best = b .held; left = left W M s n })) (add-one i)
       ∙ ap (λ m. bind m (λ r. tryAll (tape (P .features)) P node (drop (suc i) (take k (drop p words))) r)) (sym (ap (meantTries W M s) e) ∙ q) ∙ sym tries-head
 
 pub tries-end : (P : Params) (node : NodeRows) (words : List ℕ) (p k i : ℕ) → p + k ≤ length words → k ≤ i → (r : Tries Tapes)
@@ -258,7 +262,7 @@ module _ (P : Params) (W : List ℕ) (M : List Float) (node : NodeRows) (d : Dra
 
   pub search-bad : eachOnce n′ (take n′ (drop (d .words) W)) ≡ false → Searched P W M node d S.Refused
   unfolding takeWords bind
-  search-bad e = record { same = search-by false e; fair = tt }
+  search-bad e = record { same = search-by false e; fair = tt; rows = tt }
 
   pub search-short : length W - d .words < n′ → Searched P W M node d S.Refused
   unfolding eachOnce
@@ -298,16 +302,18 @@ module _ (P : Params) (W : List ℕ) (M : List Float) (node : NodeRows) (d : Dra
                 (r .left),
           ))) q) ∙ search-meant;
           fair = tt;
+          rows = tt;
         }
 
-    pub search-goes : (h : Held) (m : ℕ) → r ≡ Goes h m → (n : ℕ) → n ≡ n′ → d .words + n ≤ length W → 0 < n
+    pub search-goes : (h : Candidate) (m : ℕ) → r ≡ Goes h m → RowsTried n′ node r → (n : ℕ) → n ≡ n′ → d .words + n ≤ length W → 0 < n
         → Searched P W M node d (S.Goes h (record { words = d .words + n; thresholds = m; searches = d .searches + 1 }))
     unfolding bind tape
-    search-goes h m q n en room pos′ =
+    search-goes h m q g n en room pos′ =
         record {
           same =
-              ap (λ s. ok (found h, record { words = drop (d .words + n) W; thresholds = drop m M; searches = s })) (add-one (d .searches))
-              ∙ ap (λ l. ok (found h, record { words = l; thresholds = drop m M; searches = suc (d .searches) })) (sym (drop-drop n (d .words) W) ∙ ap (λ z. drop z (drop (d .words) W)) en)
+              ap (λ s. ok (found (h .held), record { words = drop (d .words + n) W; thresholds = drop m M; searches = s })) (add-one (d .searches))
+              ∙ ap (λ l. ok (found (h .held), record { words = l; thresholds = drop m M; searches = suc (d .searches) })) (sym (drop-drop n (d .words) W) ∙ ap (λ z. drop z (drop (d .words) W)) en)
               ∙ sym (ap (λ z. bind (meantTries (drop n′ (drop (d .words) W)) M (d .searches) z) (λ r. ok (found (r .best), tape (P .features) .done (r .left)))) q) ∙ search-meant;
           fair = (room, omega (arith, fair .1, pos′));
+          rows = subst (RowsTried n′ node) q g;
         }

@@ -6,16 +6,16 @@ ghost use Prim.Native.Nat.{ℕ, _+_, _≤_, _<_};
 ghost use lib.ListN.{length};
 ghost use lib.Ieee.{eq};
 ghost use Rattle.rules.specs.Lent.{cell};
-ghost use Rattle.rules.specs.Search.{judge, sweep, tally, bestIn};
-ghost use Rattle.candidates.specs.Held.{bare, heldOf};
-ghost use Rattle.search.specs.Flat.{tablesOf, Shaped, Below, elementOf, stepIn, cutBetween, sweepOf, runAt, cutsIn, Readable};
+ghost use Rattle.rules.specs.Search.{sweep, tally, bestIn};
+ghost use Rattle.candidates.specs.Held.{bare, HeldAt};
+ghost use Rattle.search.specs.Flat.{tablesOf, Shaped, Below, elementOf, stepIn, cutBetween, sweepOf, runAt, cutsIn, Readable, Sorted, Stepped, Stood, TriedOn};
 use crate::Cell;
+use candidates::Candidate;
 use candidates::Spot;
 use criterion::Side;
 use criterion::take_in;
 use criterion::threshold_of;
 use rules::Cut;
-use rules::Held;
 use rules::Params;
 use rules::Totals;
 
@@ -27,20 +27,9 @@ pub struct Run {
     pub spot: Spot,
 }
 
-pub fn judge_spot(p: Params, a: Side, s: Spot, t: Totals, k: u32, place: usize) -> Spot
-    requires { ⌜ (k ≤ a .count) × (s .place ≤ place) ⌝ }
-    ensures { λ r. ⌜ (r .place ≤ place) × ((c : ℕ → Cut) → heldOf c r ≡ judge p (bare a) (heldOf c s) t k (c place)) ⌝ }
-{
-    if crate::too_few(p, a, k) {
-        return s;
-    }
-    let q = crate::proxy_in(a, t);
-    candidates::better_spot(s, place, q)
-}
-
 pub fn step_of(p: Params, a: Side, w: Run, e: Cell, place: usize) -> Run
-    requires { ⌜ (w .count + e .count ≤ a .count) × (w .spot .place ≤ place) ⌝ }
-    ensures { λ r. ⌜ (r .spot .place ≤ place) × ((j : ℕ) (c : ℕ → Cut) → c place ≡ cutBetween j (w .last) (e .value) → sweepOf c r ≡ stepIn p a j (sweepOf c w) e) ⌝ }
+    requires { ⌜ w .count + e .count ≤ a .count ⌝ }
+    ensures { λ r. ⌜ Stepped w e place r × ((j : ℕ) (c : ℕ → Cut) → c place ≡ cutBetween j (w .last) (e .value) → sweepOf c r ≡ stepIn p a j (sweepOf c w) e) ⌝ }
 {
     let before = w.before;
     let spot = candidates::anew(w.spot);
@@ -54,7 +43,7 @@ pub fn step_of(p: Params, a: Side, w: Run, e: Cell, place: usize) -> Run
             spot,
         };
     }
-    let next = judge_spot(p, a, spot, before, w.count, place);
+    let next = crate::judge_spot(p, a, spot, before, w.count, place);
     Run {
         before: now,
         count: n,
@@ -80,9 +69,9 @@ pub fn sweep_column(
     requires rows { ⌜ Below rows (now col) ⌝ }
     requires shape { ⌜ Shaped rows features (tablesOf (now values) (now targets) (now weights) (now counts)) × (j < features) ⌝ }
     requires room { ⌜ w .count + tally (map (elementOf features (tablesOf (now values) (now targets) (now weights) (now counts))) (now col)) ≤ a .count ⌝ }
-    requires start { ⌜ (w .spot .place ≡ 0) × (w .last ≡ runAt (cell features (now values) j) (now col) 0) ⌝ }
+    requires start { ⌜ w .last ≡ runAt (cell features (now values) j) (now col) 0 ⌝ }
     ensures { λ r. ⌜
-        (r .spot .place ≤ length (now (col .entry))) ×
+        Stood (cell features (now (values .entry)) j) (now (col .entry)) (w .spot) (r .spot) ×
         ((b : Cut) → let c = cutsIn features (now (values .entry)) j (now (col .entry)) b in sweepOf c r ≡ sweep p (bare a) j (sweepOf c w) (map (elementOf features
         (tablesOf (now (values .entry)) (now (targets .entry)) (now (weights .entry)) (now (counts .entry)))) (now (col .entry)))) ⌝ }
 {
@@ -145,36 +134,34 @@ fn run_before(values: &[f64], col: &[u32], rows: usize, features: usize, j: u32,
     run_anew(values, col, rows, features, j, n)
 }
 
-// What s holds once the column is swept.
+// What is held once the column is swept: if the place of s is in it, the values there are read again.
 pub fn held_of(
     values: &[f64],
     col: &[u32],
     rows: usize,
     features: usize,
     j: u32,
-    earlier: Cut,
+    h: Candidate,
     s: Spot,
-) -> Held
+) -> Candidate
     requires { ⌜ Readable rows features (now values) j (now col) × (s .place ≤ length (now col)) ⌝ }
-    ensures { λ r. ⌜ r ≡ heldOf (cutsIn features (now (values .entry)) j (now (col .entry)) earlier) s ⌝ }
+    ensures { λ r. ⌜ ((b : Cut) → HeldAt h s (cutsIn features (now (values .entry)) j (now (col .entry)) b (s .place)) r) ⌝ }
 {
-    if s.held {
-        if s.place == 0 {
-            return Held::Holds(earlier, s.proxy);
-        }
-        let i = s.place - 1;
-        let low = run_before(values, col, rows, features, j, i);
-        let high = crate::value_here(values, col, rows, features, j, i);
-        let t = threshold_of(low, high);
-        return Held::Holds(
-            Cut {
-                feature: j,
-                threshold: t,
-            },
-            s.proxy,
-        );
+    if s.place == 0 {
+        return h;
     }
-    Held::Nothing
+    let i = s.place - 1;
+    let low = run_before(values, col, rows, features, j, i);
+    let high = crate::value_here(values, col, rows, features, j, i);
+    let t = threshold_of(low, high);
+    candidates::held_at(
+        h,
+        s,
+        Cut {
+            feature: j,
+            threshold: t,
+        },
+    )
 }
 
 // The best splitter along a column's stretch.
@@ -189,20 +176,23 @@ pub fn best_in(
     p: Params,
     j: u32,
     a: Side,
-    h: Held,
-) -> Held
+    h: Candidate,
+) -> Candidate
     requires rows { ⌜ Below rows (now col) ⌝ }
     requires shape { ⌜ Shaped rows features (tablesOf (now values) (now targets) (now weights) (now counts)) × (j < features) ⌝ }
     requires room { ⌜ tally (map (elementOf features (tablesOf (now values) (now targets) (now weights) (now counts))) (now col)) ≤ a .count ⌝ }
+    requires sorted { ⌜ Sorted j (map (elementOf features (tablesOf (now values) (now targets) (now weights) (now counts))) (now col)) ⌝ }
     ensures { λ r. ⌜
-        r ≡ bestIn p (bare a) j h
-        (map (elementOf features (tablesOf (now (values .entry)) (now (targets .entry)) (now (weights .entry)) (now (counts .entry)))) (now (col .entry))) ⌝ }
+        (r .held ≡ bestIn p (bare a) j (h .held)
+        (map (elementOf features (tablesOf (now (values .entry)) (now (targets .entry)) (now (weights .entry)) (now (counts .entry)))) (now (col .entry))))
+        × TriedOn j (map (elementOf features (tablesOf (now (values .entry)) (now (targets .entry)) (now (weights .entry)) (now (counts .entry)))) (now (col .entry))) h r ⌝ }
 {
     if col.len() == 0 {
         return h;
     }
     let first = crate::value_here(values, col, rows, features, j, 0);
-    let spot = candidates::spot_of(h);
+    let g = h.held;
+    let spot = candidates::spot_of(g);
     let w = Run {
         before: Totals {
             sum: 0.0,
@@ -225,13 +215,5 @@ pub fn best_in(
         a,
         w,
     );
-    held_of(
-        values,
-        col,
-        rows,
-        features,
-        j,
-        candidates::earlier_of(h),
-        v.spot,
-    )
+    held_of(values, col, rows, features, j, h, v.spot)
 }

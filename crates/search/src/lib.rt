@@ -9,11 +9,12 @@ ghost use Rattle.rules.specs.Lent.{cell};
 ghost use Rattle.rules.specs.Draws.{tape};
 ghost use Rattle.rules.specs.Search.{judge, tryOne, tryAll};
 ghost use Rattle.rules.specs.Totals.{less, proxy};
-ghost use Rattle.candidates.specs.Held.{bare};
-ghost use Rattle.search.specs.Flat.{tablesOf, Shaped, elementOf, cellOf, Readable, tooFew, meantTries, left, NodeAsks, nodeRowsAt, Fair, Searched};
+ghost use Rattle.candidates.specs.Held.{bare, heldOf, Moved};
+ghost use Rattle.search.specs.Flat.{tablesOf, Shaped, elementOf, cellOf, Readable, tooFew, meantTries, left, NodeAsks, nodeRowsAt, RowsOf, RowsTried, Fair, Searched};
 ghost use Rattle.rules.specs.declared.Held.the-variants.{Nothing};
+use candidates::Candidate;
+use candidates::Spot;
 use criterion::Side;
-use criterion::better_of;
 use criterion::less_of;
 use criterion::mass_of;
 use criterion::proxy_of;
@@ -37,7 +38,7 @@ pub struct Cell {
 // What trying a feature leaves: the best so far, and how many thresholds were taken from the tape; or a bad draw.
 pub enum Attempt {
     Refused,
-    Goes(Held, usize),
+    Goes(Candidate, usize),
 }
 
 // How far the tapes are used, and how many searches were made.
@@ -50,7 +51,7 @@ pub struct Drawn {
 // A search's answer: a bad draw; or the candidate held, if any, and how far the tapes are used after it. In one shape, so that what was drawn stands in one place.
 pub enum Search {
     Refused,
-    Goes(Held, Drawn),
+    Goes(Candidate, Drawn),
 }
 
 // Whether a true side of k, or what it leaves of a node, is below the least leaf.
@@ -71,15 +72,16 @@ pub fn proxy_in(a: Side, t: Totals) -> f64
     proxy_of(t, f)
 }
 
-pub fn judge_of(p: Params, a: Side, h: Held, t: Totals, k: u32, c: Cut) -> Held
+// A candidate at a place, whose true side has totals t and count k, against what is held.
+pub fn judge_spot(p: Params, a: Side, s: Spot, t: Totals, k: u32, place: usize) -> Spot
     requires { ⌜ k ≤ a .count ⌝ }
-    ensures { λ r. ⌜ r ≡ judge p (bare a) h t k c ⌝ }
+    ensures { λ r. ⌜ Moved s place r × ((c : ℕ → Cut) → heldOf c r ≡ judge p (bare a) (heldOf c s) t k (c place)) ⌝ }
 {
     if too_few(p, a, k) {
-        return h;
+        return s;
     }
     let q = proxy_in(a, t);
-    better_of(h, c, q)
+    candidates::better_spot(s, place, q)
 }
 
 // The value of feature j of the row at place i of a column.
@@ -137,17 +139,19 @@ pub fn try_one(
     p: Params,
     j: u32,
     a: Side,
-    h: Held,
+    h: Candidate,
     m: usize,
 ) -> Attempt
-    requires { ⌜ NodeAsks rows features from to (tablesOf (now values) (now targets) (now weights) (now counts)) (now order) (a .count) × (j < features) ⌝ }
+    requires { ⌜
+        NodeAsks rows features from to (tablesOf (now values) (now targets) (now weights) (now counts)) (now order) (a .count) × (j < features)
+        × RowsOf features (nodeRowsAt rows features from to (tablesOf (now values) (now targets) (now weights) (now counts)) (now order) a) h ⌝ }
     ensures { λ r. ⌜
         ((W : List ℕ) (s : ℕ) → meantTries W (now (thresholds .entry)) s r ≡ tryOne (tape (p .features)) (p .splitter) p (nodeRowsAt rows features from to (tablesOf (now
         (values .entry)) (now (targets .entry)) (now (weights .entry)) (now (counts .entry))) (now (order .entry)) a) j (record {
-          best = h;
+          best = h .held;
           left = left W (now (thresholds
               .entry)) s m;
-        })) ⌝ }
+        })) × RowsTried features (nodeRowsAt rows features from to (tablesOf (now (values .entry)) (now (targets .entry)) (now (weights .entry)) (now (counts .entry))) (now (order .entry)) a) r ⌝ }
 {
     let base = slices::wide(j) * rows;
     let lo = base + from;
@@ -248,9 +252,12 @@ pub fn try_all(
           best =
               Nothing;
           left = left W (now (thresholds .entry)) s m;
-        })) ⌝ }
+        })) × RowsTried features (nodeRowsAt rows features from to (tablesOf (now (values .entry)) (now (targets .entry)) (now (weights .entry)) (now (counts .entry))) (now (order .entry)) a) r ⌝ }
 {
-    let mut best = Held::Nothing;
+    let mut best = Candidate {
+        held: Held::Nothing,
+        rows: 0,
+    };
     let mut used = m;
     let mut i: usize = 0;
     while i < k {

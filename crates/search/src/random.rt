@@ -2,30 +2,38 @@
 ghost use mathlib.Core.Path.{_≡_};
 ghost use mathlib.Core.List.{List, map};
 ghost use Prim.Native.Nat.{ℕ, _+_, _≤_, _<_};
+ghost use lib.ListN.{length};
 ghost use Rattle.rules.specs.Draws.{tape};
-ghost use Rattle.rules.specs.Search.{tally, randomIn, trueSide};
-ghost use Rattle.criterion.specs.Sides.{sideOn};
+ghost use Rattle.rules.specs.Search.{tally, randomIn};
 ghost use Rattle.candidates.specs.Held.{bare};
-ghost use Rattle.search.specs.Flat.{tablesOf, Shaped, Below, elementOf, sideStep, meantTries, left, drawAt};
+ghost use Rattle.search.specs.Flat.{tablesOf, Shaped, Below, elementOf, sideStep, trueOn, meantTries, left, drawAt, TriedBy};
 use crate::Attempt;
 use crate::Cell;
+use candidates::Candidate;
 use criterion::Side;
 use rules::Cut;
-use rules::Held;
 use rules::Params;
 
-// One more row of a side, where it is on the true side of t.
-pub fn joined_if(s: Side, e: Cell, t: f64) -> Side
-    requires { ⌜ s .count + e .count < 4294967296 ⌝ }
+// The true side of a cut: its totals and count, and how many rows it has.
+pub struct TrueSide {
+    pub side: Side,
+    pub rows: usize,
+}
+
+// One more row of a column, which joins where it is on the true side of t.
+pub fn joined_if(s: TrueSide, e: Cell, t: f64) -> TrueSide
+    requires { ⌜ (s .side .count + e .count < 4294967296) × (s .rows + 1 < 18446744073709551616) ⌝ }
     ensures { λ r. ⌜ r ≡ sideStep t s e ⌝ }
 {
     if e.value <= t {
-        return criterion::join(s, e.target, e.mass, e.count);
+        let side = criterion::join(s.side, e.target, e.mass, e.count);
+        let n = s.rows + 1;
+        return TrueSide { side, rows: n };
     }
     s
 }
 
-// The true side of a column's stretch, by feature j and threshold t: its totals and count.
+// The true side of a column's stretch, by feature j and threshold t.
 pub fn true_side(
     values: &[f64],
     targets: &[f64],
@@ -37,16 +45,20 @@ pub fn true_side(
     j: u32,
     t: f64,
     most: u32,
-) -> Side
+) -> TrueSide
     requires rows { ⌜ Below rows (now col) ⌝ }
     requires shape { ⌜ Shaped rows features (tablesOf (now values) (now targets) (now weights) (now counts)) × (j < features) ⌝ }
     requires room { ⌜ tally (map (elementOf features (tablesOf (now values) (now targets) (now weights) (now counts))) (now col)) ≤ most ⌝ }
     ensures { λ r. ⌜
-        (r ≡ sideOn (trueSide (record { feature = j; threshold = t }) (map (elementOf features (tablesOf (now (values .entry)) (now (targets .entry)) (now (weights
-        .entry)) (now (counts .entry)))) (now (col .entry)))))
-        × (r .count ≤ most) ⌝ }
+        (r ≡ trueOn (record { feature = j; threshold = t }) (map (elementOf features (tablesOf (now (values .entry)) (now (targets .entry)) (now (weights .entry)) (now
+        (counts .entry)))) (now (col .entry))))
+        × (r .side .count ≤ most) × (r .rows ≤ length (now (col .entry))) ⌝ }
 {
-    let mut s = criterion::no_side();
+    let none = criterion::no_side();
+    let mut s = TrueSide {
+        side: none,
+        rows: 0,
+    };
     let mut i = 0;
     while i < col.len() {
         let e = crate::cell_of(
@@ -78,7 +90,7 @@ pub fn draw_in(
     p: Params,
     j: u32,
     a: Side,
-    h: Held,
+    h: Candidate,
     m: usize,
     lo: f64,
     hi: f64,
@@ -87,8 +99,9 @@ pub fn draw_in(
     requires shape { ⌜ Shaped rows features (tablesOf (now values) (now targets) (now weights) (now counts)) × (j < features) ⌝ }
     requires room { ⌜ tally (map (elementOf features (tablesOf (now values) (now targets) (now weights) (now counts))) (now col)) ≤ a .count ⌝ }
     ensures { λ r. ⌜
-        ((W : List ℕ) (s : ℕ) → meantTries W (now (thresholds .entry)) s r ≡ drawAt p (bare a) j h (map (elementOf features (tablesOf (now (values .entry)) (now (targets
-        .entry)) (now (weights .entry)) (now (counts .entry)))) (now (col .entry))) (left W (now (thresholds .entry)) s m) lo hi) ⌝ }
+        ((W : List ℕ) (s : ℕ) → meantTries W (now (thresholds .entry)) s r ≡ drawAt p (bare a) j (h .held) (map (elementOf features (tablesOf (now (values .entry)) (now (targets
+        .entry)) (now (weights .entry)) (now (counts .entry)))) (now (col .entry))) (left W (now (thresholds .entry)) s m) lo hi)
+        × TriedBy j (map (elementOf features (tablesOf (now (values .entry)) (now (targets .entry)) (now (weights .entry)) (now (counts .entry)))) (now (col .entry))) h r ⌝ }
 {
     if thresholds.len() <= m {
         return Attempt::Refused;
@@ -107,13 +120,14 @@ pub fn draw_in(
             t,
             a.count,
         );
-        let side = s.totals;
-        let b = crate::judge_of(
-            p,
-            a,
+        let side = s.side;
+        let g = h.held;
+        let spot = candidates::spot_of(g);
+        let place = s.rows + 1;
+        let next = crate::judge_spot(p, a, spot, side.totals, side.count, place);
+        let b = candidates::held_at(
             h,
-            side,
-            s.count,
+            next,
             Cut {
                 feature: j,
                 threshold: t,
@@ -137,7 +151,7 @@ pub fn random_in(
     p: Params,
     j: u32,
     a: Side,
-    h: Held,
+    h: Candidate,
     m: usize,
 ) -> Attempt
     requires rows { ⌜ Below rows (now col) ⌝ }
@@ -145,11 +159,12 @@ pub fn random_in(
     requires room { ⌜ tally (map (elementOf features (tablesOf (now values) (now targets) (now weights) (now counts))) (now col)) ≤ a .count ⌝ }
     ensures { λ r. ⌜
         ((W : List ℕ) (s : ℕ) → meantTries W (now (thresholds .entry)) s r ≡ randomIn (tape (p .features)) p (bare a) j (record {
-          best = h;
+          best = h .held;
           left = left W (now (thresholds
               .entry)) s m;
         }) (map (elementOf features (tablesOf (now (values .entry)) (now (targets .entry)) (now (weights .entry)) (now (counts .entry)))) (now (col
-        .entry)))) ⌝ }
+        .entry))))
+        × TriedBy j (map (elementOf features (tablesOf (now (values .entry)) (now (targets .entry)) (now (weights .entry)) (now (counts .entry)))) (now (col .entry))) h r ⌝ }
 {
     let n = col.len();
     if n == 0 {

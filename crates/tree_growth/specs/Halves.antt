@@ -76,7 +76,7 @@ pub record GrowAsks (g : Ground) (P : Params) (W : List ℕ) (M : List Float) (t
 -- after its searches
 pub record Waits (g : Ground) (P : Params) (W : List ℕ) (top scratch flags : ℕ) (c : Columns) (wholes : List (List ℕ)) (reals : List (List Float)) (at : At) : Type 0 where
   pub housed : Housed g P top scratch flags c (length wholes) (length reals)
-  pub laid : Laid wholes reals (housed .kept) (at .waiting)
+  pub laid : Laid g wholes reals (housed .kept) (at .waiting)
   pub sound : Sound P top (at .nodes) (waitingList g wholes reals (at .waiting))
   pub fair : Fair W (at .drawn)
 
@@ -114,7 +114,7 @@ module _ (g : Ground) (P : Params) (W : List ℕ) (M : List Float) (top sc fl : 
     searched-waits lw lr =
         record {
           housed = subst (λ n. Housed g P top sc fl c n (length reals′)) (sym lw) (subst (λ n. Housed g P top sc fl c (length wholes) n) (sym lr) (h .housed));
-          laid = laid-more wholes′ reals′ (s .waiting) (edge q (q .sides)) (h .housed .kept) (h .high) (subst (LaidStep wholes′ reals′ (edge q (q .sides))) e (d .laid));
+          laid = laid-more g wholes′ reals′ (s .waiting) (edge q (q .sides)) (h .housed .kept) (h .high) (subst (LaidStep g wholes′ reals′ (edge q (q .sides))) e (d .laid));
           sound = subst (λ o. Then o (λ z. Sound P top (at .nodes) (z .0))) (d .same ∙ ap (meantStep g W M wholes′ reals′) e) (h .sound);
           fair = subst (FairStep W) e (d .fair);
         }
@@ -153,8 +153,8 @@ module _ (g : Ground) (P : Params) (W : List ℕ) (top sc fl : ℕ) (c : Columns
       room : (n r l a b : ℕ) → 1 ≤ a → 1 ≤ b → a + b ≡ r → n + 2 * ((r - 1) + l) ≤ top → n + 2 ≤ top
       room n r l a b h₁ h₂ h₃ h₄ = omega arith
 
-  top-laid : Laid wholes reals (h .housed .kept) (suc (at .waiting - 1))
-  top-laid = subst (Laid wholes reals (h .housed .kept)) (less-one (at .waiting) hw) (h .laid)
+  top-laid : Laid g wholes reals (h .housed .kept) (suc (at .waiting - 1))
+  top-laid = subst (Laid g wholes reals (h .housed .kept)) (less-one (at .waiting) hw) (h .laid)
 
   top-below : BelowTo g (waitingAt wholes reals (at .waiting - 1) .end)
   top-below k l =
@@ -179,6 +179,7 @@ module _ (g : Ground) (P : Params) (W : List ℕ) (top sc fl : ℕ) (c : Columns
           real-room = h .housed .real-room;
           place = top-laid .0;
           laid = top-laid .3;
+          sized = top-laid .4;
           ripe = sound′ .ripe .0;
           level = omega (arith, sound′ .levels .0, h .housed .deep);
           number = omega (arith, two-left, h .housed .node-small);

@@ -114,15 +114,15 @@ module _ (g₀ : Ground) (P : Params) (W : List ℕ) (M : List Float) (top sc₀
       growing-top = top-room g P W sc flags c wholes′ reals′ (searchedTo at s) may
 
       -- the top as the code read it, and the flags as the split left them
-      module _ {z : WaitingNode} (ez : z ≡ waitingAt wholes′ reals′ (s .waiting - 1)) (few : z .count < 4294967296) where
+      module _ {z : WaitingNode} (ez : z ≡ waitingAt wholes′ reals′ (s .waiting - 1)) where
         pub growing-split : SplitAsks (g .rows) (g .features) (z .start) (z .end) (g .tables .values) (g .tables .targets) (g .tables .weights) (g .tables .counts) (cutOf z) (g .order)
-            (length flags) × (LongAll (at .nodes + 2) c × (z .node < at .nodes) × (at .nodes + 2 < 4294967296))
-        growing-split = code-split g P W sc flags c wholes′ reals′ (searchedTo at s) may ez few
+            (z .rows) (length flags) × (LongAll (at .nodes + 2) c × (z .node < at .nodes) × (at .nodes + 2 < 4294967296))
+        growing-split = code-split g P W sc flags c wholes′ reals′ (searchedTo at s) may ez
 
         module _ (flags′ : List Bool) (lf : length flags′ ≡ length flags) (h : Sides)
             (sd : SplitDone (g .rows) (z .start) (z .end) (elementOf (g .features) (g .tables)) (cutOf z) (g .order) flags′ h) where
           pub growing-parts : PartAsks (g .rows) (g .features) (g .order) sc flags′ z h
-          growing-parts = code-parts g P W sc flags c wholes′ reals′ (searchedTo at s) may flags′ lf ez few h sd
+          growing-parts = code-parts g P W sc flags c wholes′ reals′ (searchedTo at s) may flags′ lf ez h sd
 
           module _ (c′ : Columns) (wr : c′ ≡ wroteSides z h (at .nodes) c) (order′ : List ℕ) (q′ : Pair) (pd : PartDone (g .rows) (g .features) (g .order) order′ flags′ P z (at .nodes) h q′)
               (deep : ℕ) (ed : deep ≡ max (at .depth) (q′ .level)) where
@@ -130,7 +130,7 @@ module _ (g₀ : Ground) (P : Params) (W : List ℕ) (M : List Float) (top sc₀
             at′ = record { nodes = at .nodes + 2; depth = deep; waiting = s .waiting - 1; drawn = s .drawn }
 
             t : TurnDone g (withOrder g order′) P W M c c′ wholes′ reals′ (searchedTo at s) q′ at′
-            t = code-done g P W sc flags c wholes′ reals′ (searchedTo at s) may flags′ lf ez few h sd c′ wr M order′ q′ pd deep ed
+            t = code-done g P W sc flags c wholes′ reals′ (searchedTo at s) may flags′ lf ez h sd c′ wr M order′ q′ pd deep ed
 
             pub growing-on : {sc′ : ℕ} → sc′ ≡ sc
                 → length (c′ .value) ≡ length (c .value) → length (c′ .feature) ≡ length (c .feature) → length (c′ .threshold) ≡ length (c .threshold)

@@ -139,11 +139,11 @@ module _ (g : Ground) (P : Params) (W : List ℕ) (sc : ℕ) (flags : List Bool)
   pub code-taken : {z : WaitingNode} → z ≡ topWaiting → Taken g P W sc (length flags) wholes reals z (at .nodes) left
   code-taken ez = subst (λ z. Taken g P W sc (length flags) wholes reals z (at .nodes) left) (sym ez) (q .taken)
 
-  pub code-split : {z : WaitingNode} → z ≡ topWaiting → z .count < 4294967296
-      → SplitAsks (g .rows) (g .features) (z .start) (z .end) (g .tables .values) (g .tables .targets) (g .tables .weights) (g .tables .counts) (cutOf z) (g .order) (length flags)
+  pub code-split : {z : WaitingNode} → z ≡ topWaiting
+      → SplitAsks (g .rows) (g .features) (z .start) (z .end) (g .tables .values) (g .tables .targets) (g .tables .weights) (g .tables .counts) (cutOf z) (g .order) (z .rows) (length flags)
       × (LongAll (at .nodes + 2) c × (z .node < at .nodes) × (at .nodes + 2 < 4294967296))
-  code-split {z} ez m =
-      (taken-splits g P W sc flags wholes reals z (at .nodes) left (code-taken ez) m, (q .node-room, subst (λ (z : WaitingNode). z .node < at .nodes) (sym ez) (q .number), q .taken .number))
+  code-split {z} ez =
+      (taken-splits g P W sc flags wholes reals z (at .nodes) left (code-taken ez), (q .node-room, subst (λ (z : WaitingNode). z .node < at .nodes) (sym ez) (q .number), q .taken .number))
 
   module _ (flags′ : List Bool) (lf : length flags′ ≡ length flags) where
     abbrev DoneAt : Sides → WaitingNode → Type 0
@@ -155,14 +155,14 @@ module _ (g : Ground) (P : Params) (W : List ℕ) (sc : ℕ) (flags : List Bool)
     taken′ : {z : WaitingNode} → z ≡ topWaiting → Taken g P W sc (length flags′) wholes reals z (at .nodes) left
     taken′ {z} ez = subst (λ n. Taken g P W sc n wholes reals z (at .nodes) left) (sym lf) (code-taken ez)
 
-    pub code-parts : {z : WaitingNode} → z ≡ topWaiting → z .count < 4294967296 → (h : Sides) → DoneAt h z → PartAsks (g .rows) (g .features) (g .order) sc flags′ z h
-    code-parts {z} ez few h d = part-asks g P W sc flags′ wholes reals z (at .nodes) left (taken′ ez) h d few
+    pub code-parts : {z : WaitingNode} → z ≡ topWaiting → (h : Sides) → DoneAt h z → PartAsks (g .rows) (g .features) (g .order) sc flags′ z h
+    code-parts {z} ez h d = part-asks g P W sc flags′ wholes reals z (at .nodes) left (taken′ ez) h d
 
-    pub code-done : {z : WaitingNode} → z ≡ topWaiting → z .count < 4294967296 → (h : Sides) → DoneAt h z → (c′ : Columns) → c′ ≡ wroteSides z h (at .nodes) c
+    pub code-done : {z : WaitingNode} → z ≡ topWaiting → (h : Sides) → DoneAt h z → (c′ : Columns) → c′ ≡ wroteSides z h (at .nodes) c
         → (M : List Float) (order′ : List ℕ) (r : Pair) → PartDone (g .rows) (g .features) (g .order) order′ flags′ P z (at .nodes) h r → (deep : ℕ) → deep ≡ max (at .depth) (r .level)
         → TurnDone g (withOrder g order′) P W M c c′ wholes reals at r (record { nodes = at .nodes + 2; depth = deep; waiting = at .waiting - 1; drawn = at .drawn })
-    code-done {z} ez few h d c′ wr M order′ r p deep ed =
+    code-done {z} ez h d c′ wr M order′ r p deep ed =
         subst (λ (z : WaitingNode). DoneAt h z → c′ ≡ wroteSides z h (at .nodes) c → SidesDone g (withOrder g order′) P W M wholes reals z (at .nodes) left r → deep ≡ max (at .depth) (z .level + 1)
         → TurnDone g (withOrder g order′) P W M c c′ wholes reals at r (record { nodes = at .nodes + 2; depth = deep; waiting = at .waiting - 1; drawn = at .drawn })) (sym ez)
         (λ d wr b ed. turn-done g P W sc flags′ c wholes reals at q′ h d c′ wr (withOrder g order′) M r b deep ed)
-        d wr (sides-sought g P W sc flags′ wholes reals z (at .nodes) left (taken′ ez) h d few M order′ r p) (ed ∙ ap (λ (x : Pair). max (at .depth) (x .level)) (p .pair))
+        d wr (sides-sought g P W sc flags′ wholes reals z (at .nodes) left (taken′ ez) h d M order′ r p) (ed ∙ ap (λ (x : Pair). max (at .depth) (x .level)) (p .pair))

@@ -1,8 +1,8 @@
 -- What set-up and a partition do to the work columns, which lie at the front of the order room.
 use Prim.Native.Nat.{ℕ, zero, suc, _+_, _-_, _*_, _<_, _≤_}
 use mathlib.Core.Path.{_≡_}
-use mathlib.Core.Bool.{Bool, false, not}
-use mathlib.Core.List.{List, [], _∷_, _++_}
+use mathlib.Core.Bool.{Bool, true, false, not}
+use mathlib.Core.List.{List, [], _++_}
 use lib.ListN.{length, getD, take, drop}
 use lib.Dec.{T, leb}
 use lib.Ieee.{Float}
@@ -78,10 +78,11 @@ fails p r = not (p r)
 abbrev pub parted : (ℕ → Bool) → List ℕ → List ℕ
 parted p l = keep p l ++ keep (fails p) l
 
--- those that pass stand before those that do not
-abbrev pub Cleft : (ℕ → Bool) → List ℕ → Type 0
-Cleft p [] = Unit {0}
-Cleft p (r ∷ l) = (p r ≡ false → Every (λ k. p k ≡ false) l) × Cleft p l
+-- the first n pass, the others do not
+pub record Cleft (p : ℕ → Bool) (l : List ℕ) (n : ℕ) : Type 0 where
+  pub within : n ≤ length l
+  pub passed : Every (λ r. p r ≡ true) (take n l)
+  pub others : Every (λ r. p r ≡ false) (drop n l)
 
 -- after one pass over a stretch: those that pass at its front, the others at the front of the scratch
 pub record Swept (p : ℕ → Bool) (before col scratch : List ℕ) (r : ℕ) : Type 0 where

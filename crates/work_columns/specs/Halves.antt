@@ -137,8 +137,8 @@ parted-keeps p n m k h l e = parted-long p l ∙ e
 
 -- ---- the pass in code, along the split column lent from low to high
 
-module _ (rows features a e : ℕ) (values targets weights : List Float) (counts : List ℕ) (c : Cut) (order : List ℕ) (flags : ℕ)
-    (q : SplitAsks rows features a e values targets weights counts c order flags) (j : ℕ) (is : j ≡ c .feature) where
+module _ (rows features a e : ℕ) (values targets weights : List Float) (counts : List ℕ) (c : Cut) (order : List ℕ) (n flags : ℕ)
+    (q : SplitAsks rows features a e values targets weights counts c order n flags) (j : ℕ) (is : j ≡ c .feature) where
   abbrev lent : List ℕ
   lent = stretch (j * rows + a) (j * rows + e - (j * rows + a)) order
 
@@ -151,35 +151,33 @@ module _ (rows features a e : ℕ) (values targets weights : List Float) (counts
   pub lent-ends : j * rows + rows ≤ length order
   lent-ends = omega (arith, column-end rows features j (subst (λ k. k < features) (sym is) (q .known)), q .long)
 
-  pub pass-asks : PassAsks rows features values targets weights counts c lent flags
+  pub pass-asks : PassAsks rows features values targets weights counts c lent n flags
   pass-asks =
       record {
         shaped = q .shaped;
-        known = q .known;
         below = subst (Every (λ r. r < rows)) (sym lent-is) (q .below (c .feature) (q .known));
-        short = omega (arith, ap length lent-is, part-long rows features (c .feature) a e order (q .long) (q .known) (q .ordered) (q .high), q .high, q .few);
         count = subst (λ l. tally (map (elementIn features values targets weights counts) l) < 4294967296) (sym lent-is) (q .count);
         room = q .flagRoom;
-        cleft = subst (Cleft (goes (elementIn features values targets weights counts) c)) (sym lent-is) (q .cleft);
+        cleft = subst (λ l. Cleft (goes (elementIn features values targets weights counts) c) l n) (sym lent-is) (q .cleft);
       }
 
   pub split-done : (f f′ : List Bool) (s : Sides) → length f ≡ flags → PassDone (elementIn features values targets weights counts) c lent f f′ s
       → SplitDone rows a e (elementIn features values targets weights counts) c order f′ s
-  split-done f f′ s n d =
+  split-done f f′ s m d =
       record {
         within = omega (arith, d .within, ap length lent-is, part-long rows features (c .feature) a e order (q .long) (q .known) (q .ordered) (q .high));
         sides = d .sides ∙ ap (sidesOf (elementIn features values targets weights counts) c) lent-is;
         marks = subst (λ z. Every (λ r. flagged z r ≡ goes (elementIn features values targets weights counts) c r) (part rows (c .feature) a e order))
             (sym (d .flags ∙ ap (marked (goes (elementIn features values targets weights counts) c) f) lent-is))
             (marked-right (goes (elementIn features values targets weights counts) c) (part rows (c .feature) a e order) f
-            (every-imp _ _ (λ r b. omega (arith, b, n, q .flagRoom)) (part rows (c .feature) a e order) (q .below (c .feature) (q .known))));
+            (every-imp _ _ (λ r b. omega (arith, b, m, q .flagRoom)) (part rows (c .feature) a e order) (q .below (c .feature) (q .known))));
       }
 
 -- ---- the partition by its flags
 
-pub columns-ask : (rows features a e : ℕ) (values targets weights : List Float) (counts : List ℕ) (c : Cut) (order : List ℕ) (scratch flags : ℕ)
-    → SplitAsks rows features a e values targets weights counts c order flags → rows ≤ scratch → ColumnsAsk rows features a e order scratch flags
-columns-ask rows features a e values targets weights counts c order scratch flags q room =
+pub columns-ask : (rows features a e : ℕ) (values targets weights : List Float) (counts : List ℕ) (c : Cut) (order : List ℕ) (n scratch flags : ℕ)
+    → SplitAsks rows features a e values targets weights counts c order n flags → rows ≤ scratch → ColumnsAsk rows features a e order scratch flags
+columns-ask rows features a e values targets weights counts c order n scratch flags q room =
     record {
       long = q .long;
       ordered = q .ordered;
@@ -188,8 +186,8 @@ columns-ask rows features a e values targets weights counts c order scratch flag
       below = λ k h. every-imp _ _ (λ r b. omega (arith, b, q .flagRoom)) (part rows k a e order) (q .below k h);
     }
 
-module _ (rows features a e : ℕ) (values targets weights : List Float) (counts : List ℕ) (c : Cut) (before after : List ℕ) (flags : List Bool) (s : Sides)
-    (q : SplitAsks rows features a e values targets weights counts c before (length flags))
+module _ (rows features a e : ℕ) (values targets weights : List Float) (counts : List ℕ) (c : Cut) (before after : List ℕ) (flags : List Bool) (s : Sides) (n : ℕ)
+    (q : SplitAsks rows features a e values targets weights counts c before n (length flags))
     (d : SplitDone rows a e (elementIn features values targets weights counts) c before flags s) (w : after ≡ partedColumns rows a e (flagged flags) features before) where
   abbrev el : ℕ → Element
   el = elementIn features values targets weights counts

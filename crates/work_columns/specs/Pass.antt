@@ -1,4 +1,4 @@
--- The split pass: the front that goes true, each side row by row, and both together. Assumes nothing.
+-- The split pass: each side row by row, and both together. Assumes nothing.
 use Prim.Native.Nat.{ℕ, _+_, _-_, _<_, _≤_}
 use native.Mathlib.Nat.{zero-add}
 use native.Mathlib.Numerals.{add-one}
@@ -7,35 +7,22 @@ use mathlib.Core.Path.{_≡_, refl, sym, ap, _∙_, subst}
 use mathlib.Core.Logic.{_⊎_, inl, inr}
 use mathlib.Core.Bool.{Bool, true, false, not}
 use mathlib.Core.List.{List, [], _∷_, _++_, map, map-append}
-use lib.ListN.{length, getD, set, take, drop, drop-of-length-le, take-append-drop, length-take, length-drop, length-set}
-use lib.Seq.{drop-cons, take-suc, take-all}
-use lib.Ieee.{Float, le}
+use lib.ListN.{length, getD, set, take, drop, drop-of-length-le, take-append-drop, length-drop, length-set}
+use lib.Seq.{drop-cons, take-all}
+use lib.Ieee.{Float}
 use Rattle.rules.specs.declared.Totals.{Totals}
 use Rattle.rules.specs.declared.Cut.{Cut}
 use Rattle.rules.specs.Words.{keep, total}
-use Rattle.rules.specs.Lent.{cell}
 use Rattle.rules.specs.Totals.{empty, takeIn}
-use Rattle.rules.specs.Search.{Element, Column, at, totalsOf, tally, goesTrue, trueSide, falseSide}
+use Rattle.rules.specs.Search.{Element, Column, totalsOf, tally, goesTrue, trueSide, falseSide}
 use Rattle.rules.specs.Fit.{elementIn}
-use Rattle.lemmas.specs.Lists.{Every, every-imp, every-append, every-take, every-drop, keep-map, total-append}
+use Rattle.lemmas.specs.Lists.{Every, every-take, every-drop, keep-map, total-append}
 use Rattle.criterion.specs.declared.Side.{Side}
 use Rattle.criterion.specs.Sides.{sideOn, joined}
 use Rattle.work_columns.specs.declared.Gathered.{Gathered}
 use Rattle.work_columns.specs.Columns.{bare, fails, Cleft}
-use Rattle.work_columns.specs.Split.{goes, marked, tested, FrontDone, GatherAsks, GatherDone, PassAsks, PassDone}
-use Rattle.work_columns.specs.Cleft.{cleft-rest, front-keeps}
-
--- ---- the front that goes true
-
--- the pass tests what growth tests
-pub cell-goes : (features : ℕ) (values targets weights : List Float) (counts : List ℕ) (c : Cut) (i : ℕ)
-    → le (cell features values (c .feature) i) (c .threshold) ≡ goes (elementIn features values targets weights counts) c i
-unfolding goesTrue at elementIn cell
-cell-goes features values targets weights counts c i = refl
-
-pub front-turn : (p : ℕ → Bool) (l : List ℕ) (i : ℕ) → i < length l → p (getD l i 0) ≡ true → Every (λ r. p r ≡ true) (take i l) → Every (λ r. p r ≡ true) (take (i + 1) l)
-front-turn p l i h t e =
-    subst (Every (λ r. p r ≡ true)) (sym (ap (λ n. take n l) (add-one i) ∙ take-suc l i 0 h)) (every-append _ (take i l) (getD l i 0 ∷ []) e (t, tt))
+use Rattle.work_columns.specs.Split.{goes, marked, GatherAsks, GatherDone, PassAsks, PassDone}
+use Rattle.work_columns.specs.Cleft.{front-keeps, rest-keeps, cleft-count}
 
 -- ---- one side, row by row
 
@@ -132,33 +119,25 @@ module _ (features : ℕ) (values targets weights : List Float) (counts : List �
   bare-side : (l : List ℕ) → sideOn (map (bare targets weights counts) l) ≡ sideOn (map whole l)
   bare-side l = λ i. record { totals = bare-totals empty l i; count = bare-tally l i }
 
-  module _ (c : Cut) (l : List ℕ) (n : ℕ) (w : Cleft (goes whole c) l) (d : FrontDone (tested features values c) l n) where
-    passes : Every (λ r. goes whole c r ≡ true) (take n l)
-    passes = every-imp _ _ (λ r h. sym (cell-goes features values targets weights counts c r) ∙ h) (take n l) (d .passed)
-
-    fail : Every (λ r. goes whole c r ≡ false) (drop n l)
-    fail = cleft-rest (goes whole c) l n w (λ h. sym (cell-goes features values targets weights counts c (getD l n 0)) ∙ d .stop h)
-
+  module _ (c : Cut) (l : List ℕ) (n : ℕ) (w : Cleft (goes whole c) l n) where
     pub pass-done : (before between after : List Bool) (y f : Gathered) {k₁ k₂ : List ℕ} {t : Totals} → k₁ ≡ take n l → k₂ ≡ drop n l → t ≡ empty
         → GatherDone (bare targets weights counts) true t k₁ before between y → GatherDone (bare targets weights counts) false (y .all) k₂ between after f
         → PassDone whole c l before after (record { trueside = y .side; falseside = f .side; all = f .all; rows = n })
     pass-done before between after y f {k₁} {k₂} {t} e₁ e₂ et dy df =
         record {
-          within = d .within;
-          sides = λ i. record { trueside = first i; falseside = second i; all = both i; rows = many i };
-          flags = df .flags ∙ ap (marked (λ k. false) between) e₂ ∙ marked-alike (goes whole c) false between (drop n l) fail
-              ∙ ap (λ z. marked (goes whole c) z (drop n l)) (dy .flags ∙ ap (marked (λ k. true) before) e₁ ∙ marked-alike (goes whole c) true before (take n l) passes)
+          within = w .within;
+          sides = λ i. record { trueside = first i; falseside = second i; all = both i; rows = cleft-count (goes whole c) l n w i };
+          flags = df .flags ∙ ap (marked (λ k. false) between) e₂ ∙ marked-alike (goes whole c) false between (drop n l) (w .others)
+              ∙ ap (λ z. marked (goes whole c) z (drop n l)) (dy .flags ∙ ap (marked (λ k. true) before) e₁ ∙ marked-alike (goes whole c) true before (take n l) (w .passed))
               ∙ sym (marked-append (goes whole c) before (take n l) (drop n l)) ∙ ap (marked (goes whole c) before) (take-append-drop n l);
         }
       where
-        halves : (keep (goes whole c) l ≡ take n l) × (keep (fails (goes whole c)) l ≡ drop n l)
-        halves = front-keeps (goes whole c) l n passes fail
-
         first : y .side ≡ sideOn (trueSide c (map whole l))
-        first = dy .side ∙ ap (λ z. sideOn (map (bare targets weights counts) z)) (e₁ ∙ sym (halves .0)) ∙ bare-side (keep (goes whole c) l) ∙ ap sideOn (sym (keep-map (goesTrue c) whole l))
+        first = dy .side ∙ ap (λ z. sideOn (map (bare targets weights counts) z)) (e₁ ∙ sym (front-keeps (goes whole c) l n w)) ∙ bare-side (keep (goes whole c) l)
+            ∙ ap sideOn (sym (keep-map (goesTrue c) whole l))
 
         second : f .side ≡ sideOn (falseSide c (map whole l))
-        second = df .side ∙ ap (λ z. sideOn (map (bare targets weights counts) z)) (e₂ ∙ sym (halves .1)) ∙ bare-side (keep (fails (goes whole c)) l)
+        second = df .side ∙ ap (λ z. sideOn (map (bare targets weights counts) z)) (e₂ ∙ sym (rest-keeps (goes whole c) l n w)) ∙ bare-side (keep (fails (goes whole c)) l)
             ∙ ap sideOn (sym (keep-map (λ e. not (goesTrue c e)) whole l))
 
         both : f .all ≡ totalsOf empty (map whole l)
@@ -169,21 +148,19 @@ module _ (features : ℕ) (values targets weights : List Float) (counts : List �
             ∙ ap (totalsOf empty) (sym (map-append (bare targets weights counts) (take n l) (drop n l)) ∙ ap (map (bare targets weights counts)) (take-append-drop n l))
             ∙ bare-totals empty l
 
-        many : n ≡ length (keep (goes whole c) l)
-        many = sym (ap length (halves .0) ∙ (length-take n l ∙ omega (arith, d .within)))
-
 -- ---- a column lent in two
 
-pub lent-front : (l : List ℕ) (n : ℕ) → take (n - 0) l ≡ take n l
-lent-front l n = ap (λ k. take k l) (let e : n - 0 ≡ n = omega arith in e)
+-- at n, which the code widened to k
+pub lent-front : (l : List ℕ) (n : ℕ) {k : ℕ} → k ≡ n → take (k - 0) l ≡ take n l
+lent-front l n {k} q = ap (λ m. take m l) (let e : k - 0 ≡ n = omega (arith, q) in e)
 
-pub lent-rest : (l : List ℕ) (n : ℕ) → take (length l - n) (drop n l) ≡ drop n l
-lent-rest l n = take-all (length l - n) (drop n l) (let h : length (drop n l) ≤ length l - n = simp (length-drop) (omega arith) in h)
+pub lent-rest : (l : List ℕ) (n : ℕ) {k : ℕ} → k ≡ n → take (length l - k) (drop k l) ≡ drop n l
+lent-rest l n {k} q = take-all (length l - k) (drop k l) (let h : length (drop k l) ≤ length l - k = simp (length-drop) (omega arith) in h) ∙ ap (λ m. drop m l) q
 
-pub part-asks : {rows features : ℕ} {values targets weights : List Float} {counts : List ℕ} {c : Cut} {l : List ℕ} {flags : ℕ}
-    → PassAsks rows features values targets weights counts c l flags → (n : ℕ)
+pub part-asks : {rows features : ℕ} {values targets weights : List Float} {counts : List ℕ} {c : Cut} {l : List ℕ} {n flags : ℕ}
+    → PassAsks rows features values targets weights counts c l n flags
     → {k : List ℕ} → (k ≡ take n l) ⊎ (k ≡ drop n l) → GatherAsks rows targets weights counts k flags
-part-asks {rows} {features} {values} {targets} {weights} {counts} {c} {l} {flags} q n {k} h =
+part-asks {rows} {features} {values} {targets} {weights} {counts} {c} {l} {n} {flags} q {k} h =
     record {
       tables = q .shaped .tables;
       targeted = q .shaped .targeted;

@@ -1,14 +1,13 @@
 -- The split pass: what it makes of the rows of a stretch, and what it leaves in the flags.
 use Prim.Native.Nat.{ℕ, _-_, _*_, _<_, _≤_}
 use mathlib.Core.Path.{_≡_}
-use mathlib.Core.Bool.{Bool, true, false}
+use mathlib.Core.Bool.{Bool}
 use mathlib.Core.List.{List, [], _∷_, map}
-use lib.ListN.{length, getD, set, take}
-use lib.Ieee.{Float, le}
+use lib.ListN.{length, set}
+use lib.Ieee.{Float}
 use Rattle.rules.specs.declared.Totals.{Totals}
 use Rattle.rules.specs.declared.Cut.{Cut}
 use Rattle.rules.specs.Words.{keep, total}
-use Rattle.rules.specs.Lent.{cell}
 use Rattle.rules.specs.Totals.{empty}
 use Rattle.rules.specs.Search.{Element, totalsOf, tally, goesTrue, trueSide, falseSide}
 use Rattle.rules.specs.Fit.{elementIn}
@@ -40,21 +39,6 @@ unfoldable pub marked : (ℕ → Bool) → List Bool → List ℕ → List Bool
 marked p flags [] = flags
 marked p flags (r ∷ l) = marked p (set flags r (p r)) l
 
--- the test in code
-abbrev pub tested : ℕ → List Float → Cut → ℕ → Bool
-tested features values c r = le (cell features values (c .feature) r) (c .threshold)
-
-pub record FrontAsks (rows features : ℕ) (values : List Float) (c : Cut) (col : List ℕ) : Type 0 where
-  pub wide : length values ≡ rows * features
-  pub known : c .feature < features
-  pub below : Every (λ r. r < rows) col
-
--- n entries pass, and the next does not
-pub record FrontDone (p : ℕ → Bool) (l : List ℕ) (n : ℕ) : Type 0 where
-  pub within : n ≤ length l
-  pub passed : Every (λ r. p r ≡ true) (take n l)
-  pub stop : n < length l → p (getD l n 0) ≡ false
-
 pub record GatherAsks (rows : ℕ) (targets weights : List Float) (counts col : List ℕ) (flags : ℕ) : Type 0 where
   pub tables : Counted rows weights counts
   pub targeted : length targets ≡ rows
@@ -67,14 +51,12 @@ pub record GatherDone (el : ℕ → Element) (t : Bool) (start : Totals) (col : 
   pub all : r .all ≡ totalsOf start (map el col)
   pub flags : after ≡ marked (λ k. t) before col
 
-pub record PassAsks (rows features : ℕ) (values targets weights : List Float) (counts : List ℕ) (c : Cut) (col : List ℕ) (flags : ℕ) : Type 0 where
+pub record PassAsks (rows features : ℕ) (values targets weights : List Float) (counts : List ℕ) (c : Cut) (col : List ℕ) (n flags : ℕ) : Type 0 where
   pub shaped : Shaped rows features values targets weights counts
-  pub known : c .feature < features
   pub below : Every (λ r. r < rows) col
-  pub short : length col < 4294967296
   pub count : tally (map (elementIn features values targets weights counts) col) < 4294967296
   pub room : rows ≤ flags
-  pub cleft : Cleft (goes (elementIn features values targets weights counts) c) col
+  pub cleft : Cleft (goes (elementIn features values targets weights counts) c) col n
 
 pub record PassDone (el : ℕ → Element) (c : Cut) (col : List ℕ) (before after : List Bool) (s : Sides) : Type 0 where
   pub within : s .rows ≤ length col
@@ -87,9 +69,8 @@ pub record PassDone (el : ℕ → Element) (c : Cut) (col : List ℕ) (before af
 abbrev pub Alike : List ℕ → List ℕ → Type 0
 Alike l m = (g : ℕ → ℕ) → total g l ≡ total g m
 
-pub record SplitAsks (rows features a e : ℕ) (values targets weights : List Float) (counts : List ℕ) (c : Cut) (order : List ℕ) (flags : ℕ) : Type 0 where
+pub record SplitAsks (rows features a e : ℕ) (values targets weights : List Float) (counts : List ℕ) (c : Cut) (order : List ℕ) (n flags : ℕ) : Type 0 where
   pub shaped : Shaped rows features values targets weights counts
-  pub few : rows < 4294967296
   pub known : c .feature < features
   pub long : features * rows ≤ length order
   pub ordered : a ≤ e
@@ -98,7 +79,7 @@ pub record SplitAsks (rows features a e : ℕ) (values targets weights : List Fl
   pub below : (k : ℕ) → k < features → Every (λ r. r < rows) (part rows k a e order)
   pub alike : (k : ℕ) → k < features → Alike (part rows (c .feature) a e order) (part rows k a e order)
   pub count : tally (map (elementIn features values targets weights counts) (part rows (c .feature) a e order)) < 4294967296
-  pub cleft : Cleft (goes (elementIn features values targets weights counts) c) (part rows (c .feature) a e order)
+  pub cleft : Cleft (goes (elementIn features values targets weights counts) c) (part rows (c .feature) a e order) n
 
 -- the sides, and each row's flag
 pub record SplitDone (rows a e : ℕ) (el : ℕ → Element) (c : Cut) (order : List ℕ) (flags : List Bool) (s : Sides) : Type 0 where

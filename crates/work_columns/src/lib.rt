@@ -12,7 +12,7 @@ ghost use Rattle.rules.specs.Search.{totalsOf};
 ghost use Rattle.rules.specs.Fit.{elementIn};
 ghost use Rattle.lemmas.specs.Work.{part};
 ghost use Rattle.work_columns.specs.Columns.{bare, RootAsks, CountAsks, KeptTo, KeepAsks, KeptAll, KeepAllAsks, flagged, parted, partedColumns, Swept, Parted, PartAsks, ColumnsAsk};
-ghost use Rattle.work_columns.specs.Split.{tested, FrontAsks, FrontDone, GatherAsks, GatherDone, PassAsks, PassDone, SplitAsks, SplitDone};
+ghost use Rattle.work_columns.specs.Split.{GatherAsks, GatherDone, PassAsks, PassDone, SplitAsks, SplitDone};
 use criterion::Side;
 use rules::Cut;
 use rules::Totals;
@@ -183,24 +183,6 @@ pub fn partition_columns(
 
 // ---- the split pass
 
-// How many rows at the front of a column go to the true side.
-fn true_rows(values: &[f64], col: &[u32], rows: usize, features: usize, cut: Cut) -> usize
-    requires { ⌜ FrontAsks rows features (now values) cut (now col) ⌝ }
-    ensures { λ r. ⌜ FrontDone (tested features (now (values .entry)) cut) (now (col .entry)) r ⌝ }
-{
-    let j = slices::wide(cut.feature);
-    let mut i: usize = 0;
-    while i < col.len() {
-        let x = slices::cell_at(values, features, slices::wide(col[i]), j);
-        if x <= cut.threshold {
-            i += 1;
-        } else {
-            return i;
-        }
-    }
-    i
-}
-
 // The rows of a column on one side, all flagged t; and the whole, which had `start`, with them.
 fn gather(
     flags: &mut [bool],
@@ -230,7 +212,7 @@ fn gather(
     Gathered { side, all }
 }
 
-// Along the split column's stretch, in which the true side stands first: each row gets its flag, and its side and the whole take it in.
+// Along the split column's stretch, whose first n rows are the true side: each row gets its flag, and its side and the whole take it in. No value is read.
 pub fn split_pass(
     flags: &mut [bool],
     values: &[f64],
@@ -241,20 +223,21 @@ pub fn split_pass(
     rows: usize,
     features: usize,
     cut: Cut,
+    n: u32,
 ) -> Sides
-    requires { ⌜ PassAsks rows features (now values) (now targets) (now weights) (now counts) cut (now col) (length (now flags)) ⌝ }
+    requires { ⌜ PassAsks rows features (now values) (now targets) (now weights) (now counts) cut (now col) n (length (now flags)) ⌝ }
     ensures { λ r. ⌜
         PassDone (elementIn features (now (values .entry)) (now (targets .entry)) (now (weights .entry)) (now (counts .entry))) cut (now (col .entry))
         (now (flags .entry)) (now (flags .exit)) r ⌝ }
 {
-    let n = true_rows(values, col, rows, features, cut);
+    let mid = slices::wide(n);
     let none = criterion::no_rows();
     let front = gather(
         flags,
         targets,
         weights,
         counts,
-        &col[0..n],
+        &col[0..mid],
         rows,
         true,
         none,
@@ -266,7 +249,7 @@ pub fn split_pass(
         targets,
         weights,
         counts,
-        &col[n..col.len()],
+        &col[mid..col.len()],
         rows,
         false,
         t,
@@ -277,11 +260,11 @@ pub fn split_pass(
         trueside,
         falseside,
         all,
-        rows: n as u32,
+        rows: n,
     }
 }
 
-// The pass of a node whose rows lie from `start` to `end` of every column.
+// The pass of a node whose rows lie from `start` to `end` of every column, n of them on the true side.
 pub fn split_sides(
     flags: &mut [bool],
     values: &[f64],
@@ -294,8 +277,9 @@ pub fn split_sides(
     start: usize,
     end: usize,
     cut: Cut,
+    n: u32,
 ) -> Sides
-    requires { ⌜ SplitAsks rows features start end (now values) (now targets) (now weights) (now counts) cut (now order) (length (now flags)) ⌝ }
+    requires { ⌜ SplitAsks rows features start end (now values) (now targets) (now weights) (now counts) cut (now order) n (length (now flags)) ⌝ }
     ensures { λ r. ⌜
         SplitDone rows start end (elementIn features (now (values .entry)) (now (targets .entry)) (now (weights .entry)) (now (counts .entry))) cut (now (order .entry))
         (now (flags .exit)) r ⌝ }
@@ -314,5 +298,6 @@ pub fn split_sides(
         rows,
         features,
         cut,
+        n,
     )
 }

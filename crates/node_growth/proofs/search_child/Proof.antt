@@ -1,8 +1,11 @@
 -- `node_growth::search_child` meets its contract: what the search of a child finds is pushed, and a child that is not searched leaves all as it was. Assumes nothing.
-use mathlib.Core.Path.{sym, _∙_}
+use Prim.Native.Nat.{ℕ}
+use mathlib.Core.Path.{_≡_, sym, _∙_, subst}
 use borrow.Author.Needs.{needs}
-use Rattle.search.specs.Flat.{Tables, tablesOf}
-use Rattle.node_growth.specs.Rooms.{Ground, groundOf}
+use Rattle.search.specs.declared.Search.{Search}
+use Rattle.search.specs.Flat.{Tables, tablesOf, RowsAfter, Searched}
+use Rattle.node_growth.specs.Rooms.{Ground, groundOf, nodeRows, FoundIn}
+use Rattle.node_growth.specs.InColumns.{found-in, found-short}
 use Rattle.node_growth.specs.Steps.{node-at, ask-not, ask-goes}
 use Rattle.node_growth.proofs.search_child.Statement.{statement}
 use Rattle.node_growth.proofs.search_child.Tie as tie
@@ -51,6 +54,15 @@ at-is-searched c = at-then1 c .before
 abbrev start-of-reals : tie.After-reals → tie.Start
 start-of-reals c = start-of-wide2 (at-wide2 c)
 
+-- what the search found, by the columns
+found : (s : tie.Start) {a e : ℕ} → a ≡ s .args .from → e ≡ s .args .to → {r : Search}
+    → Searched (s .args .p) (s .args .words .now) (s .args .thresholds .now) (nodeRows (ground s) a e (s .args .a)) (s .args .s .drawn) r
+    → FoundIn (ground s) (s .args .from) (s .args .to) (s .args .a) r
+found s {a} {e} ea ee {r} d =
+    found-in (ground s) (s .args .from) (s .args .to) (s .args .a) (s .pre .node) (s .args .p .features) (s .pre .same) r
+    (subst (λ z. RowsAfter (s .args .p .features) (nodeRows (ground s) z (s .args .to) (s .args .a)) r) ea
+    (subst (λ z. RowsAfter (s .args .p .features) (nodeRows (ground s) a z (s .args .a)) r) ee (d .rows)))
+
 search-node-requires : tie.Need-search-node-requires
 search-node-requires c κs =
     let a = start-of-wide2 c .args in
@@ -64,7 +76,14 @@ search-node-requires c κs =
     )
 
 push-found-requires : tie.Need-push-found-requires
-push-found-requires c κs = (start-to-push-found c .pre .wholes, start-to-push-found c .pre .reals)
+push-found-requires c κs =
+    let s = start-to-push-found c in
+    let n = c .before .before in (
+      s .pre .wholes,
+      s .pre .reals,
+      found-short (ground s) (s .args .from) (s .args .to) (s .args .a) (n .search-node .result)
+          (found s (n .before .before .wide .ensures) (n .before .wide2 .ensures) (n .search-node .ensures)),
+    )
 
 same-length : tie.Need-same-length
 same-length c = search needs
@@ -77,7 +96,8 @@ returns c =
     let a = start-of-reals c .args in
     ask-goes (ground (start-of-reals c)) (a .p) (a .words .now) (a .thresholds .now) (a .wholes .now) (a .reals .now) (a .node) (a .level) (a .from) (a .to)
     (a .a) (a .s) (sym (at-is-searched c .is-searched .ensures) ∙ at-then1 c .if1 .taken) (at-wide c .wide .ensures) (at-wide2 c .wide2 .ensures)
-    (at-search-node c .search-node .ensures) (c .before .before .push-found .ensures)
+    (at-search-node c .search-node .ensures)
+    (found (start-of-reals c) (at-wide c .wide .ensures) (at-wide2 c .wide2 .ensures) (at-search-node c .search-node .ensures)) (c .before .before .push-found .ensures)
 
 returns-2 : tie.Need-returns-2
 returns-2 c =

@@ -3,7 +3,7 @@ use native.Mathlib.Omega.{arith}
 use mathlib.Core.Path.{sym, ap, _∙_, subst}
 use Prim.Native.Nat.{_+_, _-_, _≤_, _<_, min}
 use lib.ListN.{length, drop, take}
-use Rattle.search.specs.Flat.{Tables, tablesOf, nodeRowsAt}
+use Rattle.search.specs.Flat.{Tables, tablesOf, nodeRowsAt, RowsTried}
 use Rattle.rules.specs.Words.{eachOnce}
 use Rattle.search.specs.Tries.{chosen-at, search-bad, search-short, search-stop, search-goes}
 use borrow.Author.Needs.{needs}
@@ -103,7 +103,7 @@ returns-2 c =
     (nodeRowsAt (a .rows) (a .features) (a .from) (a .to) (tables (start-of-enum-told c)) (a .order .now) (a .a)) (a .d) (start-of-enum-told c .pre .4) (sym (ap
     (λ n. eachOnce n (take n (drop (a .d .words) (a .words .now)))) (start-of-enum-told c .pre .1)) ∙ sym (choice-good-of-enum-told c .choice-good .ensures) ∙
     then2-of-enum-told c .if2 .taken) (c .before .before .before .least .ensures ∙ ap (λ z. min z (a .features))
-    (c .before .before .before .before .wide .ensures) ∙ ap (min (a .p .tried)) (start-of-enum-told c .pre .1)) _ (c .before .before .try-all .ensures)
+    (c .before .before .before .before .wide .ensures) ∙ ap (min (a .p .tried)) (start-of-enum-told c .pre .1)) _ (c .before .before .try-all .ensures .0)
     (c .enum-told .given .1)
 
 add-t24 : tie.Need-add-t24
@@ -128,7 +128,9 @@ returns-3 c =
     (sym (ap (λ n. eachOnce n (take n (drop (a .d .words) (a .words .now)))) (start-of-known c .pre .1)) ∙ sym (choice-good-of-known
     c .choice-good .ensures) ∙ then2-of-known c .if2 .taken)
     (at-least c .least .ensures ∙ ap (λ z. min z (a .features)) (at-wide c .wide .ensures) ∙ ap (min (a .p .tried)) (start-of-known c .pre .1)) _
-    (c .before .before .before .before .try-all .ensures) _ _ (c .before .before .r .given .1) (a .features) (start-of-known c .pre .1)
+    (c .before .before .before .before .try-all .ensures .0) _ _ (c .before .before .r .given .1)
+    (subst (λ n. RowsTried n (nodeRowsAt (a .rows) (a .features) (a .from) (a .to) (tables (start-of-known c)) (a .order .now) (a .a)) (c .before .before .before .before .try-all .result))
+    (start-of-known c .pre .1) (c .before .before .before .before .try-all .ensures .1)) (a .features) (start-of-known c .pre .1)
     (omega (arith, start-of-known c .pre .4 .0, else1-of-known c .if1 .left)) (start-of-known c .pre .3)
 
 returns-4 : tie.Need-returns-4

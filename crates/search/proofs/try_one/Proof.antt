@@ -3,9 +3,10 @@ use native.Mathlib.Omega.{arith}
 use mathlib.Core.Path.{sym, subst}
 use Prim.Native.Nat.{_≤_}
 use mathlib.Core.List.{map}
-use Rattle.search.specs.Flat.{Tables, tablesOf, Below, elementOf, left}
+use Rattle.search.specs.Flat.{Tables, tablesOf, Below, elementOf, Sorted, left}
 use Rattle.rules.specs.Search.{tally}
 use Rattle.search.specs.Tries.{part-is, column-room, try-best, try-random}
+use Rattle.search.specs.Rows.{try-rows, tries-rows}
 use borrow.Author.Needs.{needs}
 use Rattle.search.proofs.try_one.Statement.{statement}
 use Rattle.search.proofs.try_one.Tie as tie
@@ -114,9 +115,9 @@ best-in-requires c κs =
           (q .below (a .j) (start-to-best-in c .pre .1)),
       (
         (q .shape, start-to-best-in c .pre .1),
-        subst (λ l. tally (map (elementOf (a .features) (tables
-            (start-to-best-in c))) l) ≤ a .a .count) (sym (part-is (a .rows) (a .order .now) (a .from) (a .to) (a .j) (c .before .before .before .wide .ensures)
-            (q .ordered))) (q .room (a .j) (start-to-best-in c .pre .1)),
+        subst (λ l. (tally (map (elementOf (a .features) (tables (start-to-best-in c))) l) ≤ a .a .count) × Sorted (a .j) (map (elementOf (a .features) (tables
+            (start-to-best-in c))) l)) (sym (part-is (a .rows) (a .order .now) (a .from) (a .to) (a .j) (c .before .before .before .wide .ensures)
+            (q .ordered))) (omega (arith, q .room (a .j) (start-to-best-in c .pre .1)), q .sorted (a .j) (start-to-best-in c .pre .1)),
       ),
     )
 
@@ -163,29 +164,30 @@ random-in-requires c κs =
         (q .shape, start-to-random-in c .pre .1),
         subst (λ l. tally (map (elementOf (a .features) (tables
             (start-to-random-in c))) l) ≤ a .a .count) (sym (part-is (a .rows) (a .order .now) (a .from) (a .to) (a .j) (c .before .before .before .wide .ensures)
-            (q .ordered))) (q .room (a .j) (start-to-random-in c .pre .1)),
+            (q .ordered))) (omega (arith, q .room (a .j) (start-to-random-in c .pre .1))),
       ),
     )
 
 returns : tie.Need-returns
 returns c =
-    λ W s.
     let a = start-of-best-in c .args in
-    let q = start-of-best-in c .pre .0 in
-    try-best (a .rows) (a .features) (a .from) (a .to) (tables (start-of-best-in c)) (a .order .now) (a .a) (a .p) (a .j) (start-of-best-in c .pre .1) (a .h)
-    (left W (a .thresholds .now) s (a .m))
-    (part-is (a .rows) (a .order .now) (a .from) (a .to) (a .j) (c .before .before .before .before .wide .ensures) (q .ordered)) (c .best-in .ensures)
-    (c .before .before .enum-told .given .1)
+    let q = start-of-best-in c .pre in
+    let p = part-is (a .rows) (a .order .now) (a .from) (a .to) (a .j) (c .before .before .before .before .wide .ensures) (q .0 .ordered) in (
+      λ W s. try-best (a .rows) (a .features) (a .from) (a .to) (tables (start-of-best-in c)) (a .order .now) (a .a) (a .p) (a .j) (q .1) (a .h .held)
+          (left W (a .thresholds .now) s (a .m)) p (c .best-in .ensures .0) (c .before .before .enum-told .given .1),
+      try-rows (a .rows) (a .features) (a .from) (a .to) (tables (start-of-best-in c)) (a .order .now) (a .a) (a .p) (a .j) (q .1) (a .h) p _ (c .best-in .ensures .1) (q .2),
+    )
 
 returns-2 : tie.Need-returns-2
 returns-2 c =
-    λ W s.
     let a = start-of-random-in c .args in
-    let q = start-of-random-in c .pre .0 in
-    try-random (a .rows) (a .features) (a .from) (a .to) (tables (start-of-random-in c)) (a .order .now) (a .a) (a .p) (a .j) (start-of-random-in c .pre .1)
-    (record { best = a .h; left = left W (a .thresholds .now) s (a .m) })
-    (part-is (a .rows) (a .order .now) (a .from) (a .to) (a .j) (c .before .before .before .before .wide .ensures) (q .ordered)) (c .random-in .ensures W s)
-    (c .before .before .enum-told2 .given .1)
+    let q = start-of-random-in c .pre in
+    let p = part-is (a .rows) (a .order .now) (a .from) (a .to) (a .j) (c .before .before .before .before .wide .ensures) (q .0 .ordered) in (
+      λ W s. try-random (a .rows) (a .features) (a .from) (a .to) (tables (start-of-random-in c)) (a .order .now) (a .a) (a .p) (a .j) (q .1)
+          (record { best = a .h .held; left = left W (a .thresholds .now) s (a .m) }) p (c .random-in .ensures .0 W s) (c .before .before .enum-told2 .given .1),
+      tries-rows (a .rows) (a .features) (a .from) (a .to) (tables (start-of-random-in c)) (a .order .now) (a .a) (a .p) (a .j) (q .1) (a .h) p (c .random-in .result)
+          (c .random-in .ensures .1) (q .2),
+    )
 
 pub try-one-spec : {M : Type 1} → statement M
 try-one-spec =

@@ -176,7 +176,7 @@ split-node-requires c κs =
     growing-split _ _ _ _ _ _ _ _ _ _ _ _ _ _ (loop-of (searched-of e) .loop .flags) _ _ _ _ _
     (loop-of (searched-of e) .loop .inv) _ _ _ (searched-of e .search-pair .ensures) _ (told-of e .r2 .given .1)
     (searched-of e .search-pair .kept .0) (searched-of e .search-pair .kept .1 .0) (omega (arith, e .if1 .left))
-    (t .top .ensures) (t .top .ok .1 .1 .1 .1 .1 .1 .0 .1)
+    (t .top .ensures)
 
 part-sides-requires : tie.Need-part-sides-requires Inv-loop μ-loop
 part-sides-requires c κs =
@@ -186,7 +186,7 @@ part-sides-requires c κs =
     growing-parts _ _ _ _ _ _ _ _ _ _ _ _ _ _ (loop-of (searched-of e) .loop .flags) _ _ _ _ _
     (loop-of (searched-of e) .loop .inv) _ _ _ (searched-of e .search-pair .ensures) _ (told-of e .r2 .given .1)
     (searched-of e .search-pair .kept .0) (searched-of e .search-pair .kept .1 .0) (omega (arith, e .if1 .left))
-    (t .top .ensures) (t .top .ok .1 .1 .1 .1 .1 .1 .0 .1) _ (p .split-node .kept .0) _ (p .split-node .ensures .0)
+    (t .top .ensures) _ (p .split-node .kept .0) _ (p .split-node .ensures .0)
 
 greater-requires : tie.Need-greater-requires Inv-loop μ-loop
 greater-requires c κs = search needs
@@ -216,7 +216,7 @@ loop-again c =
     growing-on _ _ _ _ _ _ _ _ _ _ _ _ _ _ (loop-of (searched-of e) .loop .flags) _ _ _ _ _
     (loop-of (searched-of e) .loop .inv) _ _ _ (searched-of e .search-pair .ensures) _ (told-of e .r2 .given .1)
     (searched-of e .search-pair .kept .0) (searched-of e .search-pair .kept .1 .0) (omega (arith, e .if1 .left))
-    (t .ensures) (t .ok .1 .1 .1 .1 .1 .1 .0 .1) _ (p .kept .0) _ (p .ensures .0) _ (p .ensures .1) _ _ (parted c .part-sides .ensures) _ (c .greater .ensures)
+    (t .ensures) _ (p .kept .0) _ (p .ensures .0) _ (p .ensures .1) _ _ (parted c .part-sides .ensures) _ (c .greater .ensures)
     (parted c .part-sides .kept .1 .0) (p .kept .1 .0) (p .kept .1 .1 .0) (p .kept .1 .1 .1 .0) (p .kept .1 .1 .1 .1 .0) (p .kept .1 .1 .1 .1 .1 .0)
     (p .kept .1 .1 .1 .1 .1 .1 .0)
 

@@ -1,6 +1,5 @@
 -- `work_columns::split_pass` meets its contract: the front that goes true, and the rest. Assumes nothing.
 use borrow.Author.Needs.{needs}
-use native.Mathlib.Omega.{arith}
 use mathlib.Core.Path.{sym, subst}
 use mathlib.Core.Logic.{inl, inr}
 use denote.Ref.{now}
@@ -9,8 +8,8 @@ use Rattle.work_columns.specs.Pass.{lent-front, lent-rest, part-asks, pa
 use Rattle.work_columns.proofs.split_pass.Statement.{statement}
 use Rattle.work_columns.proofs.split_pass.Tie as tie
 
-true-rows-requires : tie.Need-true-rows-requires
-true-rows-requires c κs = search needs
+wide-requires : tie.Need-wide-requires
+wide-requires c κs = search needs
 
 no-rows-requires : tie.Need-no-rows-requires
 no-rows-requires c κs = search needs
@@ -30,8 +29,8 @@ start-to-gather c = c .before .before .before .before .before .before .before .b
 abbrev front-to-rest : tie.After-gather-arg4 → tie.After-gather
 front-to-rest c = c .before .before .before .before .before .before
 
-abbrev true-rows-to-rest : tie.After-gather-arg4 → tie.After-true-rows
-true-rows-to-rest c = front-to-rest c .before .before .before .before
+abbrev wide-to-rest : tie.After-gather-arg4 → tie.After-wide
+wide-to-rest c = front-to-rest c .before .before .before .before
 
 abbrev start-to-rest : tie.After-gather-arg4 → tie.Start
 start-to-rest c = start-to-gather (front-to-rest c .before)
@@ -42,16 +41,16 @@ gather-of-all c = front-to-rest (c .before .before .before .before .before)
 abbrev at-no-rows : tie.After-all → tie.After-no-rows
 at-no-rows c = gather-of-all c .before .before .before
 
-abbrev true-rows-of-all : tie.After-all → tie.After-true-rows
-true-rows-of-all c = at-no-rows c .before
+abbrev wide-of-all : tie.After-all → tie.After-wide
+wide-of-all c = at-no-rows c .before
 
 abbrev start-of-all : tie.After-all → tie.Start
 start-of-all c = start-to-gather (gather-of-all c .before)
 
 gather-requires : tie.Need-gather-requires
 gather-requires c κs =
-    let n = c .before .before .before .true-rows .result in
-    part-asks (start-to-gather c .pre) n (inl (lent-front (now (start-to-gather c .args .col)) n))
+    let a = start-to-gather c in
+    part-asks (a .pre) (inl (lent-front (now (a .args .col)) (a .args .n) (c .before .before .before .wide .ensures)))
 
 mul-gather : tie.Need-mul-gather
 mul-gather c = search needs
@@ -67,13 +66,9 @@ part-gather-end-2 c = search needs
 
 gather-requires-2 : tie.Need-gather-requires-2
 gather-requires-2 c κs =
-    let n = true-rows-to-rest c .true-rows .result in
     let a = start-to-rest c in
     subst (GatherAsks (a .args .rows) (now (a .args .targets)) (now (a .args .weights)) (now (a .args .counts)) _)
-    (sym (front-to-rest c .gather .kept .0)) (part-asks (a .pre) n (inr (lent-rest (now (a .args .col)) n)))
-
-cast-t31 : tie.Need-cast-t31
-cast-t31 c = omega (arith, true-rows-of-all c .true-rows .ensures .within, start-of-all c .pre .short)
+    (sym (front-to-rest c .gather .kept .0)) (part-asks (a .pre) (inr (lent-rest (now (a .args .col)) (a .args .n) (wide-to-rest c .wide .ensures))))
 
 same-length : tie.Need-same-length
 same-length c = search needs
@@ -82,17 +77,17 @@ returns : tie.Need-returns
 returns c =
     let a = start-of-all c in
     let g = gather-of-all c in
-    let n = g .before .before .before .before .true-rows .result in
+    let e = wide-of-all c .wide .ensures in
     pass-done (a .args .features) (now (a .args .values)) (now (a .args .targets)) (now (a .args .weights)) (now (a .args .counts)) (a .args .cut)
-    (now (a .args .col)) n (a .pre .cleft) (true-rows-of-all c .true-rows .ensures)
-    (now (a .args .flags)) _ _ (g .gather .result) (c .before .before .before .before .gather2 .result) (lent-front (now (a .args .col)) n)
-    (lent-rest (now (a .args .col)) n) (at-no-rows c .no-rows .ensures) (g .gather .ensures) (c .before .before .before .before .gather2 .ensures)
+    (now (a .args .col)) (a .args .n) (a .pre .cleft)
+    (now (a .args .flags)) _ _ (g .gather .result) (c .before .before .before .before .gather2 .result) (lent-front (now (a .args .col)) (a .args .n) e)
+    (lent-rest (now (a .args .col)) (a .args .n) e) (at-no-rows c .no-rows .ensures) (g .gather .ensures) (c .before .before .before .before .gather2 .ensures)
 
 pub split-pass-spec : {M : Type 1} → statement M
 split-pass-spec =
     tie.close
     (tie.spec
-    true-rows-requires
+    wide-requires
     no-rows-requires
     sub-gather
     part-gather-start
@@ -103,6 +98,5 @@ split-pass-spec =
     part-gather-start-2
     part-gather-end-2
     gather-requires-2
-    cast-t31
     same-length
     returns)

@@ -13,7 +13,7 @@ abbrev start : tie.After-wide → tie.Start
 start c = c .before .before .before .before .before .before .before
 
 room : (c : tie.After-wide) → c .wide .result * start c .args .rows + start c .args .rows ≤ length (now (start c .args .order))
-room c = lent-ends _ _ _ _ _ _ _ _ _ _ _ (start c .pre) (c .wide .result) (c .wide .ensures)
+room c = lent-ends _ _ _ _ _ _ _ _ _ _ _ _ (start c .pre) (c .wide .result) (c .wide .ensures)
 
 wide-requires : tie.Need-wide-requires
 wide-requires c κs = search needs
@@ -40,7 +40,7 @@ part-split-pass-end : tie.Need-part-split-pass-end
 part-split-pass-end c = let b = c .before in omega (arith, room b, start b .pre .ordered, start b .pre .high, start b .good .1 .1 .1 .1 .1 .0)
 
 split-pass-requires : tie.Need-split-pass-requires
-split-pass-requires c κs = let b = c .before .before in pass-asks _ _ _ _ _ _ _ _ _ _ _ (start b .pre) (b .wide .result) (b .wide .ensures)
+split-pass-requires c κs = let b = c .before .before in pass-asks _ _ _ _ _ _ _ _ _ _ _ _ (start b .pre) (b .wide .result) (b .wide .ensures)
 
 same-length : tie.Need-same-length
 same-length c = search needs
@@ -49,7 +49,7 @@ returns : tie.Need-returns
 returns c =
     let p = c .before .before in
     let b = p .before .before .before in
-    split-done _ _ _ _ _ _ _ _ _ _ _ (start b .pre) (b .wide .result) (b .wide .ensures) _ _ _ refl (p .split-pass .ensures)
+    split-done _ _ _ _ _ _ _ _ _ _ _ _ (start b .pre) (b .wide .result) (b .wide .ensures) _ _ _ refl (p .split-pass .ensures)
 
 pub split-sides-spec : {M : Type 1} → statement M
 split-sides-spec =

@@ -1,11 +1,12 @@
 -- `search::best::step_of` meets its contract: by whether the value differs. Assumes nothing.
 use native.Mathlib.Omega.{arith}
 use mathlib.Core.Path.{ap, _∙_}
+use mathlib.Core.Logic.{inl}
 use Rattle.rules.specs.Search.{judge}
-use Rattle.candidates.specs.declared.Spot.{Spot}
 use Rattle.candidates.specs.Held.{bare, heldOf}
 use Rattle.search.specs.Flat.{sweepOf}
 use Rattle.search.specs.Laws.{step-same, step-new}
+use Rattle.search.specs.Runs.{moved-step}
 use borrow.Author.Needs.{needs}
 use Rattle.search.proofs.best.step_of.Statement.{statement}
 use Rattle.search.proofs.best.step_of.Tie as tie
@@ -41,21 +42,20 @@ returns : tie.Need-returns
 returns c =
     let a = start-of-then1 c .args in
     let s = anew-of-then1 c .anew .ensures in (
-      omega (arith, ap (λ (z : Spot). z .place) s, start-of-then1 c .pre .1),
+      inl s,
       λ j k e. step-same (a .p) (a .a) j (sweepOf k (a .w)) (a .e) (ap (heldOf k) s)
           (c .before .before .before .take-in .ensures) (c .if1 .taken),
     )
 
 judge-spot-requires : tie.Need-judge-spot-requires
-judge-spot-requires c κs =
-    let p = start-of-else1 c .pre in
-    (omega (arith, p .0), omega (arith, ap (λ (z : Spot). z .place) (anew-of-else1 c .anew .ensures), p .1))
+judge-spot-requires c κs = omega (arith, start-of-else1 c .pre)
 
 returns-2 : tie.Need-returns-2
 returns-2 c =
-    let a = start-of-judge-spot c .args in (
-      c .judge-spot .ensures .0,
-      λ j k e. step-new (a .p) (a .a) j (sweepOf k (a .w)) (a .e) (ap (heldOf k) (anew-of-judge-spot c .anew .ensures))
+    let a = start-of-judge-spot c .args in
+    let s = anew-of-judge-spot c .anew .ensures in (
+      moved-step (a .w) (a .e) s (c .before .if1 .left) (c .judge-spot .ensures .0),
+      λ j k e. step-new (a .p) (a .a) j (sweepOf k (a .w)) (a .e) (ap (heldOf k) s)
           (c .before .before .before .before .take-in .ensures) (c .before .if1 .left) (c .judge-spot .ensures .1 k ∙ ap (judge (a .p) (bare (a .a)) _ (a .w .before)
           (a .w .count)) e),
     )

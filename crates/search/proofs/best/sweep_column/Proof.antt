@@ -1,6 +1,7 @@
 -- `search::best::sweep_column` meets its contract: the loop's invariant: the sweep from here along the rest is the sweep of the whole. Assumes nothing.
 use native.Mathlib.Omega.{arith}
 use mathlib.Core.Path.{_≡_, refl, sym, ap, _∙_, subst}
+use mathlib.Core.Logic.{inl}
 use Prim.Native.Nat.{ℕ, _+_, _-_, _≤_, _<_}
 use mathlib.Core.List.{map}
 use lib.ListN.{length, getD, drop}
@@ -10,9 +11,9 @@ use Rattle.rules.specs.declared.Held.the-variants.{Nothing}
 use Rattle.rules.specs.Lent.{cell}
 use Rattle.rules.specs.Search.{sweep, tally}
 use Rattle.candidates.specs.Held.{bare, earlierOf}
-use Rattle.search.specs.Flat.{Tables, tablesOf, elementOf, stepIn, sweepOf, runAt, cutsIn}
+use Rattle.search.specs.Flat.{Tables, tablesOf, elementOf, stepIn, sweepOf, runAt, cutsIn, Stood}
 use Rattle.search.specs.Laws.{cell-here, turn-fits, turn-room, turn-sweep, turn-end}
-use Rattle.search.specs.Runs.{turn-cut, turn-run}
+use Rattle.search.specs.Runs.{turn-cut, turn-run, turn-stood}
 use borrow.Author.Needs.{needs}
 use Rattle.search.proofs.best.sweep_column.Statement.{statement}
 use Rattle.search.proofs.best.sweep_column.Tie as tie
@@ -21,7 +22,7 @@ abbrev Inv-loop : tie.InvT-loop
 Inv-loop values targets weights counts col rows features p j a v₀ i₀ v i =
     (i ≤ length col)
     × (v .count + tally (map (elementOf features (tablesOf values targets weights counts)) (drop i col)) ≤ a .count)
-    × (v .spot .place ≤ i)
+    × Stood (cell features values j) col (v₀ .spot) (v .spot)
     × (v .last ≡ runAt (cell features values j) col i)
     × ((b : Cut) → sweep p (bare a) j (sweepOf (cutsIn features values j col b) v) (map (elementOf features (tablesOf values targets weights counts)) (drop i
     col)) ≡ sweep p (bare a) j (sweepOf (cutsIn features values j col b) v₀) (map (elementOf features (tablesOf values targets weights counts)) col))
@@ -57,7 +58,7 @@ abbrev start-of-step-of : tie.After-step-of Inv-loop μ-loop → tie.Start Inv-l
 start-of-step-of c = start-of-cell-of (c .before)
 
 loop-holds : tie.Need-loop-holds Inv-loop μ-loop
-loop-holds c = let p = start-of-known c .pre in (omega arith, p .1 .1 .0, omega (arith, p .1 .1 .1 .0), p .1 .1 .1 .1, λ b. refl)
+loop-holds c = let p = start-of-known c .pre in (omega arith, p .1 .1 .0, inl refl, p .1 .1 .1, λ b. refl)
 
 wide-requires : tie.Need-wide-requires Inv-loop μ-loop
 wide-requires c κs = search needs
@@ -89,11 +90,9 @@ step-of-requires c κs =
     let l = at-loop-of-cell-of c .loop in
     let e =
     cell-here (a .features) (tables (start-of-cell-of c)) (a .j) (getD (a .col .now) (l .i) 0) (c .cell-of .ensures)
-    (c .before .before .before .wide .ensures) (c .before .wide2 .ensures) in (
-      turn-fits (elementOf (a .features) (tables (start-of-cell-of c))) (a .col .now) (l .i) (c .before .before .before .before .loop-test .taken) (a .j)
-          (l .v .count) (a .a .count) e (l .inv .1),
-      omega (arith, l .inv .2),
-    )
+    (c .before .before .before .wide .ensures) (c .before .wide2 .ensures) in
+    turn-fits (elementOf (a .features) (tables (start-of-cell-of c))) (a .col .now) (l .i) (c .before .before .before .before .loop-test .taken) (a .j)
+    (l .v .count) (a .a .count) e (l .inv .1)
 
 loop-less : tie.Need-loop-less Inv-loop μ-loop
 loop-less c = omega (arith, at-in-loop c .loop-test .taken)
@@ -112,7 +111,8 @@ loop-again c =
       omega (arith, at-in-loop c .loop-test .taken),
       turn-room (elementOf (a .features) (tables (start-of-step-of c))) (a .col .now) (l .i) (at-in-loop c .loop-test .taken) (a .p) (a .a) (a .j)
           (sweepOf (k (earlierOf Nothing)) (l .v)) (a .a .count) e (s (earlierOf Nothing)) (l .inv .1),
-      c .step-of .ensures .0,
+      turn-stood (a .features) (tables (start-of-step-of c)) (a .j) (a .col .now) (l .i) (at-in-loop c .loop-test .taken) (a .w .spot) (l .v) (c .step-of .result)
+          (c .before .cell-of .result) e (l .inv .3) (c .step-of .ensures .0) (l .inv .2),
       turn-run (a .features) (tables (start-of-step-of c)) (a .j) (a .col .now) (l .i) e (l .inv .3) (ap (λ (w : Sweep). w .last) (s (earlierOf Nothing))),
       λ b.
           turn-sweep (elementOf (a .features) (tables (start-of-step-of c))) (a .col .now) (l .i) (at-in-loop c .loop-test .taken) (a .p) (a .a) (a .j)
@@ -123,7 +123,7 @@ returns : tie.Need-returns Inv-loop μ-loop
 returns c =
     let a = start-of-loop c .args in
     let l = c .before .loop in (
-      omega (arith, l .inv .0, l .inv .2),
+      l .inv .2,
       λ b. sym (turn-end (elementOf (a .features) (tables (start-of-loop c))) (a .col .now) (l .i) (c .loop-test .left)
           (a .p) (a .a) (a .j) (sweepOf (cutsIn (a .features) (a .values .now) (a .j) (a .col .now) b) (l .v))) ∙ l .inv .4 b,
     )

@@ -1,5 +1,7 @@
 -- `search::random::random_in` meets its contract: a threshold is taken only where the lowest value is below the highest. Assumes nothing.
 use native.Mathlib.Omega.{arith}
+use mathlib.Core.Path.{refl}
+use mathlib.Core.Logic.{inl}
 use Prim.Native.Nat.{_-_}
 use lib.ListN.{length, getD}
 use Rattle.candidates.specs.Held.{bare}
@@ -33,10 +35,11 @@ start-of-else2 c = start-of-else1 (else1-of-else2 c)
 
 returns : tie.Need-returns
 returns c =
-    λ W s.
-    let a = start-of-then1 c .args in
-    random-none (elementOf (a .features) (tables (start-of-then1 c))) (a .col .now) (c .if1 .taken) (a .p) (bare (a .a)) (a .j)
-    (record { best = a .h; left = left W (a .thresholds .now) s (a .m) })
+    let a = start-of-then1 c .args in (
+      λ W s. random-none (elementOf (a .features) (tables (start-of-then1 c))) (a .col .now) (c .if1 .taken) (a .p) (bare (a .a)) (a .j)
+          (record { best = a .h .held; left = left W (a .thresholds .now) s (a .m) }),
+      inl refl,
+    )
 
 value-here-requires : tie.Need-value-here-requires
 value-here-requires c κs =
@@ -56,23 +59,25 @@ draw-in-requires c κs = search needs
 
 returns-2 : tie.Need-returns-2
 returns-2 c =
-    λ W s.
     let a = start-of-draw-in c .args in
     let t = tables (start-of-draw-in c) in
     let lo = value-is (a .features) t (a .j) (getD (a .col .now) 0 0) (c .before .before .before .value-here .ensures) in
-    let hi = value-is (a .features) t (a .j) (getD (a .col .now) (length (a .col .now) - 1) 0) (c .before .before .value-here2 .ensures) in
-    random-draws (elementOf (a .features) t) (a .p) (a .a) (a .j) (a .h) W (a .thresholds .now) s (a .m) (a .col .now) (else1-of-draw-in c .if1 .left) _ _ lo hi
-    (c .before .if2 .taken) _ (c .draw-in .ensures W s)
+    let hi = value-is (a .features) t (a .j) (getD (a .col .now) (length (a .col .now) - 1) 0) (c .before .before .value-here2 .ensures) in (
+      λ W s. random-draws (elementOf (a .features) t) (a .p) (a .a) (a .j) (a .h) W (a .thresholds .now) s (a .m) (a .col .now) (else1-of-draw-in c .if1 .left) _ _
+          lo hi (c .before .if2 .taken) _ (c .draw-in .ensures .0 W s),
+      c .draw-in .ensures .1,
+    )
 
 returns-3 : tie.Need-returns-3
 returns-3 c =
-    λ W s.
     let a = start-of-else2 c .args in
     let t = tables (start-of-else2 c) in
     let lo = value-is (a .features) t (a .j) (getD (a .col .now) 0 0) (c .before .before .value-here .ensures) in
-    let hi = value-is (a .features) t (a .j) (getD (a .col .now) (length (a .col .now) - 1) 0) (c .before .value-here2 .ensures) in
-    random-flat (elementOf (a .features) t) (a .p) (a .a) (a .j) (a .h) W (a .thresholds .now) s (a .m) (a .col .now) (else1-of-else2 c .if1 .left) _ _ lo hi
-    (c .if2 .left)
+    let hi = value-is (a .features) t (a .j) (getD (a .col .now) (length (a .col .now) - 1) 0) (c .before .value-here2 .ensures) in (
+      λ W s. random-flat (elementOf (a .features) t) (a .p) (a .a) (a .j) (a .h) W (a .thresholds .now) s (a .m) (a .col .now) (else1-of-else2 c .if1 .left) _ _ lo
+          hi (c .if2 .left),
+      inl refl,
+    )
 
 pub random-in-spec : {M : Type 1} → statement M
 random-in-spec =

@@ -8,8 +8,7 @@ use Rattle.search.specs.Flat.{Tables, tablesOf, elementOf}
 use Rattle.rules.specs.Words.{total}
 use Rattle.rules.specs.Search.{tally, totalsOf}
 use Rattle.criterion.specs.declared.Side.{Side}
-use Rattle.rules.specs.Totals.{empty}
-use Rattle.search.specs.Laws.{cell-here, turn-fits, onto, turn-side, turn-most, side-end}
+use Rattle.search.specs.Laws.{cell-here, turn-fits, onto, noRow, turn-side, turn-most, side-end}
 use borrow.Author.Needs.{needs}
 use Rattle.search.proofs.random.true_side.Statement.{statement}
 use Rattle.search.proofs.random.true_side.Tie as tie
@@ -17,12 +16,13 @@ use Rattle.search.proofs.random.true_side.Tie as tie
 abbrev Inv-loop : tie.InvT-loop
 Inv-loop values targets weights counts col rows features j t most s₀ i₀ s i =
     (i ≤ length col)
-    × (s .count + tally (map (elementOf features (tablesOf values targets weights counts)) (drop i col)) ≤ most)
+    × (s .side .count + tally (map (elementOf features (tablesOf values targets weights counts)) (drop i col)) ≤ most)
     × (onto (record { feature = j; threshold = t }) s (map (elementOf features (tablesOf values targets weights counts)) (drop i col)) ≡ onto (record {
       feature
           = j;
       threshold = t;
-    }) (record { totals = empty; count = 0 }) (map (elementOf features (tablesOf values targets weights counts)) col))
+    }) noRow (map (elementOf features (tablesOf values targets weights counts)) col))
+    × (s .rows ≤ i)
 
 abbrev μ-loop : tie.MeasureT-loop
 μ-loop values targets weights counts col rows features j t most s₀ i₀ s i = length col - i
@@ -65,8 +65,9 @@ loop-holds c =
     let e = c .no-side .ensures in (
       omega arith,
       omega (arith, p .1 .1, ap (λ (z : Side). z .count) e),
-      ap (λ z. onto (record { feature = a .j; threshold = a .t }) z (map (elementOf
+      ap (λ z. onto (record { feature = a .j; threshold = a .t }) (record { side = z; rows = 0 }) (map (elementOf
           (a .features) (tables (start-of-no-side c))) (a .col .now))) e,
+      omega arith,
     )
 
 wide-requires : tie.Need-wide-requires Inv-loop μ-loop
@@ -93,13 +94,15 @@ cell-of-requires c κs =
 joined-if-requires : tie.Need-joined-if-requires Inv-loop μ-loop
 joined-if-requires c κs =
     let a = start-of-cell-of c .args in
-    let l = at-loop-of-cell-of c .loop in
-    omega (
-      arith,
-      turn-fits (elementOf (a .features) (tables (start-of-cell-of c))) (a .col .now) (l .i) (c .before .before .before .before .loop-test .taken)
-          (a .j) (l .s .count) (a .most) (cell-here (a .features) (tables (start-of-cell-of c)) (a .j) (getD (a .col .now) (l .i) 0) (c .cell-of .ensures)
-          (c .before .before .before .wide .ensures) (c .before .wide2 .ensures)) (l .inv .1),
-      start-of-cell-of c .fits .most,
+    let l = at-loop-of-cell-of c .loop in (
+      omega (
+        arith,
+        turn-fits (elementOf (a .features) (tables (start-of-cell-of c))) (a .col .now) (l .i) (c .before .before .before .before .loop-test .taken)
+            (a .j) (l .s .side .count) (a .most) (cell-here (a .features) (tables (start-of-cell-of c)) (a .j) (getD (a .col .now) (l .i) 0) (c .cell-of .ensures)
+            (c .before .before .before .wide .ensures) (c .before .wide2 .ensures)) (l .inv .1),
+        start-of-cell-of c .fits .most,
+      ),
+      omega (arith, l .inv .3, c .before .before .before .before .loop-test .taken, start-of-cell-of c .good .1 .1 .1 .1 .0 .0),
     )
 
 add-i : tie.Need-add-i Inv-loop μ-loop
@@ -114,12 +117,15 @@ loop-again c =
     let l = at-loop-of-joined-if c .loop in
     let e =
     cell-here (a .features) (tables (start-of-joined-if c)) (a .j) (getD (a .col .now) (l .i) 0) (c .before .cell-of .ensures)
-    (c .before .before .before .before .wide .ensures) (c .before .before .wide2 .ensures) in (
+    (c .before .before .before .before .wide .ensures) (c .before .before .wide2 .ensures) in
+    let most =
+    turn-most (elementOf (a .features) (tables (start-of-joined-if c))) (a .col .now) (l .i) (at-in-loop c .loop-test .taken) (a .j) (a .t) (l .s) (a .most) e
+    (c .joined-if .ensures) (l .inv .1) (l .inv .3) in (
       omega arith,
-      turn-most (elementOf (a .features) (tables (start-of-joined-if c))) (a .col .now) (l .i) (at-in-loop c .loop-test .taken) (a .j) (a .t) (l .s) (a .most) e
-          (c .joined-if .ensures) (l .inv .1),
+      most .0,
       turn-side (elementOf (a .features) (tables (start-of-joined-if c))) (a .col .now) (l .i) (at-in-loop c .loop-test .taken) (a .j) (a .t) (l .s) e
           (c .joined-if .ensures) ∙ l .inv .2,
+      most .1,
     )
 
 returns : tie.Need-returns Inv-loop μ-loop
@@ -129,6 +135,7 @@ returns c =
       side-end (elementOf (a .features) (tables (start-of-loop c))) (a .col .now) (l .i) (c .loop-test .left) (record { feature = a .j; threshold = a .t })
           (l .s) (l .inv .2),
       omega (arith, l .inv .1),
+      omega (arith, l .inv .3, l .inv .0),
     )
 
 pub true-side-spec : {M : Type 1} → statement M

@@ -1,9 +1,11 @@
--- `search::best::judge_spot` meets its contract: what is held is judged as the definition does. Assumes nothing.
+-- `search::judge_spot` meets its contract: what is held is judged as the definition does. Assumes nothing.
+use mathlib.Core.Path.{refl}
+use mathlib.Core.Logic.{inl}
 use Rattle.candidates.specs.Held.{heldOf}
 use Rattle.search.specs.Laws.{judge-few, judge-goes}
 use borrow.Author.Needs.{needs}
-use Rattle.search.proofs.best.judge_spot.Statement.{statement}
-use Rattle.search.proofs.best.judge_spot.Tie as tie
+use Rattle.search.proofs.judge_spot.Statement.{statement}
+use Rattle.search.proofs.judge_spot.Tie as tie
 
 too-few-requires : tie.Need-too-few-requires
 too-few-requires c κs = search needs
@@ -11,7 +13,7 @@ too-few-requires c κs = search needs
 returns : tie.Need-returns
 returns c =
     let a = c .before .before .args in
-    (c .before .before .pre .1, λ k. judge-few (a .p) (a .a) (heldOf k (a .s)) (a .t) (a .k) (k (a .place)) (c .before .too-few .ensures) (c .if1 .taken))
+    (inl refl, λ k. judge-few (a .p) (a .a) (heldOf k (a .s)) (a .t) (a .k) (k (a .place)) (c .before .too-few .ensures) (c .if1 .taken))
 
 proxy-in-requires : tie.Need-proxy-in-requires
 proxy-in-requires c κs = search needs
