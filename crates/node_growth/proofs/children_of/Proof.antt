@@ -14,8 +14,11 @@ add-mid c = search needs
 child-sides-requires : tie.Need-child-sides-requires
 child-sides-requires c κs = search needs
 
+abbrev start-of : tie.After-child-sides → tie.Start
+start-of c = c .before .before .before .before .before .before
+
 returns : tie.Need-returns
-returns c = let a = c .before .before .before .before .before .before .args in ap (childrenWith (a .w) (a .n) (a .h)) (c .child-sides .ensures)
+returns c = let a = start-of c .args in ap (childrenWith (a .w) (a .n) (a .h)) (c .child-sides .ensures)
 
 pub children-of-spec : {M : Type 1} → statement M
 children-of-spec = tie.close (tie.spec add-level add-mid child-sides-requires returns)

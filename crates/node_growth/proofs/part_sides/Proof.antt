@@ -8,8 +8,11 @@ use Rattle.node_growth.proofs.part_sides.Tie as tie
 abbrev start-of : tie.After-children-of → tie.Start
 start-of c = c .before .before .before .before
 
+abbrev chosen-to-part : tie.After-wide3 → tie.Else1
+chosen-to-part c = c .before .before .before .before .before
+
 abbrev asked-to-part : tie.After-wide3 → tie.After-children-of
-asked-to-part c = c .before .before .before .before .before .before .before
+asked-to-part c = chosen-to-part c .before .before
 
 children-of-requires : tie.Need-children-of-requires
 children-of-requires c κs = search needs
@@ -45,7 +48,7 @@ returns-2 c =
     let a = asked-to-part (p .before) in
     let b = start-of a in
     part-did _ _ (now (b .args .order)) (now (b .args .flags)) (b .args .w) (b .args .h) (p .before .before .before .wide .ensures)
-    (p .before .before .wide2 .ensures) (b .args .p) (b .args .n) (a .children-of .ensures) (p .before .before .before .before .before .before .if1 .left)
+    (p .before .before .wide2 .ensures) (b .args .p) (b .args .n) (a .children-of .ensures) (chosen-to-part (p .before) .if1 .left)
     (p .partition-columns .ensures)
 
 pub part-sides-spec : {M : Type 1} → statement M

@@ -16,8 +16,11 @@ abbrev μ-loop : tie.MeasureT-loop
 μ-loop wholes₀ reals₀ values targets weights counts order words thresholds rows features p q t₀ k₀ wholes reals t k =
     q .sides - k
 
+abbrev start-to-loop : tie.After-shared-slice-known7 Inv-loop μ-loop → tie.Start Inv-loop μ-loop
+start-to-loop c = c .before .before .before .before .before .before .before
+
 abbrev start-of : tie.At-loop Inv-loop μ-loop → tie.Start Inv-loop μ-loop
-start-of c = c .before .before .before .before .before .before .before .before
+start-of c = start-to-loop (c .before)
 
 abbrev ground : tie.Start Inv-loop μ-loop → Ground
 ground s =
@@ -41,7 +44,7 @@ searched-good c = c .before .before .before .before .before
 
 loop-holds : tie.Need-loop-holds Inv-loop μ-loop
 loop-holds c =
-    let s = c .before .before .before .before .before .before .before in
+    let s = start-to-loop c in
     searching-first (ground s) (s .args .p) (s .args .words .now) (s .args .thresholds .now) _ _ (s .args .q) (s .args .s) (s .pre)
 
 stretch-of-requires : tie.Need-stretch-of-requires Inv-loop μ-loop
