@@ -6,8 +6,8 @@ pub mod Numbers
 pub mod Rooms
 -- the waiting list by the code's steps
 pub mod Steps
--- both children searched, one after the other
-pub mod Both
+-- two nodes side by side, and their searches one after the other
+pub mod Pairs
 -- a node's stretch of the columns, and what a good node gives the code
 pub mod InColumns
 -- a split node's children

@@ -2,7 +2,6 @@
 -- Definitions only. Assumes nothing.
 use Prim.Native.Nat.{ℕ, zero, suc, _+_, _*_, _<_, _≤_}
 use mathlib.Core.Path.{_≡_}
-use mathlib.Core.Bool.{Bool}
 use mathlib.Core.List.{List, [], _∷_, _++_, map}
 use lib.ListN.{length}
 use lib.Ieee.{Float}
@@ -12,15 +11,15 @@ use Rattle.rules.specs.Lent.{Columns}
 use Rattle.rules.specs.declared.Held.{Held}
 use Rattle.rules.specs.declared.Held.the-variants.{Nothing, Holds}
 use Rattle.rules.specs.Words.{keep}
-use Rattle.rules.specs.Search.{NodeRows, tally, search, onTrue, onFalse}
-use Rattle.rules.specs.Growth.{Waiting, child, joins, searchable, searchIf}
+use Rattle.rules.specs.Search.{NodeRows, tally, search}
+use Rattle.rules.specs.Growth.{Waiting, joins, searchable, searchIf}
 use Rattle.rules.specs.Draws.{Out, bad, ok, bind, Tapes, tape}
 use Rattle.rules.specs.Totals.{score}
 use Rattle.lemmas.specs.Lists.{Every}
 use Rattle.lemmas.specs.Cuts.{Ripe}
 use Rattle.lemmas.specs.Work.{part}
 use Rattle.work_columns.specs.declared.Sides.{Sides}
-use Rattle.work_columns.specs.Split.{goes, SplitDone}
+use Rattle.work_columns.specs.Split.{goes}
 use Rattle.criterion.specs.declared.Side.{Side}
 use Rattle.search.specs.declared.Drawn.{Drawn}
 use Rattle.search.specs.declared.Search.{Search}
@@ -156,28 +155,6 @@ pub record ChildDone (g : Ground) (P : Params) (W : List ℕ) (M : List Float) (
   pub most : MostStep (s .waiting + 1) r
   pub fair : FairStep W r
 
--- ---- both children
-
-pub record BothAsks (g : Ground) (P : Params) (W : List ℕ) (node a m e : ℕ) (q r : Side) (s : Stand) (roomWholes roomReals : ℕ) : Type 0 where
-  pub first : ChildAsks g P W a m q s roomWholes roomReals
-  pub second : NodeAsks (g .rows) (g .features) m e (g .tables) (g .order) (r .count)
-  pub wholes : s .waiting + 1 < roomWholes
-  pub reals : s .waiting + 1 < roomReals
-  pub small : node + 1 < 4294967296
-
--- two searches, one after the other
-abbrev pub searchTwo : Params → ℕ → ℕ → NodeRows → NodeRows → Tapes → Out (List Waiting × Tapes)
-searchTwo P node level t f d =
-    bind (searchIf P (search (tape (P .features)) P) (searchable P level t) node level t d)
-    (λ a. bind (searchIf P (search (tape (P .features)) P) (searchable P level f) (suc node) level f (a .1)) (λ b. ok (b .0 ++ a .0, b .1)))
-
-pub record BothDone (g : Ground) (P : Params) (W : List ℕ) (M : List Float) (wholes : List (List ℕ)) (reals : List (List Float)) (wholes′ : List (List ℕ)) (reals′ : List (List Float))
-    (node level a m e : ℕ) (q r : Side) (s : Stand) (t : Step) : Type 0 where
-  pub same : bind (searchTwo P node level (nodeRows g a m q) (nodeRows g m e r) (drawsAt W M (s .drawn)))
-      (λ o. ok (o .0 ++ waitingList g wholes reals (s .waiting), o .1)) ≡ meantStep g W M wholes′ reals′ t
-  pub laid : (low : ℕ) → Laid g wholes reals low (s .waiting) → s .waiting ≤ a → low ≤ a → a < m → m ≤ e → LaidStep g wholes′ reals′ e t
-  pub fair : FairStep W t
-
 -- ---- the children of a node that was taken off the waiting list, whose rest is s
 
 -- its rows lie past those of all that wait, and its children's numbers are n and the next
@@ -200,19 +177,5 @@ pub record Taken (g : Ground) (P : Params) (W : List ℕ) (scratch flags : ℕ) 
   pub sized : Sized g w
   pub ripe : Ripe P (waitingOf g w)
   pub level : w .level + 1 < 4294967296
-  pub number : n + 1 < 4294967296
+  pub number : n + 2 < 4294967296
   pub fair : Fair W (s .drawn)
-
-pub record SidesAsks (g : Ground) (P : Params) (W : List ℕ) (scratch : ℕ) (flags : List Bool) (wholes : List (List ℕ)) (reals : List (List Float)) (w : WaitingNode)
-    (n : ℕ) (h : Sides) (s : Stand) : Type 0 where
-  pub taken : Taken g P W scratch (length flags) wholes reals w n s
-  pub split : SplitDone (g .rows) (w .start) (w .end) (elementOf (g .features) (g .tables)) (cutOf w) (g .order) flags h
-
-pub record SidesDone (g g′ : Ground) (P : Params) (W : List ℕ) (M : List Float) (wholes : List (List ℕ)) (reals : List (List Float)) (wholes′ : List (List ℕ)) (reals′ : List (List Float))
-    (w : WaitingNode) (n : ℕ) (s : Stand) (r : Step) : Type 0 where
-  pub same : bind (searchTwo P n (w .level + 1) (child onTrue (waitingOf g w)) (child onFalse (waitingOf g w)) (drawsAt W M (s .drawn)))
-      (λ o. ok (o .0 ++ waitingList g wholes reals (s .waiting), o .1)) ≡ meantStep g′ W M wholes′ reals′ r
-  pub long : length (g′ .order) ≡ length (g .order)
-  pub below : (m : ℕ) → w .end ≤ m → m ≤ g .rows → BelowTo g m → BelowTo g′ m
-  pub laid : LaidStep g′ wholes′ reals′ (w .end) r
-  pub fair : FairStep W r

@@ -1,7 +1,7 @@
 -- The children of a node that was taken off the waiting list. Where neither is searched, the rest of the list stands over the columns as they are;
 -- else the columns are parted by the flags, and each side's rows lie together. Assumes nothing.
-use Prim.Native.Nat.{ℕ, suc, _+_, _<_, _≤_}
-use native.Mathlib.Nat.{le-refl}
+use Prim.Native.Nat.{ℕ, zero, suc, _+_, _<_, _≤_}
+use native.Mathlib.Nat.{le-refl, add-zero}
 use native.Mathlib.Omega.{arith}
 use mathlib.Core.Path.{_≡_, refl, sym, ap, _∙_, subst}
 use mathlib.Core.Logic.{inl}
@@ -20,7 +20,7 @@ use Rattle.lemmas.specs.Cuts.{Good, side-good}
 use Rattle.lemmas.specs.Work.{part}
 use Rattle.candidates.specs.Held.{bare}
 use Rattle.work_columns.specs.declared.Sides.{Sides}
-use Rattle.work_columns.specs.Columns.{flagged, parted, partedColumns, ColumnsAsk}
+use Rattle.work_columns.specs.Columns.{flagged, partedColumns}
 use Rattle.work_columns.specs.Cleft.{cleft-parted}
 use Rattle.work_columns.specs.Split.{goes, SplitAsks, SplitDone}
 use Rattle.work_columns.specs.Stretches.{part-every}
@@ -28,12 +28,10 @@ use Rattle.work_columns.specs.Halves.{marked-parted, split-long, columns-ask, s
 use Rattle.criterion.specs.Sides.{sideOn}
 use Rattle.search.specs.Flat.{elementOf, drawsAt}
 use Rattle.node_entries.specs.declared.WaitingNode.{WaitingNode}
+use Rattle.node_growth.specs.declared.Pair.{Pair}
 use Rattle.node_growth.specs.declared.Stand.{Stand}
-use Rattle.node_growth.specs.declared.Step.{Step}
-use Rattle.node_growth.specs.declared.Step.the-variants.{Goes}
-use Rattle.node_growth.specs.Rooms.{Ground, cutOf, askedOf, nodeRows, waitingOf, waitingList, BelowTo, searchTwo, Taken, BothAsks, BothDone, SidesDone}
-use Rattle.node_growth.specs.Steps.{laid-more}
-use Rattle.node_growth.specs.Both.{onto, chain}
+use Rattle.node_growth.specs.Rooms.{Ground, cutOf, askedOf, nodeRows, waitingOf, waitingList, BelowTo, Taken}
+use Rattle.node_growth.specs.Pairs.{sought, edge, SideAsks, PairAsks, child-both, child-neither, childrenWith, soughtTwo, PartAsks, PartDone}
 use Rattle.node_growth.specs.InColumns.{withOrder, column-at, child-rows, below-still, laid-still, good-alike, good-cleft, good-asks, part-short, ones-map, rows-of}
 
 -- ---- a node's ends as the code widened them
@@ -50,6 +48,15 @@ pub done-at : {rows a e a′ e′ : ℕ} {el : ℕ → Element} {c : Cut} {order
 done-at {rows} {a} {e} {a′} {e′} {el} {c} {order} {fl} {h} ea ee = ends-at (λ u v. SplitDone rows u v el c order fl h) (sym ea) (sym ee)
 
 -- ---- a split node's children
+
+-- what is left to search, in the columns as they are now, is what the definition searches of the node's children
+pub record SidesDone (g g′ : Ground) (P : Params) (W : List ℕ) (M : List Float) (wholes : List (List ℕ)) (reals : List (List Float)) (w : WaitingNode) (n : ℕ) (s : Stand) (r : Pair) : Type 0 where
+  pub same : sought g′ P W M wholes reals r s
+      ≡ soughtTwo P n (w .level + 1) (child onTrue (waitingOf g w)) (child onFalse (waitingOf g w)) (waitingList g wholes reals (s .waiting)) (drawsAt W M (s .drawn))
+  pub asks : PairAsks g′ P W wholes reals r s
+  pub long : length (g′ .order) ≡ length (g .order)
+  pub below : (m : ℕ) → w .end ≤ m → m ≤ g .rows → BelowTo g m → BelowTo g′ m
+  pub high : edge r (r .sides) ≤ w .end
 
 neither : (a b : Bool) → (a || b) ≡ false → (a ≡ false) × (b ≡ false)
 neither true b h = absurd (true≢false h)
@@ -95,19 +102,19 @@ module _ (g : Ground) (P : Params) (W : List ℕ) (sc : ℕ) (flags : List Bool)
       }
 
   module _ (h : Sides) (d : SplitDone (g .rows) (w .start) (w .end) el (cutOf w) (g .order) flags h) where
-    -- what the partition asks: the split column is parted by the flags as it stands
-    pub taken-parts : {a e k : ℕ} → a ≡ w .start → e ≡ w .end → k ≡ w .feature
-        → ColumnsAsk (g .rows) (g .features) a e (g .order) sc (length flags) × (parted (flagged flags) (part (g .rows) k a e (g .order)) ≡ part (g .rows) k a e (g .order))
-    taken-parts {a} {e} {k} ea ee ek = (
-      ends-at (λ u v. ColumnsAsk (g .rows) (g .features) u v (g .order) sc (length flags)) ea ee
-          (columns-ask (g .rows) (g .features) (w .start) (w .end) (g .tables .values) (g .tables .targets) (g .tables .weights) (g .tables .counts) (cutOf w)
-          (g .order) (w .rows) sc (length flags) taken-splits (q .scratch-room)),
-      ap (parted (flagged flags)) there ∙ marked-parted (goes el (cutOf w)) flags rows-of-split rows-of-split (λ f. refl) (d .marks)
-          ∙ cleft-parted (goes el (cutOf w)) rows-of-split (w .rows) (taken-splits .cleft) ∙ sym there,
-    )
-      where
-        there : part (g .rows) k a e (g .order) ≡ rows-of-split
-        there i = part (g .rows) (ek i) (ea i) (ee i) (g .order)
+    -- what the partition asks, and the numbers of the children
+    pub part-asks : PartAsks (g .rows) (g .features) (g .order) sc flags w h
+    part-asks =
+        record {
+          columns =
+              columns-ask (g .rows) (g .features) (w .start) (w .end) (g .tables .values) (g .tables .targets) (g .tables .weights) (g .tables .counts) (cutOf w)
+              (g .order) (w .rows) sc (length flags) taken-splits (q .scratch-room);
+          split =
+              marked-parted (goes el (cutOf w)) flags rows-of-split rows-of-split (λ f. refl) (d .marks)
+              ∙ cleft-parted (goes el (cutOf w)) rows-of-split (w .rows) (taken-splits .cleft);
+          level = q .level;
+          mid = omega (arith, d .within, q .ordered, q .high, q .small);
+        }
 
     true-side : h .trueside ≡ sideOn (trueSide (cutOf w) (map el rows-of-split))
     true-side = ap (λ (z : Sides). z .trueside) (d .sides)
@@ -124,35 +131,12 @@ module _ (g : Ground) (P : Params) (W : List ℕ) (sc : ℕ) (flags : List Bool)
     unfolding child
     false-child = false-side ∙ ap (λ z. sideOn (falseSide (cutOf w) z)) mine
 
-    pub sides-skip : (M : List Float) → (searchable P (w .level + 1) (bare (h .trueside)) || searchable P (w .level + 1) (bare (h .falseside))) ≡ false
-        → SidesDone g g P W M wholes reals wholes reals w n s (Goes s)
-    unfolding searchable searchIf bind
-    sides-skip M e =
-        record {
-          same = λ i.
-              bind (bind (searchIf P (search (tape (P .features)) P) (first i) n (w .level + 1) (child onTrue top) (drawsAt W M (s .drawn)))
-              (chain (λ t. searchIf P (search (tape (P .features)) P) (second i) (suc n) (w .level + 1) (child onFalse top) t))) (onto (waitingList g wholes reals (s .waiting)));
-          long = refl;
-          below = λ m u v b. b;
-          laid = laid-more g wholes reals (s .waiting) (w .start) (w .end) (q .ordered) (q .laid);
-          fair = q .fair;
-        }
-      where
-        first : searchable P (w .level + 1) (child onTrue top) ≡ false
-        first = sym (ap (λ z. searchable P (w .level + 1) (bare z)) true-child) ∙ neither (searchable P (w .level + 1) (bare (h .trueside))) (searchable P (w .level + 1) (bare (h .falseside))) e .0
-
-        second : searchable P (w .level + 1) (child onFalse top) ≡ false
-        second = sym (ap (λ z. searchable P (w .level + 1) (bare z)) false-child) ∙ neither (searchable P (w .level + 1) (bare (h .trueside))) (searchable P (w .level + 1) (bare (h .falseside))) e .1
-
     -- the sides lie within the node
-    pub sides-fit : w .start + h .rows ≤ w .end
+    sides-fit : w .start + h .rows ≤ w .end
     sides-fit = omega (arith, d .within, q .ordered)
 
     -- parted by the flags
-    module _ (order′ : List ℕ) {a z : ℕ} (ea : a ≡ w .start) (ez : z ≡ w .end) (p : order′ ≡ partedColumns (g .rows) a z (flagged flags) (g .features) (g .order)) where
-      e : order′ ≡ partedColumns (g .rows) (w .start) (w .end) (flagged flags) (g .features) (g .order)
-      e = p ∙ (λ i. partedColumns (g .rows) (ea i) (ez i) (flagged flags) (g .features) (g .order))
-
+    module _ (order′ : List ℕ) (e : order′ ≡ partedColumns (g .rows) (w .start) (w .end) (flagged flags) (g .features) (g .order)) where
       abbrev g′ : Ground
       g′ = withOrder g order′
 
@@ -201,47 +185,120 @@ module _ (g : Ground) (P : Params) (W : List ℕ) (sc : ℕ) (flags : List Bool)
       ends : mid < w .end
       ends = filled onFalse mid (w .end) (part-false (w .feature) known) (q .ripe .fine .someFalse)
 
-      pub both-asks : BothAsks g′ P W n (w .start) mid (w .end) (h .trueside) (h .falseside) s (length wholes) (length reals)
-      both-asks =
+      rows-after : BelowTo g′ (w .end)
+      rows-after = below (w .end) (le-refl (w .end)) (q .high) (q .below)
+
+      true-asks : SideAsks g′ (length wholes) (length reals) (childrenWith w n h 2) s 0
+      true-asks =
           record {
-            first = record {
-              node =
-                  good-asks g′ P (q .same) (w .start) mid (h .trueside) (subst (Good P) (sym true-rows) (side-good P onTrue top (q .ripe))) (q .shape)
-                  (long ∙ q .long) (w .end) sides-fit rows-after (omega (arith, starts)) (omega (arith, ends, q .high));
+            node =
+                good-asks g′ P (q .same) (w .start) mid (h .trueside) (subst (Good P) (sym true-rows) (side-good P onTrue top (q .ripe))) (q .shape)
+                (long ∙ q .long) (w .end) sides-fit rows-after (omega (arith, starts)) (omega (arith, ends, q .high));
+            place = omega (arith, q .place);
+            wholes = omega (arith, q .place, starts, ends, q .high, q .whole-room);
+            reals = omega (arith, q .place, starts, ends, q .high, q .real-room);
+          }
+
+      false-asks : SideAsks g′ (length wholes) (length reals) (childrenWith w n h 2) s 1
+      false-asks =
+          record {
+            node =
+                good-asks g′ P (q .same) mid (w .end) (h .falseside) (subst (Good P) (sym false-rows) (side-good P onFalse top (q .ripe))) (q .shape)
+                (long ∙ q .long) (w .end) (le-refl (w .end)) rows-after (omega (arith, ends)) (q .high);
+            place = omega (arith, q .place, starts);
+            wholes = omega (arith, q .place, starts, ends, q .high, q .whole-room);
+            reals = omega (arith, q .place, starts, ends, q .high, q .real-room);
+          }
+
+      each : (k : ℕ) → k < 2 → SideAsks g′ (length wholes) (length reals) (childrenWith w n h 2) s k
+      each zero u = true-asks
+      each (suc zero) u = false-asks
+      each (suc (suc k)) u = absurd (over k u)
+        where
+          over : (k : ℕ) → suc (suc k) < 2 → ⊥
+          over k u = omega arith
+
+      beside : (k b f : ℕ) → b ≤ f → f ≤ w .start → part (g .rows) k b f order′ ≡ part (g .rows) k b f (g .order)
+      beside k b f o u =
+          split-beside (g .rows) (g .features) (w .start) (w .end) (g .tables .values) (g .tables .targets) (g .tables .weights) (g .tables .counts)
+          (cutOf w) (g .order) order′ flags h (w .rows) taken-splits d e
+          k b f (inl u) o (omega (arith, u, q .ordered, q .high))
+
+      under : waitingList g′ wholes reals (s .waiting) ≡ waitingList g wholes reals (s .waiting)
+      under = below-still g order′ (w .start) beside wholes reals (w .start) (s .waiting) (le-refl (w .start)) (q .laid)
+
+      both-sought : (M : List Float) → SidesDone g g′ P W M wholes reals w n s (childrenWith w n h 2)
+      both-sought M =
+          record {
+            same = λ i.
+                bind (searchIf P (search (tape (P .features)) P) (searchable P (w .level + 1) (true-rows i)) (add-zero n i) (w .level + 1) (true-rows i) (drawsAt W M (s .drawn)))
+                (λ a. bind (searchIf P (search (tape (P .features)) P) (searchable P (w .level + 1) (false-rows i)) (n + 1) (w .level + 1) (false-rows i) (a .1))
+                (λ b. ok (b .0 ++ (a .0 ++ under i), b .1)));
+            asks = record {
               same = q .same;
               few = q .few;
               some = q .some;
               fair = q .fair;
-              wholes = taken-room .0;
-              reals = taken-room .1;
+              two = le-refl 2;
+              small = q .number;
+              each = each;
+              laid = laid-still g order′ (w .start) beside wholes reals (w .start) (s .waiting) (le-refl (w .start)) (q .laid);
             };
-            second =
-                good-asks g′ P (q .same) mid (w .end) (h .falseside) (subst (Good P) (sym false-rows) (side-good P onFalse top (q .ripe))) (q .shape)
-                (long ∙ q .long) (w .end) (le-refl (w .end)) rows-after (omega (arith, ends)) (q .high);
-            wholes = omega (arith, q .place, starts, ends, q .high, q .whole-room);
-            reals = omega (arith, q .place, starts, ends, q .high, q .real-room);
-            small = q .number;
-          }
-        where
-          rows-after : BelowTo g′ (w .end)
-          rows-after = below (w .end) (le-refl (w .end)) (q .high) (q .below)
-
-      pub sides-both : (M : List Float) (wholes′ : List (List ℕ)) (reals′ : List (List Float)) (r : Step)
-          → BothDone g′ P W M wholes reals wholes′ reals′ n (w .level + 1) (w .start) mid (w .end) (h .trueside) (h .falseside) s r → SidesDone g g′ P W M wholes reals wholes′ reals′ w n s r
-      sides-both M wholes′ reals′ r b =
-          record {
-            same = (λ i. bind (searchTwo P n (w .level + 1) (sym true-rows i) (sym false-rows i) (drawsAt W M (s .drawn))) (λ o. ok (o .0 ++ sym under i, o .1))) ∙ b .same;
             long = long;
             below = below;
-            laid = b .laid (w .start) (laid-still g order′ (w .start) beside wholes reals (w .start) (s .waiting) (le-refl (w .start)) (q .laid)) (q .place) (le-refl (w .start)) starts sides-fit;
-            fair = b .fair;
+            high = le-refl (w .end);
           }
-        where
-          beside : (k b f : ℕ) → b ≤ f → f ≤ w .start → part (g .rows) k b f order′ ≡ part (g .rows) k b f (g .order)
-          beside k b f o u =
-              split-beside (g .rows) (g .features) (w .start) (w .end) (g .tables .values) (g .tables .targets) (g .tables .weights) (g .tables .counts)
-              (cutOf w) (g .order) order′ flags h (w .rows) taken-splits d e
-              k b f (inl u) o (omega (arith, u, q .ordered, q .high))
 
-          under : waitingList g′ wholes reals (s .waiting) ≡ waitingList g wholes reals (s .waiting)
-          under = below-still g order′ (w .start) beside wholes reals (w .start) (s .waiting) (le-refl (w .start)) (q .laid)
+    none-sought : (M : List Float) → (searchable P (w .level + 1) (bare (h .trueside)) || searchable P (w .level + 1) (bare (h .falseside))) ≡ false
+        → SidesDone g g P W M wholes reals w n s (childrenWith w n h 0)
+    unfolding searchable searchIf bind
+    none-sought M e =
+        record {
+          same = sym (λ i.
+              bind (searchIf P (search (tape (P .features)) P) (first i) n (w .level + 1) (child onTrue top) (drawsAt W M (s .drawn)))
+              (λ a. bind (searchIf P (search (tape (P .features)) P) (second i) (n + 1) (w .level + 1) (child onFalse top) (a .1))
+              (λ b. ok (b .0 ++ (a .0 ++ waitingList g wholes reals (s .waiting)), b .1))));
+          asks = record {
+            same = q .same;
+            few = q .few;
+            some = q .some;
+            fair = q .fair;
+            two = omega arith;
+            small = omega (arith, q .number);
+            each = λ k u. absurd (under k u);
+            laid = q .laid;
+          };
+          long = refl;
+          below = λ m u v b. b;
+          high = q .ordered;
+        }
+      where
+        under : (k : ℕ) → k < 0 → ⊥
+        under k u = omega arith
+
+        first : searchable P (w .level + 1) (child onTrue top) ≡ false
+        first = sym (ap (λ z. searchable P (w .level + 1) (bare z)) true-child) ∙ neither (searchable P (w .level + 1) (bare (h .trueside))) (searchable P (w .level + 1) (bare (h .falseside))) e .0
+
+        second : searchable P (w .level + 1) (child onFalse top) ≡ false
+        second = sym (ap (λ z. searchable P (w .level + 1) (bare z)) false-child) ∙ neither (searchable P (w .level + 1) (bare (h .trueside))) (searchable P (w .level + 1) (bare (h .falseside))) e .1
+
+    -- by what the code did
+    pub sides-sought : (M : List Float) (order′ : List ℕ) (r : Pair) → PartDone (g .rows) (g .features) (g .order) order′ flags P w n h r
+        → SidesDone g (withOrder g order′) P W M wholes reals w n s r
+    sides-sought M order′ r p = go (searchable P (w .level + 1) (bare (h .trueside)) || searchable P (w .level + 1) (bare (h .falseside))) refl
+      where
+        go : (b : Bool) → (searchable P (w .level + 1) (bare (h .trueside)) || searchable P (w .level + 1) (bare (h .falseside))) ≡ b
+            → SidesDone g (withOrder g order′) P W M wholes reals w n s r
+        go true e = subst (SidesDone g (withOrder g order′) P W M wholes reals w n s) (sym is) (both-sought order′ (p .searched (λ z. some (sym (ap (λ (x : Pair). x .sides) is) ∙ z))) M)
+          where
+            is : r ≡ childrenWith w n h 2
+            is = p .pair ∙ ap (childrenWith w n h) (sym (child-both P (w .level + 1) (h .trueside) (h .falseside) e))
+
+            some : _≡_ {A = ℕ} 2 0 → ⊥
+            some z = omega arith
+        go false e =
+            subst (SidesDone g (withOrder g order′) P W M wholes reals w n s) (sym is)
+            (subst (λ o. SidesDone g (withOrder g o) P W M wholes reals w n s (childrenWith w n h 0)) (sym (p .skipped (ap (λ (x : Pair). x .sides) is))) (none-sought M e))
+          where
+            is : r ≡ childrenWith w n h 0
+            is = p .pair ∙ ap (childrenWith w n h) (sym (child-neither P (w .level + 1) (h .trueside) (h .falseside) e))

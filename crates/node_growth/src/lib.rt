@@ -6,7 +6,8 @@ ghost use Rattle.rules.specs.Lent.{columnsOf};
 ghost use Rattle.rules.specs.Fit.{elementIn};
 ghost use Rattle.work_columns.specs.Split.{SplitAsks, SplitDone};
 ghost use Rattle.node_entries.specs.Entries.{LongAll};
-ghost use Rattle.node_growth.specs.Rooms.{groundOf, RowsTo, PushDone, ChildAsks, ChildDone, cutOf, wroteSides, BothAsks, BothDone, SidesAsks, SidesDone};
+ghost use Rattle.node_growth.specs.Rooms.{groundOf, RowsTo, PushDone, ChildAsks, ChildDone, cutOf, wroteSides};
+ghost use Rattle.node_growth.specs.Pairs.{stretchAt, PairAsks, PairDone, rootSides, rootPair, childSides, childrenOf, PartAsks, PartDone};
 use criterion::Side;
 use node_entries::WaitingNode;
 use rules::Cut;
@@ -26,6 +27,27 @@ pub struct Stand {
 pub enum Step {
     Refused(usize),
     Goes(Stand),
+}
+
+// Two nodes whose rows lie side by side, the first from `from` to `mid`, the second from there to `to`; `node` is the first one's number. The first `sides` of them are
+// still to be searched: of the root and the empty side beside it at most the root, of a split node's children both or neither. An empty side's count would not tell,
+// since the least split may be 0.
+pub struct Pair {
+    pub node: u32,
+    pub level: u32,
+    pub from: u32,
+    pub mid: u32,
+    pub to: u32,
+    pub first: Side,
+    pub second: Side,
+    pub sides: u32,
+}
+
+// One of them: where its rows lie, its totals and count.
+pub struct Stretch {
+    pub from: u32,
+    pub to: u32,
+    pub side: Side,
 }
 
 // What a search of the node found joins the waiting list.
@@ -196,8 +218,28 @@ pub fn split_node(
     s
 }
 
-// Both children are searched, the true one first.
-pub fn search_both(
+// Of two nodes that lie side by side, the first or the second.
+fn stretch_of(q: Pair, k: u32) -> Stretch
+    ensures { λ r. ⌜ r ≡ stretchAt q k ⌝ }
+{
+    if k == 0 {
+        let first = q.first;
+        return Stretch {
+            from: q.from,
+            to: q.mid,
+            side: first,
+        };
+    }
+    let second = q.second;
+    Stretch {
+        from: q.mid,
+        to: q.to,
+        side: second,
+    }
+}
+
+// What is left to search is searched, the true child before the false one. `search_child` has this one call, and so the compiler puts it in place, however large it is.
+pub fn search_pair(
     wholes: &mut [[u32; 6]],
     reals: &mut [[f64; 3]],
     values: &[f64],
@@ -210,45 +252,20 @@ pub fn search_both(
     rows: usize,
     features: usize,
     p: Params,
-    node: u32,
-    level: u32,
-    from: u32,
-    mid: u32,
-    to: u32,
-    a: Side,
-    b: Side,
+    q: Pair,
     s: Stand,
 ) -> Step
-    requires { ⌜
-        BothAsks (groundOf rows features (now values) (now targets) (now weights) (now counts) (now order)) p (now words) node from mid to a b s (length (now wholes))
-        (length (now reals)) ⌝ }
+    requires { ⌜ PairAsks (groundOf rows features (now values) (now targets) (now weights) (now counts) (now order)) p (now words) (now wholes) (now reals) q s ⌝ }
     ensures { λ r. ⌜
-        BothDone (groundOf rows features (now (values .entry)) (now (targets .entry)) (now (weights .entry)) (now (counts .entry)) (now (order .entry))) p
-        (now (words .entry)) (now (thresholds .entry)) (now (wholes .entry)) (now (reals .entry)) (now (wholes .exit)) (now (reals .exit)) node level from mid to a b s r ⌝ }
+        PairDone (groundOf rows features (now (values .entry)) (now (targets .entry)) (now (weights .entry)) (now (counts .entry)) (now (order .entry))) p
+        (now (words .entry)) (now (thresholds .entry)) (now (wholes .entry)) (now (reals .entry)) (now (wholes .exit)) (now (reals .exit)) q s r ⌝ }
 {
-    let r = search_child(
-        wholes,
-        reals,
-        values,
-        targets,
-        weights,
-        counts,
-        order,
-        words,
-        thresholds,
-        rows,
-        features,
-        p,
-        node,
-        level,
-        from,
-        mid,
-        a,
-        s,
-    );
-    match r {
-        Step::Refused(k) => Step::Refused(k),
-        Step::Goes(t) => search_child(
+    let mut t = s;
+    let mut k: u32 = 0;
+    while k < q.sides {
+        let c = stretch_of(q, k);
+        let a = c.side;
+        let r = search_child(
             wholes,
             reals,
             values,
@@ -261,28 +278,88 @@ pub fn search_both(
             rows,
             features,
             p,
-            node + 1,
-            level,
-            mid,
-            to,
-            b,
+            q.node + k,
+            q.level,
+            c.from,
+            c.to,
+            a,
             t,
-        ),
+        );
+        match r {
+            Step::Refused(z) => {
+                return Step::Refused(z);
+            }
+            Step::Goes(u) => {
+                t = u;
+                k += 1;
+            }
+        }
+    }
+    Step::Goes(t)
+}
+
+// How many sides of the root are left to search: the root itself, if something is kept.
+fn root_sides(count: u32) -> u32
+    ensures { λ r. ⌜ r ≡ rootSides count ⌝ }
+{
+    if 0 < count {
+        return 1;
+    }
+    0
+}
+
+// The root, beside an empty side.
+pub fn root_pair(kept: u32, root: Side) -> Pair
+    ensures { λ r. ⌜ r ≡ rootPair kept root ⌝ }
+{
+    let sides = root_sides(root.count);
+    Pair {
+        node: 0,
+        level: 1,
+        from: 0,
+        mid: kept,
+        to: kept,
+        first: root,
+        second: root,
+        sides,
+    }
+}
+
+// How many children are left to search: both, if either is searched.
+fn child_sides(p: Params, level: u32, a: Side, b: Side) -> u32
+    ensures { λ r. ⌜ r ≡ childSides p level a b ⌝ }
+{
+    if candidates::either_searched(p, level, a, b) {
+        return 2;
+    }
+    0
+}
+
+fn children_of(p: Params, w: WaitingNode, n: u32, h: Sides) -> Pair
+    requires { ⌜ (w .level + 1 < 4294967296) × (w .start + h .rows < 4294967296) ⌝ }
+    ensures { λ r. ⌜ r ≡ childrenOf p w n h ⌝ }
+{
+    let level = w.level + 1;
+    let mid = w.start + h.rows;
+    let first = h.trueside;
+    let second = h.falseside;
+    let sides = child_sides(p, level, first, second);
+    Pair {
+        node: n,
+        level,
+        from: w.start,
+        mid,
+        to: w.end,
+        first,
+        second,
+        sides,
     }
 }
 
 // The children of a node whose rows have their flags. Where neither is searched, nothing reads those rows again, and the columns stay as they are.
-pub fn search_sides(
+pub fn part_sides(
     order: &mut [u32],
     scratch: &mut [u32],
-    wholes: &mut [[u32; 6]],
-    reals: &mut [[f64; 3]],
-    values: &[f64],
-    targets: &[f64],
-    weights: &[f64],
-    counts: &[u32],
-    words: &[u32],
-    thresholds: &[f64],
     flags: &[bool],
     rows: usize,
     features: usize,
@@ -290,53 +367,23 @@ pub fn search_sides(
     w: WaitingNode,
     n: u32,
     h: Sides,
-    s: Stand,
-) -> Step
-    requires { ⌜
-        SidesAsks (groundOf rows features (now values) (now targets) (now weights) (now counts) (now order)) p (now words) (length (now scratch)) (now flags) (now wholes)
-        (now reals) w n h s ⌝ }
-    ensures { λ r. ⌜
-        SidesDone (groundOf rows features (now (values .entry)) (now (targets .entry)) (now (weights .entry)) (now (counts .entry)) (now (order .entry)))
-        (groundOf rows features (now (values .entry)) (now (targets .entry)) (now (weights .entry)) (now (counts .entry)) (now (order .exit))) p (now (words .entry))
-        (now (thresholds .entry)) (now (wholes .entry)) (now (reals .entry)) (now (wholes .exit)) (now (reals .exit)) w n s r ⌝ }
+) -> Pair
+    requires { ⌜ PartAsks rows features (now order) (length (now scratch)) (now flags) w h ⌝ }
+    ensures { λ q. ⌜ PartDone rows features (now (order .entry)) (now (order .exit)) (now (flags .entry)) p w n h q ⌝ }
 {
-    let l = w.level + 1;
-    let a = h.trueside;
-    let b = h.falseside;
-    if candidates::either_searched(p, l, a, b) {
-        work_columns::partition_columns(
-            order,
-            scratch,
-            flags,
-            rows,
-            features,
-            slices::wide(w.start),
-            slices::wide(w.end),
-            slices::wide(w.feature),
-        );
-        let mid = w.start + h.rows;
-        return search_both(
-            wholes,
-            reals,
-            values,
-            targets,
-            weights,
-            counts,
-            order,
-            words,
-            thresholds,
-            rows,
-            features,
-            p,
-            n,
-            l,
-            w.start,
-            mid,
-            w.end,
-            a,
-            b,
-            s,
-        );
+    let q = children_of(p, w, n, h);
+    if q.sides == 0 {
+        return q;
     }
-    Step::Goes(s)
+    work_columns::partition_columns(
+        order,
+        scratch,
+        flags,
+        rows,
+        features,
+        slices::wide(w.start),
+        slices::wide(w.end),
+        slices::wide(w.feature),
+    );
+    q
 }

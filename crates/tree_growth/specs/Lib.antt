@@ -1,9 +1,11 @@
--- Growth in the lent rooms: a turn splits the node that joined last, and turns make up a tree. Nothing is assumed.
+-- Growth in the lent rooms: a turn searches what is left to search and splits the node that joined last, and turns make up a tree. Nothing is assumed.
 
--- where a growth stands between two turns, and what a turn promises
+-- where a growth is within a turn, and what a split promises
 pub mod Places
--- a turn is one step of the definition's waiting list
+-- a split, with the searches of its children, is one step of the definition's waiting list
 pub mod Turns
+-- what is known before a turn, between its halves, and before the next
+pub mod Halves
 -- the loop
 pub mod Loop
 -- the whole from the root on

@@ -1,9 +1,9 @@
--- A turn put together: one step of the definition's waiting list. Assumes nothing.
+-- A split put together: with the searches of its children, one step of the definition's waiting list. Assumes nothing.
 use Prim.Native.Nat.{ℕ, suc, _+_, _-_, _<_, _≤_, max}
 use native.Mathlib.Numerals.{add-one}
 use mathlib.Core.Path.{_≡_, refl, sym, ap, _∙_, subst}
 use mathlib.Core.Bool.{Bool}
-use mathlib.Core.List.{List, [], _∷_, _++_}
+use mathlib.Core.List.{List, [], _∷_, _++_, append-assoc}
 use lib.ListN.{length, getD, set}
 use lib.Ieee.{Float, nan}
 use Rattle.rules.specs.declared.Params.{Params}
@@ -20,38 +20,28 @@ use Rattle.search.specs.Flat.{elementOf, drawsAt}
 use Rattle.node_entries.specs.declared.WaitingNode.{WaitingNode}
 use Rattle.node_entries.specs.Entries.{waitingAt, LongAll, putEntry, wroteSplit}
 use Rattle.node_entries.specs.Nodes.{entryFor, NodesIn, columnOf, three}
+use Rattle.node_growth.specs.declared.Pair.{Pair}
 use Rattle.node_growth.specs.declared.Stand.{Stand}
-use Rattle.node_growth.specs.declared.Step.{Step}
-use Rattle.node_growth.specs.declared.Step.the-variants.{Refused, Goes}
-use Rattle.node_growth.specs.Rooms.{Ground, cutOf, waitingOf, waitingList, meantStep, LaidStep, FairStep, wroteSides, searchTwo, Taken, SidesAsks, SidesDone}
-use Rattle.node_growth.specs.Both.{onto, chain}
-use Rattle.node_growth.specs.Sides.{mine, taken-room, taken-splits, true-child, false-child}
+use Rattle.node_growth.specs.Rooms.{Ground, cutOf, waitingOf, waitingList, wroteSides, Taken}
+use Rattle.node_growth.specs.Pairs.{sought, soughtTwo, PartAsks, PartDone}
+use Rattle.node_growth.specs.InColumns.{withOrder}
+use Rattle.node_growth.specs.Sides.{SidesDone, mine, taken-room, taken-splits, part-asks, true-child, false-child, sides-sought}
 use Rattle.tree_growth.specs.declared.At.{At}
-use Rattle.tree_growth.specs.declared.Turned.the-variants as U
-use Rattle.tree_growth.specs.Places.{TurnAsks, stateAt, TurnDone}
+use Rattle.tree_growth.specs.Places.{stateAt, standOf, onto, into, TurnAsks, TurnDone}
 
 -- ---- answers put together
 
-abbrev fin : {D S : Type 0} → (D → S) → List Waiting × D → Out (List Waiting × S)
-fin mk o = ok (o .0, mk (o .1))
-
-abbrev chainTo : {D S : Type 0} → (D → S) → (D → Out (List Waiting × D)) → List Waiting × D → Out (List Waiting × S)
-chainTo mk k t = bind (k (t .1)) (λ f. ok (f .0 ++ t .0, mk (f .1)))
-
-fin-end : {D S : Type 0} (m : Out (List Waiting × D)) (mk : D → S) (xs : List Waiting) → bind m (λ f. ok (f .0 ++ xs, mk (f .1))) ≡ bind (bind m (onto xs)) (fin mk)
+two-end : {D S : Type 0} (m : Out (List Waiting × D)) (mk : D → S) (xs ws : List Waiting)
+    → bind (bind m (λ f. ok (f .0 ++ xs, mk (f .1)))) (onto ws) ≡ bind (bind m (λ f. ok (f .0 ++ (xs ++ ws), f .1))) (into mk)
 unfolding bind
-fin-end (bad n) mk xs = refl
-fin-end (ok f) mk xs = refl
+two-end (bad n) mk xs ws = refl
+two-end (ok f) mk xs ws = ap (λ z. ok (z, mk (f .1))) (append-assoc (f .0) xs ws)
 
-fin-two : {D S : Type 0} (m : Out (List Waiting × D)) (k : D → Out (List Waiting × D)) (mk : D → S) → bind m (chainTo mk k) ≡ bind (bind m (chain k)) (fin mk)
+two : {D S : Type 0} (m : Out (List Waiting × D)) (k : D → Out (List Waiting × D)) (mk : D → S) (ws : List Waiting)
+    → bind (bind m (λ t. bind (k (t .1)) (λ f. ok (f .0 ++ t .0, mk (f .1))))) (onto ws) ≡ bind (bind m (λ t. bind (k (t .1)) (λ f. ok (f .0 ++ (t .0 ++ ws), f .1)))) (into mk)
 unfolding bind
-fin-two (bad n) k mk = refl
-fin-two (ok t) k mk = fin-end (k (t .1)) mk (t .0)
-
-fin-onto : {D S : Type 0} (m : Out (List Waiting × D)) (mk : D → S) (ws : List Waiting) → bind (bind m (fin mk)) (onto ws) ≡ bind (bind m (onto ws)) (fin mk)
-unfolding bind
-fin-onto (bad n) mk ws = refl
-fin-onto (ok t) mk ws = refl
+two (bad n) k mk ws = refl
+two (ok t) k mk ws = two-end (k (t .1)) mk (t .0) ws
 
 -- of flags that the split left
 module _ (g : Ground) (P : Params) (W : List ℕ) (sc : ℕ) (flags : List Bool) (c : Columns) (wholes : List (List ℕ)) (reals : List (List Float)) (at : At)
@@ -107,48 +97,31 @@ module _ (g : Ground) (P : Params) (W : List ℕ) (sc : ℕ) (flags : List Bool)
             ∙ ap (λ n. set (set (set (columnOf f ns (get old)) (e .node) x) n y) (n + 1) z) (sym en)
             ∙ three f ns (get old) dflt (e .node) (splitOf w (length ns)) (leafOf (child onTrue w)) (leafOf (child onFalse w)) ex ey ez inside (subst (λ n. n + 2 ≤ length (get old)) (sym en) hl)
 
-    module _ (g′ : Ground) (M : List Float) (wholes′ : List (List ℕ)) (reals′ : List (List Float)) (step : Step) (b : SidesDone g g′ P W M wholes reals wholes′ reals′ e (at .nodes) rest step) where
-      abbrev twoOf : ℕ → ℕ → Out (List Waiting × Tapes)
-      twoOf n l = searchTwo P n l (child onTrue w) (child onFalse w) (drawsAt W M (at .drawn))
+    module _ (g′ : Ground) (M : List Float) (r : Pair) (b : SidesDone g g′ P W M wholes reals e (at .nodes) rest r) (deep : ℕ) (ed : deep ≡ max (at .depth) (e .level + 1)) where
+      abbrev at′ : At
+      at′ = record { nodes = at .nodes + 2; depth = deep; waiting = m; drawn = at .drawn }
 
-      abbrev made : List TreeNode → Tapes → State Tapes
-      made ns d′ = record { nodes = withChildren w ns; depth = max (at .depth) (suc (e .level)); left = d′ }
+      abbrev made : List TreeNode → ℕ → Tapes → State Tapes
+      made ns depth d′ = record { nodes = withChildren w ns; depth = depth; left = d′ }
 
       stepped : (ns : List TreeNode) → length ns ≡ at .nodes
-          → bind (expand P (search (tape (P .features)) P) w (stateAt W M ns at)) (onto (waitingList g wholes reals m)) ≡ bind (meantStep g′ W M wholes′ reals′ step) (fin (made ns))
+          → bind (expand P (search (tape (P .features)) P) w (stateAt W M ns at)) (onto (waitingList g wholes reals m)) ≡ bind (sought g′ P W M wholes reals r (standOf at′)) (into (made ns deep))
       unfolding expand
       stepped ns en =
-          ap (λ z. bind z (onto (waitingList g wholes reals m))) (fin-two (searchIf P (search (tape (P .features)) P) (searchable P (suc (e .level)) (child
-          onTrue w)) (length ns) (suc (e .level)) (child onTrue w) (drawsAt W M (at .drawn)))
-          (λ d′. searchIf P (search (tape (P .features)) P) (searchable P (suc (e .level)) (child onFalse w)) (suc (length ns)) (suc (e .level)) (child onFalse w) d′) (made ns))
-          ∙ fin-onto (twoOf (length ns) (suc (e .level))) (made ns) (waitingList g wholes reals m)
-          ∙ (λ i. bind (bind (twoOf (en i) (sym (add-one (e .level)) i)) (onto (waitingList g wholes reals m))) (fin (made ns)))
-          ∙ ap (λ z. bind z (fin (made ns))) (b .same)
+          two (searchIf P (search (tape (P .features)) P) (searchable P (suc (e .level)) (child onTrue w)) (length ns) (suc (e .level)) (child onTrue w) (drawsAt W M (at .drawn)))
+          (λ d′. searchIf P (search (tape (P .features)) P) (searchable P (suc (e .level)) (child onFalse w)) (suc (length ns)) (suc (e .level)) (child onFalse w) d′)
+          (made ns (max (at .depth) (suc (e .level)))) (waitingList g wholes reals m)
+          ∙ (λ i. bind (bind (searchIf P (search (tape (P .features)) P) (searchable P (level i) (child onTrue w)) (length ns) (level i) (child onTrue w) (drawsAt W M (at .drawn)))
+          (λ a. bind (searchIf P (search (tape (P .features)) P) (searchable P (level i) (child onFalse w)) (sym (add-one (length ns)) i) (level i) (child onFalse w) (a .1))
+          (λ z. ok (z .0 ++ (a .0 ++ waitingList g wholes reals m), z .1)))) (into (made ns (max (at .depth) (level i)))))
+          ∙ (λ i. bind (soughtTwo P (en i) (e .level + 1) (child onTrue w) (child onFalse w) (waitingList g wholes reals m) (drawsAt W M (at .drawn))) (into (made ns (sym ed i))))
+          ∙ ap (λ z. bind z (into (made ns deep))) (sym (b .same))
+        where
+          level : suc (e .level) ≡ e .level + 1
+          level = sym (add-one (e .level))
 
-      turn-stop : (k : ℕ) → step ≡ Refused k → TurnDone g g′ P W M c c′ wholes reals wholes′ reals′ at (U.Refused k)
-      unfolding bind
-      turn-stop k es =
-          record {
-            same = λ ns en. stepped ns en ∙ ap (λ z. bind (meantStep g′ W M wholes′ reals′ z) (fin (made ns))) es;
-            nodes = turn-nodes;
-            long = b .long;
-            below = b .below;
-            keeps = tt;
-          }
-
-      turn-goes : (s : Stand) → step ≡ Goes s → (deep : ℕ) → deep ≡ max (at .depth) (e .level + 1)
-          → TurnDone g g′ P W M c c′ wholes reals wholes′ reals′ at (U.Goes (record { nodes = at .nodes + 2; depth = deep; waiting = s .waiting; drawn = s .drawn }))
-      unfolding bind
-      turn-goes s es deep ed =
-          record {
-            same = λ ns en. stepped ns en ∙ ap (λ z. bind (meantStep g′ W M wholes′ reals′ z) (fin (made ns))) es
-                ∙ ap (λ n. ok (waitingList g′ wholes′ reals′ (s .waiting), record { nodes = withChildren w ns; depth = n; left = drawsAt W M (s .drawn) }))
-                (ap (max (at .depth)) (sym (add-one (e .level))) ∙ sym ed);
-            nodes = turn-nodes;
-            long = b .long;
-            below = b .below;
-            keeps = (subst (LaidStep g′ wholes′ reals′ (e .end)) es (b .laid), subst (FairStep W) es (b .fair), refl);
-          }
+      turn-done : TurnDone g g′ P W M c c′ wholes reals at r at′
+      turn-done = record { same = stepped; nodes = turn-nodes; asks = b .asks; long = b .long; below = b .below; high = b .high; more = refl }
 
 -- ---- the same by what the code read: the top is z, and the flags are as long as they were
 
@@ -170,33 +143,26 @@ module _ (g : Ground) (P : Params) (W : List ℕ) (sc : ℕ) (flags : List Bool)
       → SplitAsks (g .rows) (g .features) (z .start) (z .end) (g .tables .values) (g .tables .targets) (g .tables .weights) (g .tables .counts) (cutOf z) (g .order) (z .rows) (length flags)
       × (LongAll (at .nodes + 2) c × (z .node < at .nodes) × (at .nodes + 2 < 4294967296))
   code-split {z} ez =
-      (taken-splits g P W sc flags wholes reals z (at .nodes) left (code-taken ez), (q .node-room, subst (λ (z : WaitingNode). z .node < at .nodes) (sym ez) (q .number), q .node-small))
+      (taken-splits g P W sc flags wholes reals z (at .nodes) left (code-taken ez), (q .node-room, subst (λ (z : WaitingNode). z .node < at .nodes) (sym ez) (q .number), q .taken .number))
 
   module _ (flags′ : List Bool) (lf : length flags′ ≡ length flags) where
     abbrev DoneAt : Sides → WaitingNode → Type 0
     DoneAt h z = SplitDone (g .rows) (z .start) (z .end) (elementOf (g .features) (g .tables)) (cutOf z) (g .order) flags′ h
 
-    pub code-sides : {z : WaitingNode} → z ≡ topWaiting → (h : Sides) → DoneAt h z → SidesAsks g P W sc flags′ wholes reals z (at .nodes) h left
-    code-sides {z} ez h d = record { taken = subst (λ n. Taken g P W sc n wholes reals z (at .nodes) left) (sym lf) (code-taken ez); split = d }
-
     q′ : TurnAsks g P W sc (length flags′) c wholes reals at
     q′ = subst (λ n. TurnAsks g P W sc n c wholes reals at) (sym lf) q
 
-    pub code-stop : {z : WaitingNode} → z ≡ topWaiting → (h : Sides) → DoneAt h z → (c′ : Columns) → c′ ≡ wroteSides z h (at .nodes) c
-        → (g′ : Ground) (M : List Float) (wholes′ : List (List ℕ)) (reals′ : List (List Float)) (step : Step)
-        → SidesDone g g′ P W M wholes reals wholes′ reals′ z (at .nodes) left step → (k : ℕ) → step ≡ Refused k
-        → TurnDone g g′ P W M c c′ wholes reals wholes′ reals′ at (U.Refused k)
-    code-stop ez h d c′ wr g′ M wholes′ reals′ step b k es =
-        subst (λ (z : WaitingNode). DoneAt h z → c′ ≡ wroteSides z h (at .nodes) c → SidesDone g g′ P W M wholes reals wholes′ reals′ z (at .nodes) left step →
-        TurnDone g g′ P W M c c′ wholes reals wholes′ reals′ at (U.Refused k)) (sym ez)
-        (λ d wr b. turn-stop g P W sc flags′ c wholes reals at q′ h d c′ wr g′ M wholes′ reals′ step b k es) d wr b
+    taken′ : {z : WaitingNode} → z ≡ topWaiting → Taken g P W sc (length flags′) wholes reals z (at .nodes) left
+    taken′ {z} ez = subst (λ n. Taken g P W sc n wholes reals z (at .nodes) left) (sym lf) (code-taken ez)
 
-    pub code-goes : {z : WaitingNode} → z ≡ topWaiting → (h : Sides) → DoneAt h z → (c′ : Columns) → c′ ≡ wroteSides z h (at .nodes) c
-        → (g′ : Ground) (M : List Float) (wholes′ : List (List ℕ)) (reals′ : List (List Float)) (step : Step)
-        → SidesDone g g′ P W M wholes reals wholes′ reals′ z (at .nodes) left step → (s : Stand) → step ≡ Goes s
-        → (deep : ℕ) → deep ≡ max (at .depth) (z .level + 1)
-        → TurnDone g g′ P W M c c′ wholes reals wholes′ reals′ at (U.Goes (record { nodes = at .nodes + 2; depth = deep; waiting = s .waiting; drawn = s .drawn }))
-    code-goes ez h d c′ wr g′ M wholes′ reals′ step b s es deep ed =
-        subst (λ (z : WaitingNode). DoneAt h z → c′ ≡ wroteSides z h (at .nodes) c → SidesDone g g′ P W M wholes reals wholes′ reals′ z (at .nodes) left step → deep ≡ max (at .depth) (z .level + 1)
-        → TurnDone g g′ P W M c c′ wholes reals wholes′ reals′ at (U.Goes (record { nodes = at .nodes + 2; depth = deep; waiting = s .waiting; drawn = s .drawn }))) (sym ez)
-        (λ d wr b ed. turn-goes g P W sc flags′ c wholes reals at q′ h d c′ wr g′ M wholes′ reals′ step b s es deep ed) d wr b ed
+    pub code-parts : {z : WaitingNode} → z ≡ topWaiting → (h : Sides) → DoneAt h z → PartAsks (g .rows) (g .features) (g .order) sc flags′ z h
+    code-parts {z} ez h d = part-asks g P W sc flags′ wholes reals z (at .nodes) left (taken′ ez) h d
+
+    pub code-done : {z : WaitingNode} → z ≡ topWaiting → (h : Sides) → DoneAt h z → (c′ : Columns) → c′ ≡ wroteSides z h (at .nodes) c
+        → (M : List Float) (order′ : List ℕ) (r : Pair) → PartDone (g .rows) (g .features) (g .order) order′ flags′ P z (at .nodes) h r → (deep : ℕ) → deep ≡ max (at .depth) (r .level)
+        → TurnDone g (withOrder g order′) P W M c c′ wholes reals at r (record { nodes = at .nodes + 2; depth = deep; waiting = at .waiting - 1; drawn = at .drawn })
+    code-done {z} ez h d c′ wr M order′ r p deep ed =
+        subst (λ (z : WaitingNode). DoneAt h z → c′ ≡ wroteSides z h (at .nodes) c → SidesDone g (withOrder g order′) P W M wholes reals z (at .nodes) left r → deep ≡ max (at .depth) (z .level + 1)
+        → TurnDone g (withOrder g order′) P W M c c′ wholes reals at r (record { nodes = at .nodes + 2; depth = deep; waiting = at .waiting - 1; drawn = at .drawn })) (sym ez)
+        (λ d wr b ed. turn-done g P W sc flags′ c wholes reals at q′ h d c′ wr (withOrder g order′) M r b deep ed)
+        d wr (sides-sought g P W sc flags′ wholes reals z (at .nodes) left (taken′ ez) h d M order′ r p) (ed ∙ ap (λ (x : Pair). max (at .depth) (x .level)) (p .pair))

@@ -5,10 +5,10 @@ ghost use lib.ListN.{length};
 ghost use Rattle.rules.specs.Lent.{columnsOf};
 ghost use Rattle.node_entries.specs.Entries.{LongAll};
 ghost use Rattle.node_growth.specs.Rooms.{groundOf};
-ghost use Rattle.tree_growth.specs.Places.{TurnAsks, TurnDone};
-ghost use Rattle.tree_growth.specs.Loop.{GrowAsks, GrowDone};
-ghost use Rattle.tree_growth.specs.Tree.{TreeAsks, StartDone, TreeDone};
+ghost use Rattle.tree_growth.specs.Halves.{GrowAsks, GrowDone};
+ghost use Rattle.tree_growth.specs.Tree.{TreeAsks, TreeDone};
 use criterion::Side;
+use node_growth::Pair;
 use node_growth::Stand;
 use node_growth::Step;
 use rules::Params;
@@ -36,104 +36,7 @@ pub fn greater(a: u32, b: u32) -> u32
     a
 }
 
-// One turn: the last to join is split, and its children are searched.
-pub fn turn(
-    order: &mut [u32],
-    scratch: &mut [u32],
-    flags: &mut [bool],
-    value: &mut [f64],
-    feature: &mut [u32],
-    threshold: &mut [f64],
-    score: &mut [f64],
-    truechild: &mut [u32],
-    falsechild: &mut [u32],
-    wholes: &mut [[u32; 6]],
-    reals: &mut [[f64; 3]],
-    values: &[f64],
-    targets: &[f64],
-    weights: &[f64],
-    counts: &[u32],
-    words: &[u32],
-    thresholds: &[f64],
-    rows: usize,
-    features: usize,
-    p: Params,
-    at: At,
-) -> Turned
-    requires { ⌜
-        TurnAsks (groundOf rows features (now values) (now targets) (now weights) (now counts) (now order)) p (now words) (length (now scratch)) (length (now flags))
-        (columnsOf (now value) (now feature) (now threshold) (now score) (now truechild) (now falsechild)) (now wholes) (now reals) at ⌝ }
-    ensures { λ r. ⌜
-        TurnDone (groundOf rows features (now (values .entry)) (now (targets .entry)) (now (weights .entry)) (now (counts .entry)) (now (order .entry)))
-        (groundOf rows features (now (values .entry)) (now (targets .entry)) (now (weights .entry)) (now (counts .entry)) (now (order .exit))) p (now (words .entry))
-        (now (thresholds .entry))
-        (columnsOf (now (value .entry)) (now (feature .entry)) (now (threshold .entry)) (now (score .entry)) (now (truechild .entry)) (now (falsechild .entry)))
-        (columnsOf (now (value .exit)) (now (feature .exit)) (now (threshold .exit)) (now (score .exit)) (now (truechild .exit)) (now (falsechild .exit)))
-        (now (wholes .entry)) (now (reals .entry)) (now (wholes .exit)) (now (reals .exit)) at r ⌝ }
-{
-    let m = at.waiting - 1;
-    let n = at.nodes;
-    let d = at.drawn;
-    let w = node_entries::top(wholes, reals, m);
-    let h = node_growth::split_node(
-        flags,
-        value,
-        feature,
-        threshold,
-        score,
-        truechild,
-        falsechild,
-        values,
-        targets,
-        weights,
-        counts,
-        order,
-        rows,
-        features,
-        w,
-        n,
-    );
-    let r = node_growth::search_sides(
-        order,
-        scratch,
-        wholes,
-        reals,
-        values,
-        targets,
-        weights,
-        counts,
-        words,
-        thresholds,
-        flags,
-        rows,
-        features,
-        p,
-        w,
-        n,
-        h,
-        Stand {
-            waiting: m,
-            drawn: d,
-        },
-    );
-    match r {
-        Step::Refused(k) => Turned::Refused(k),
-        Step::Goes(s) => {
-            let l = w.level + 1;
-            let deep = greater(at.depth, l);
-            let e = s.drawn;
-            let nodes = n + 2;
-            Turned::Goes(At {
-                nodes,
-                depth: deep,
-                waiting: s.waiting,
-                drawn: e,
-            })
-        }
-    }
-}
-
-// The growth: turns until nothing waits. `most` is how many nodes there may be.
+// The growth: what is left to search is searched, and the last to join is split, until nothing waits. `most` is how many nodes there may be.
 pub fn grow(
     order: &mut [u32],
     scratch: &mut [u32],
@@ -156,110 +59,89 @@ pub fn grow(
     features: usize,
     most: usize,
     p: Params,
+    root: Pair,
     start: At,
 ) -> Turned
     requires { ⌜
-        GrowAsks (groundOf rows features (now values) (now targets) (now weights) (now counts) (now order)) p (now words) most (length (now scratch)) (length (now flags))
-        (columnsOf (now value) (now feature) (now threshold) (now score) (now truechild) (now falsechild)) (now wholes) (now reals) start ⌝ }
+        GrowAsks (groundOf rows features (now values) (now targets) (now weights) (now counts) (now order)) p (now words) (now thresholds) most (length (now scratch))
+        (length (now flags)) (columnsOf (now value) (now feature) (now threshold) (now score) (now truechild) (now falsechild)) (now wholes) (now reals) root start ⌝ }
     ensures { λ r. ⌜
         GrowDone (groundOf rows features (now (values .entry)) (now (targets .entry)) (now (weights .entry)) (now (counts .entry)) (now (order .entry))) p
         (now (words .entry)) (now (thresholds .entry)) most
         (columnsOf (now (value .entry)) (now (feature .entry)) (now (threshold .entry)) (now (score .entry)) (now (truechild .entry)) (now (falsechild .entry)))
         (columnsOf (now (value .exit)) (now (feature .exit)) (now (threshold .exit)) (now (score .exit)) (now (truechild .exit)) (now (falsechild .exit)))
-        (now (wholes .entry)) (now (reals .entry)) start r ⌝ }
+        (now (wholes .entry)) (now (reals .entry)) root start r ⌝ }
 {
     let mut at = start;
-    while 0 < at.waiting {
-        let r = turn(
-            order,
-            scratch,
-            flags,
-            value,
-            feature,
-            threshold,
-            score,
-            truechild,
-            falsechild,
+    let mut q = root;
+    loop {
+        let d = at.drawn;
+        let r = node_growth::search_pair(
             wholes,
             reals,
             values,
             targets,
             weights,
             counts,
+            order,
             words,
             thresholds,
             rows,
             features,
             p,
-            at,
+            q,
+            Stand {
+                waiting: at.waiting,
+                drawn: d,
+            },
         );
         match r {
-            Turned::Refused(k) => {
+            Step::Refused(k) => {
                 return Turned::Refused(k);
             }
-            Turned::Goes(next) => {
-                at = next;
+            Step::Goes(s) => {
+                let n = at.nodes;
+                let e = s.drawn;
+                if s.waiting == 0 {
+                    return Turned::Goes(At {
+                        nodes: n,
+                        depth: at.depth,
+                        waiting: 0,
+                        drawn: e,
+                    });
+                }
+                let m = s.waiting - 1;
+                let w = node_entries::top(wholes, reals, m);
+                let h = node_growth::split_node(
+                    flags,
+                    value,
+                    feature,
+                    threshold,
+                    score,
+                    truechild,
+                    falsechild,
+                    values,
+                    targets,
+                    weights,
+                    counts,
+                    order,
+                    rows,
+                    features,
+                    w,
+                    n,
+                );
+                q = node_growth::part_sides(order, scratch, flags, rows, features, p, w, n, h);
+                let deep = greater(at.depth, q.level);
+                let nodes = n + 2;
+                at = At {
+                    nodes,
+                    depth: deep,
+                    waiting: m,
+                    drawn: e,
+                };
             }
         }
     }
-    Turned::Goes(at)
-}
-
-// The root is searched if something is kept, the limit is above 1 and its count reaches the least split.
-pub fn start_tree(
-    wholes: &mut [[u32; 6]],
-    reals: &mut [[f64; 3]],
-    values: &[f64],
-    targets: &[f64],
-    weights: &[f64],
-    counts: &[u32],
-    order: &[u32],
-    words: &[u32],
-    thresholds: &[f64],
-    rows: usize,
-    features: usize,
-    most: usize,
-    p: Params,
-    kept: u32,
-    root: Side,
-) -> Step
-    requires { ⌜
-        TreeAsks (groundOf rows features (now values) (now targets) (now weights) (now counts) (now order)) p most kept root (length (now wholes)) (length (now reals)) ⌝ }
-    ensures { λ r. ⌜
-        StartDone (groundOf rows features (now (values .entry)) (now (targets .entry)) (now (weights .entry)) (now (counts .entry)) (now (order .entry))) p
-        (now (words .entry)) (now (thresholds .entry)) (now (wholes .exit)) (now (reals .exit)) kept root r ⌝ }
-{
-    let s = Stand {
-        waiting: 0,
-        drawn: Drawn {
-            words: 0,
-            thresholds: 0,
-            searches: 0,
-        },
-    };
-    if 0 < root.count {
-        return node_growth::search_child(
-            wholes,
-            reals,
-            values,
-            targets,
-            weights,
-            counts,
-            order,
-            words,
-            thresholds,
-            rows,
-            features,
-            p,
-            0,
-            1,
-            0,
-            kept,
-            root,
-            s,
-        );
-    }
-    Step::Goes(s)
 }
 
 // The growth of a tree whose kept rows lie in the work columns from 0 to `kept`.
@@ -310,57 +192,41 @@ pub fn grow_tree(
         0,
         t,
     );
-    let r = start_tree(
+    let q = node_growth::root_pair(kept, root);
+    let d = Drawn {
+        words: 0,
+        thresholds: 0,
+        searches: 0,
+    };
+    let at = At {
+        nodes: 1,
+        depth: 0,
+        waiting: 0,
+        drawn: d,
+    };
+    grow(
+        order,
+        scratch,
+        flags,
+        value,
+        feature,
+        threshold,
+        score,
+        truechild,
+        falsechild,
         wholes,
         reals,
         values,
         targets,
         weights,
         counts,
-        order,
         words,
         thresholds,
         rows,
         features,
         most,
         p,
-        kept,
-        root,
-    );
-    match r {
-        Step::Refused(k) => Turned::Refused(k),
-        Step::Goes(s) => {
-            let d = s.drawn;
-            let at = At {
-                nodes: 1,
-                depth: 0,
-                waiting: s.waiting,
-                drawn: d,
-            };
-            grow(
-                order,
-                scratch,
-                flags,
-                value,
-                feature,
-                threshold,
-                score,
-                truechild,
-                falsechild,
-                wholes,
-                reals,
-                values,
-                targets,
-                weights,
-                counts,
-                words,
-                thresholds,
-                rows,
-                features,
-                most,
-                p,
-                at,
-            )
-        }
-    }
+        q,
+        at,
+    )
 }

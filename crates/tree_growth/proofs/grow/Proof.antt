@@ -1,4 +1,5 @@
--- `tree_growth::grow` meets its contract: each turn is one step of the waiting list, and what is left of the growth stays the same. Assumes nothing.
+-- `tree_growth::grow` meets its contract: a turn searches what is left to search and splits the last to join: one step of the waiting list, taken half a turn later.
+-- What is left of the growth stays the same. Assumes nothing.
 use Prim.Native.Nat.{_-_}
 use native.Mathlib.Omega.{arith}
 use mathlib.Core.Path.{_∙_}
@@ -6,157 +7,218 @@ use lib.ListN.{length}
 use borrow.Author.Needs.{needs}
 use Rattle.rules.specs.Lent.{columnsOf}
 use Rattle.node_growth.specs.Rooms.{groundOf}
-use Rattle.tree_growth.specs.Loop.{Growing, growing-first, growing-may, growing-stop, growing-less, growing-on, growing-end}
+use Rattle.tree_growth.specs.Loop.{Growing, growing-first, growing-stop, growing-end, number-small, growing-top, growing-split, growing-parts, growing-less, growing-on}
 use Rattle.tree_growth.proofs.grow.Statement.{statement}
 use Rattle.tree_growth.proofs.grow.Tie as tie
 
 abbrev Inv-loop : tie.InvT-loop
 Inv-loop order₀ scratch₀ flags₀ value₀ feature₀ threshold₀ score₀ truechild₀ falsechild₀ wholes₀ reals₀
-    values targets weights counts tape marks rows features most p at₀
-    order scratch flags value feature threshold score truechild' falsechild' wholes reals at =
+    values targets weights counts tape marks rows features most p at₀ q₀
+    order scratch flags value feature threshold score truechild' falsechild' wholes reals at q =
     Growing (groundOf rows features values targets weights counts order₀) p tape marks most (length scratch₀) (length flags₀)
-    (columnsOf value₀ feature₀ threshold₀ score₀ truechild₀ falsechild₀) wholes₀ reals₀ at₀
+    (columnsOf value₀ feature₀ threshold₀ score₀ truechild₀ falsechild₀) wholes₀ reals₀ q₀ at₀
     (groundOf rows features values targets weights counts order) (length scratch) (length flags)
-    (columnsOf value feature threshold score (truechild') (falsechild')) wholes reals at
+    (columnsOf value feature threshold score (truechild') (falsechild')) wholes reals q at
 
 abbrev μ-loop : tie.MeasureT-loop
 μ-loop order₀ scratch₀ flags₀ value₀ feature₀ threshold₀ score₀ truechild₀ falsechild₀ wholes₀ reals₀
-    values targets weights counts tape marks rows features most p at₀
-    order scratch flags value feature threshold score truechild' falsechild' wholes reals at =
+    values targets weights counts tape marks rows features most p at₀ q₀
+    order scratch flags value feature threshold score truechild' falsechild' wholes reals at q =
     most - at .nodes
 
 abbrev start-of : tie.After-shared-slice-known6 Inv-loop μ-loop → tie.Start Inv-loop μ-loop
 start-of c = c .before .before .before .before .before .before .before .before .before .before .before .before .before .before .before
 
--- a turn is called: that a node waits, and how the loop stands
-abbrev waits-called : tie.After-turn-arg11 Inv-loop μ-loop → tie.Then1 Inv-loop μ-loop
-waits-called c = c .before .before .before .before .before .before .before .before .before .before .before
+-- how the loop stood as the pair was searched
+abbrev loop-of : tie.After-search-pair Inv-loop μ-loop → tie.At-loop Inv-loop μ-loop
+loop-of c = c .before .before .before .before .before
 
-abbrev loop-called : tie.After-turn-arg11 Inv-loop μ-loop → tie.At-loop Inv-loop μ-loop
-loop-called c = waits-called c .before .before
+-- its searches met a bad draw
+abbrev searched-bad : tie.After-known-told Inv-loop μ-loop → tie.After-search-pair Inv-loop μ-loop
+searched-bad c = c .before .before .before .before .before
 
--- a turn that met a bad draw
-abbrev turned-bad : tie.After-known-told Inv-loop μ-loop → tie.After-turn Inv-loop μ-loop
-turned-bad c =
-    c .before .before .before .before .before .before .before .before .before .before .before .before .before .before .before .before .before .before .before .before .before .before .before
+-- nothing waits after them
+abbrev searched-end : tie.Then1 Inv-loop μ-loop → tie.After-search-pair Inv-loop μ-loop
+searched-end c = c .before .before .before .before .before .before .before .before
 
-abbrev waits-bad : tie.After-known-told Inv-loop μ-loop → tie.Then1 Inv-loop μ-loop
-waits-bad c = waits-called (turned-bad c .before)
+-- something does
+abbrev told-of : tie.Else1 Inv-loop μ-loop → tie.After-r2 Inv-loop μ-loop
+told-of c = c .before .before .before .before
 
-abbrev loop-bad : tie.After-known-told Inv-loop μ-loop → tie.At-loop Inv-loop μ-loop
-loop-bad c = loop-called (turned-bad c .before)
+abbrev searched-of : tie.Else1 Inv-loop μ-loop → tie.After-search-pair Inv-loop μ-loop
+searched-of c = told-of c .before .before .before .before
 
--- a turn after which the growth goes on
-abbrev turned-good : tie.After-known-told2 Inv-loop μ-loop → tie.After-turn Inv-loop μ-loop
-turned-good c =
-    c .before .before .before .before .before .before .before .before .before .before .before .before .before .before .before .before .before .before .before .before .before .before .before
+-- the top of the waiting list is read, its node is split, and its sides are parted
+abbrev waits-to-top : tie.After-top-arg2 Inv-loop μ-loop → tie.Else1 Inv-loop μ-loop
+waits-to-top c = c .before .before .before
 
-abbrev waits-good : tie.After-known-told2 Inv-loop μ-loop → tie.Then1 Inv-loop μ-loop
-waits-good c = waits-called (turned-good c .before)
+abbrev top-to-split : tie.After-split-node-arg8 Inv-loop μ-loop → tie.After-top Inv-loop μ-loop
+top-to-split c = c .before .before .before .before .before .before .before .before
 
-abbrev loop-good : tie.After-known-told2 Inv-loop μ-loop → tie.At-loop Inv-loop μ-loop
-loop-good c = loop-called (turned-good c .before)
+abbrev split-to-part : tie.After-part-sides-arg3 Inv-loop μ-loop → tie.After-split-node Inv-loop μ-loop
+split-to-part c =
+    c .before .before .before .before .before .before .before .before .before .before .before .before .before .before .before .before .before
+
+abbrev parted : tie.After-greater Inv-loop μ-loop → tie.After-part-sides Inv-loop μ-loop
+parted c = c .before .before .before .before .before
+
+abbrev split-of : tie.After-greater Inv-loop μ-loop → tie.After-split-node Inv-loop μ-loop
+split-of c = split-to-part (parted c .before)
+
+abbrev top-of : tie.After-greater Inv-loop μ-loop → tie.After-top Inv-loop μ-loop
+top-of c = top-to-split (split-of c .before)
+
+abbrev waits-of : tie.After-greater Inv-loop μ-loop → tie.Else1 Inv-loop μ-loop
+waits-of c = waits-to-top (top-of c .before)
 
 loop-holds : tie.Need-loop-holds Inv-loop μ-loop
-loop-holds c = growing-first _ _ _ (start-of c .args .thresholds .now) _ _ _ _ _ _ _ (start-of c .pre)
+loop-holds c = growing-first _ _ _ _ _ _ _ _ _ _ _ _ (start-of c .pre)
 
-turn-requires : tie.Need-turn-requires Inv-loop μ-loop
-turn-requires c κs = growing-may _ _ _ _ _ _ _ _ _ _ _ _ _ _ _ _ _ _ (loop-called c .loop .inv) (omega (arith, waits-called c .if1 .taken))
+search-pair-requires : tie.Need-search-pair-requires Inv-loop μ-loop
+search-pair-requires c κs = c .before .before .before .before .loop .inv .asks .asks
 
 enum-known-r : tie.Need-enum-known-r Inv-loop μ-loop
 enum-known-r c = search needs
 
 same-length : tie.Need-same-length Inv-loop μ-loop
-same-length c = turned-bad c .turn .kept .0 ∙ loop-bad c .loop .inv .order
+same-length c = loop-of (searched-bad c) .loop .inv .order
 
 same-length-2 : tie.Need-same-length-2 Inv-loop μ-loop
-same-length-2 c = turned-bad c .turn .kept .1 .0 ∙ loop-bad c .loop .inv .scratch
+same-length-2 c = loop-of (searched-bad c) .loop .inv .scratch
 
 same-length-3 : tie.Need-same-length-3 Inv-loop μ-loop
-same-length-3 c = turned-bad c .turn .kept .1 .1 .0 ∙ loop-bad c .loop .inv .flags
+same-length-3 c = loop-of (searched-bad c) .loop .inv .flags
 
 same-length-4 : tie.Need-same-length-4 Inv-loop μ-loop
-same-length-4 c = turned-bad c .turn .kept .1 .1 .1 .0 ∙ loop-bad c .loop .inv .value
+same-length-4 c = loop-of (searched-bad c) .loop .inv .value
 
 same-length-5 : tie.Need-same-length-5 Inv-loop μ-loop
-same-length-5 c = turned-bad c .turn .kept .1 .1 .1 .1 .0 ∙ loop-bad c .loop .inv .feature
+same-length-5 c = loop-of (searched-bad c) .loop .inv .feature
 
 same-length-6 : tie.Need-same-length-6 Inv-loop μ-loop
-same-length-6 c = turned-bad c .turn .kept .1 .1 .1 .1 .1 .0 ∙ loop-bad c .loop .inv .threshold
+same-length-6 c = loop-of (searched-bad c) .loop .inv .threshold
 
 same-length-7 : tie.Need-same-length-7 Inv-loop μ-loop
-same-length-7 c = turned-bad c .turn .kept .1 .1 .1 .1 .1 .1 .0 ∙ loop-bad c .loop .inv .score
+same-length-7 c = loop-of (searched-bad c) .loop .inv .score
 
 same-length-8 : tie.Need-same-length-8 Inv-loop μ-loop
-same-length-8 c = turned-bad c .turn .kept .1 .1 .1 .1 .1 .1 .1 .0 ∙ loop-bad c .loop .inv .truechild
+same-length-8 c = loop-of (searched-bad c) .loop .inv .truechild
 
 same-length-9 : tie.Need-same-length-9 Inv-loop μ-loop
-same-length-9 c = turned-bad c .turn .kept .1 .1 .1 .1 .1 .1 .1 .1 .0 ∙ loop-bad c .loop .inv .falsechild
+same-length-9 c = loop-of (searched-bad c) .loop .inv .falsechild
 
 same-length-10 : tie.Need-same-length-10 Inv-loop μ-loop
-same-length-10 c = turned-bad c .turn .kept .1 .1 .1 .1 .1 .1 .1 .1 .1 .0 ∙ loop-bad c .loop .inv .waiting-wholes
+same-length-10 c = searched-bad c .search-pair .kept .0 ∙ loop-of (searched-bad c) .loop .inv .waiting-wholes
 
 same-length-11 : tie.Need-same-length-11 Inv-loop μ-loop
-same-length-11 c = turned-bad c .turn .kept .1 .1 .1 .1 .1 .1 .1 .1 .1 .1 .0 ∙ loop-bad c .loop .inv .waiting-reals
+same-length-11 c = searched-bad c .search-pair .kept .1 .0 ∙ loop-of (searched-bad c) .loop .inv .waiting-reals
 
 returns : tie.Need-returns Inv-loop μ-loop
-returns c =
-    growing-stop _ _ _ _ _ _ _ _ _ _ _ _ _ _ _ _ _ _ (loop-bad c .loop .inv) (omega (arith, waits-bad c .if1 .taken)) _ _ _ _ _
-    (turned-bad c .turn .ensures) _ (c .before .r .given .1)
+returns c = growing-stop _ _ _ _ _ _ _ _ _ _ _ _ _ _ (loop-of (searched-bad c) .loop .flags) _ _ _ _ _
+    (loop-of (searched-bad c) .loop .inv) _ _ _ (searched-bad c .search-pair .ensures) _ (c .before .r .given .1)
 
 enum-known-r-2 : tie.Need-enum-known-r-2 Inv-loop μ-loop
 enum-known-r-2 c = search needs
 
+same-length-12 : tie.Need-same-length-12 Inv-loop μ-loop
+same-length-12 c = loop-of (searched-end c) .loop .inv .order
+
+same-length-13 : tie.Need-same-length-13 Inv-loop μ-loop
+same-length-13 c = loop-of (searched-end c) .loop .inv .scratch
+
+same-length-14 : tie.Need-same-length-14 Inv-loop μ-loop
+same-length-14 c = loop-of (searched-end c) .loop .inv .flags
+
+same-length-15 : tie.Need-same-length-15 Inv-loop μ-loop
+same-length-15 c = loop-of (searched-end c) .loop .inv .value
+
+same-length-16 : tie.Need-same-length-16 Inv-loop μ-loop
+same-length-16 c = loop-of (searched-end c) .loop .inv .feature
+
+same-length-17 : tie.Need-same-length-17 Inv-loop μ-loop
+same-length-17 c = loop-of (searched-end c) .loop .inv .threshold
+
+same-length-18 : tie.Need-same-length-18 Inv-loop μ-loop
+same-length-18 c = loop-of (searched-end c) .loop .inv .score
+
+same-length-19 : tie.Need-same-length-19 Inv-loop μ-loop
+same-length-19 c = loop-of (searched-end c) .loop .inv .truechild
+
+same-length-20 : tie.Need-same-length-20 Inv-loop μ-loop
+same-length-20 c = loop-of (searched-end c) .loop .inv .falsechild
+
+same-length-21 : tie.Need-same-length-21 Inv-loop μ-loop
+same-length-21 c = searched-end c .search-pair .kept .0 ∙ loop-of (searched-end c) .loop .inv .waiting-wholes
+
+same-length-22 : tie.Need-same-length-22 Inv-loop μ-loop
+same-length-22 c = searched-end c .search-pair .kept .1 .0 ∙ loop-of (searched-end c) .loop .inv .waiting-reals
+
+returns-2 : tie.Need-returns-2 Inv-loop μ-loop
+returns-2 c =
+    growing-end _ _ _ _ _ _ _ _ _ _ _ _ _ _ (loop-of (searched-end c) .loop .flags) _ _ _ _ _
+    (loop-of (searched-end c) .loop .inv) _ _ _ (searched-end c .search-pair .ensures) _ (c .before .before .before .before .r2 .given .1)
+    (omega (arith, c .if1 .taken))
+
+sub-m : tie.Need-sub-m Inv-loop μ-loop
+sub-m c = search needs
+
+top-requires : tie.Need-top-requires Inv-loop μ-loop
+top-requires c κs =
+    let e = waits-to-top c in
+    growing-top _ _ _ _ _ _ _ _ _ _ _ _ _ _ (loop-of (searched-of e) .loop .flags) _ _ _ _ _
+    (loop-of (searched-of e) .loop .inv) _ _ _ (searched-of e .search-pair .ensures) _ (told-of e .r2 .given .1)
+    (searched-of e .search-pair .kept .0) (searched-of e .search-pair .kept .1 .0) (omega (arith, e .if1 .left))
+
+split-node-requires : tie.Need-split-node-requires Inv-loop μ-loop
+split-node-requires c κs =
+    let t = top-to-split c in
+    let e = waits-to-top (t .before) in
+    growing-split _ _ _ _ _ _ _ _ _ _ _ _ _ _ (loop-of (searched-of e) .loop .flags) _ _ _ _ _
+    (loop-of (searched-of e) .loop .inv) _ _ _ (searched-of e .search-pair .ensures) _ (told-of e .r2 .given .1)
+    (searched-of e .search-pair .kept .0) (searched-of e .search-pair .kept .1 .0) (omega (arith, e .if1 .left))
+    (t .top .ensures)
+
+part-sides-requires : tie.Need-part-sides-requires Inv-loop μ-loop
+part-sides-requires c κs =
+    let p = split-to-part c in
+    let t = top-to-split (p .before) in
+    let e = waits-to-top (t .before) in
+    growing-parts _ _ _ _ _ _ _ _ _ _ _ _ _ _ (loop-of (searched-of e) .loop .flags) _ _ _ _ _
+    (loop-of (searched-of e) .loop .inv) _ _ _ (searched-of e .search-pair .ensures) _ (told-of e .r2 .given .1)
+    (searched-of e .search-pair .kept .0) (searched-of e .search-pair .kept .1 .0) (omega (arith, e .if1 .left))
+    (t .top .ensures) _ (p .split-node .kept .0) _ (p .split-node .ensures .0)
+
+greater-requires : tie.Need-greater-requires Inv-loop μ-loop
+greater-requires c κs = search needs
+
+add-nodes : tie.Need-add-nodes Inv-loop μ-loop
+add-nodes c =
+    let e = waits-of c in
+    omega (
+      arith,
+      number-small _ _ _ _ _ _ _ _ _ _ _ _ _ _ (loop-of (searched-of e) .loop .flags) _ _ _ _ _
+          (loop-of (searched-of e) .loop .inv) _ _ _ (searched-of e .search-pair .ensures) _ (told-of e .r2 .given .1)
+          (searched-of e .search-pair .kept .0) (searched-of e .search-pair .kept .1 .0) (omega (arith, e .if1 .left)),
+    )
+
 loop-less : tie.Need-loop-less Inv-loop μ-loop
 loop-less c =
-    growing-less _ _ _ _ _ _ _ _ _ _ _ _ _ _ _ _ _ _ (loop-good c .loop .inv) (omega (arith, waits-good c .if1 .taken)) _ _ _ _ _
-    (turned-good c .turn .ensures) _ (c .before .r2 .given .1)
+    let e = waits-of c in
+    growing-less _ _ _ _ _ _ _ _ _ _ _ _ _ _ (loop-of (searched-of e) .loop .flags) _ _ _ _ _
+    (loop-of (searched-of e) .loop .inv) _ _ _ (searched-of e .search-pair .ensures) _ (told-of e .r2 .given .1)
+    (searched-of e .search-pair .kept .0) (searched-of e .search-pair .kept .1 .0) (omega (arith, e .if1 .left))
 
 loop-again : tie.Need-loop-again Inv-loop μ-loop
 loop-again c =
-    let k = turned-good c .turn .kept in
-    growing-on _ _ _ _ _ _ _ _ _ _ _ _ _ _ _ _ _ _ (loop-good c .loop .inv) (omega (arith, waits-good c .if1 .taken)) _ _ _ _ _
-    (turned-good c .turn .ensures) _ (c .before .r2 .given .1)
-    (k .1 .0) (k .1 .1 .0)
-    (k .1 .1 .1 .1 .1 .1 .1 .1 .1 .0) (k .1 .1 .1 .1 .1 .1 .1 .1 .1 .1 .0)
-    (k .1 .1 .1 .0) (k .1 .1 .1 .1 .0) (k .1 .1 .1 .1 .1 .0)
-    (k .1 .1 .1 .1 .1 .1 .0) (k .1 .1 .1 .1 .1 .1 .1 .0) (k .1 .1 .1 .1 .1 .1 .1 .1 .0)
-
-same-length-12 : tie.Need-same-length-12 Inv-loop μ-loop
-same-length-12 c = c .before .before .loop .inv .order
-
-same-length-13 : tie.Need-same-length-13 Inv-loop μ-loop
-same-length-13 c = c .before .before .loop .inv .scratch
-
-same-length-14 : tie.Need-same-length-14 Inv-loop μ-loop
-same-length-14 c = c .before .before .loop .inv .flags
-
-same-length-15 : tie.Need-same-length-15 Inv-loop μ-loop
-same-length-15 c = c .before .before .loop .inv .value
-
-same-length-16 : tie.Need-same-length-16 Inv-loop μ-loop
-same-length-16 c = c .before .before .loop .inv .feature
-
-same-length-17 : tie.Need-same-length-17 Inv-loop μ-loop
-same-length-17 c = c .before .before .loop .inv .threshold
-
-same-length-18 : tie.Need-same-length-18 Inv-loop μ-loop
-same-length-18 c = c .before .before .loop .inv .score
-
-same-length-19 : tie.Need-same-length-19 Inv-loop μ-loop
-same-length-19 c = c .before .before .loop .inv .truechild
-
-same-length-20 : tie.Need-same-length-20 Inv-loop μ-loop
-same-length-20 c = c .before .before .loop .inv .falsechild
-
-same-length-21 : tie.Need-same-length-21 Inv-loop μ-loop
-same-length-21 c = c .before .before .loop .inv .waiting-wholes
-
-same-length-22 : tie.Need-same-length-22 Inv-loop μ-loop
-same-length-22 c = c .before .before .loop .inv .waiting-reals
-
-returns-2 : tie.Need-returns-2 Inv-loop μ-loop
-returns-2 c = growing-end _ _ _ _ _ _ _ _ _ _ _ _ _ _ _ _ _ _ (c .before .before .loop .inv) (omega (arith, c .if1 .left))
+    let e = waits-of c in
+    let t = top-of c .top in
+    let p = split-of c .split-node in
+    growing-on _ _ _ _ _ _ _ _ _ _ _ _ _ _ (loop-of (searched-of e) .loop .flags) _ _ _ _ _
+    (loop-of (searched-of e) .loop .inv) _ _ _ (searched-of e .search-pair .ensures) _ (told-of e .r2 .given .1)
+    (searched-of e .search-pair .kept .0) (searched-of e .search-pair .kept .1 .0) (omega (arith, e .if1 .left))
+    (t .ensures) _ (p .kept .0) _ (p .ensures .0) _ (p .ensures .1) _ _ (parted c .part-sides .ensures) _ (c .greater .ensures)
+    (parted c .part-sides .kept .1 .0) (p .kept .1 .0) (p .kept .1 .1 .0) (p .kept .1 .1 .1 .0) (p .kept .1 .1 .1 .1 .0) (p .kept .1 .1 .1 .1 .1 .0)
+    (p .kept .1 .1 .1 .1 .1 .1 .0)
 
 pub grow-spec : {M : Type 1} → statement M
 grow-spec =
@@ -165,7 +227,7 @@ grow-spec =
     Inv-loop
     μ-loop
     loop-holds
-    turn-requires
+    search-pair-requires
     enum-known-r
     same-length
     same-length-2
@@ -180,8 +242,6 @@ grow-spec =
     same-length-11
     returns
     enum-known-r-2
-    loop-less
-    loop-again
     same-length-12
     same-length-13
     same-length-14
@@ -193,4 +253,12 @@ grow-spec =
     same-length-20
     same-length-21
     same-length-22
-    returns-2)
+    returns-2
+    sub-m
+    top-requires
+    split-node-requires
+    part-sides-requires
+    greater-requires
+    add-nodes
+    loop-less
+    loop-again)
