@@ -86,12 +86,6 @@ pub fn plant(
     let asked = root.asked;
     let t = asked.totals;
     let r = tree_growth::grow_tree(
-        values,
-        targets,
-        weights,
-        counts,
-        words,
-        thresholds,
         order,
         scratch,
         flags,
@@ -103,6 +97,12 @@ pub fn plant(
         falsechild,
         wholes,
         reals,
+        values,
+        targets,
+        weights,
+        counts,
+        words,
+        thresholds,
         rows,
         features,
         root.most,

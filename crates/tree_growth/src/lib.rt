@@ -146,12 +146,6 @@ pub fn grow(
 
 // The growth of a tree whose kept rows lie in the work columns from 0 to `kept`.
 pub fn grow_tree(
-    values: &[f64],
-    targets: &[f64],
-    weights: &[f64],
-    counts: &[u32],
-    words: &[u32],
-    thresholds: &[f64],
     order: &mut [u32],
     scratch: &mut [u32],
     flags: &mut [bool],
@@ -163,6 +157,12 @@ pub fn grow_tree(
     falsechild: &mut [u32],
     wholes: &mut [[u32; 6]],
     reals: &mut [[f64; 3]],
+    values: &[f64],
+    targets: &[f64],
+    weights: &[f64],
+    counts: &[u32],
+    words: &[u32],
+    thresholds: &[f64],
     rows: usize,
     features: usize,
     most: usize,

@@ -46,37 +46,37 @@ tell-requires : tie.Need-tell-requires
 tell-requires c κs = plant-tells _ _ _ _ _ _ _ _ _ _ (start-of-reals c .pre) _ _ (set-up-of-reals c .set-up .ensures) _ (grow-tree-of-reals c .grow-tree .ensures)
 
 same-length : tie.Need-same-length
-same-length c = grow-tree-of-tell c .grow-tree .kept .1 .1 .1 .1 .1 .1 .1 .1 .1 .0
+same-length c = grow-tree-of-tell c .grow-tree .kept .1 .1 .1 .0
 
 same-length-2 : tie.Need-same-length-2
-same-length-2 c = grow-tree-of-tell c .grow-tree .kept .1 .1 .1 .1 .1 .1 .1 .1 .1 .1 .0
+same-length-2 c = grow-tree-of-tell c .grow-tree .kept .1 .1 .1 .1 .0
 
 same-length-3 : tie.Need-same-length-3
-same-length-3 c = grow-tree-of-tell c .grow-tree .kept .1 .1 .1 .1 .1 .1 .1 .1 .1 .1 .1 .0
+same-length-3 c = grow-tree-of-tell c .grow-tree .kept .1 .1 .1 .1 .1 .0
 
 same-length-4 : tie.Need-same-length-4
-same-length-4 c = grow-tree-of-tell c .grow-tree .kept .1 .1 .1 .1 .1 .1 .1 .1 .1 .1 .1 .1 .0
+same-length-4 c = grow-tree-of-tell c .grow-tree .kept .1 .1 .1 .1 .1 .1 .0
 
 same-length-5 : tie.Need-same-length-5
-same-length-5 c = grow-tree-of-tell c .grow-tree .kept .1 .1 .1 .1 .1 .1 .1 .1 .1 .1 .1 .1 .1 .0
+same-length-5 c = grow-tree-of-tell c .grow-tree .kept .1 .1 .1 .1 .1 .1 .1 .0
 
 same-length-6 : tie.Need-same-length-6
-same-length-6 c = grow-tree-of-tell c .grow-tree .kept .1 .1 .1 .1 .1 .1 .1 .1 .1 .1 .1 .1 .1 .1 .0
+same-length-6 c = grow-tree-of-tell c .grow-tree .kept .1 .1 .1 .1 .1 .1 .1 .1 .0
 
 same-length-7 : tie.Need-same-length-7
-same-length-7 c = grow-tree-of-tell c .grow-tree .kept .1 .1 .1 .1 .1 .1 .0 ∙ set-up-of-tell c .set-up .kept .0
+same-length-7 c = grow-tree-of-tell c .grow-tree .kept .0 ∙ set-up-of-tell c .set-up .kept .0
 
 same-length-8 : tie.Need-same-length-8
-same-length-8 c = grow-tree-of-tell c .grow-tree .kept .1 .1 .1 .1 .1 .1 .1 .0
+same-length-8 c = grow-tree-of-tell c .grow-tree .kept .1 .0
 
 same-length-9 : tie.Need-same-length-9
-same-length-9 c = grow-tree-of-tell c .grow-tree .kept .1 .1 .1 .1 .1 .1 .1 .1 .0
+same-length-9 c = grow-tree-of-tell c .grow-tree .kept .1 .1 .0
 
 same-length-10 : tie.Need-same-length-10
-same-length-10 c = grow-tree-of-tell c .grow-tree .kept .1 .1 .1 .1 .1 .1 .1 .1 .1 .1 .1 .1 .1 .1 .1 .0
+same-length-10 c = grow-tree-of-tell c .grow-tree .kept .1 .1 .1 .1 .1 .1 .1 .1 .1 .0
 
 same-length-11 : tie.Need-same-length-11
-same-length-11 c = grow-tree-of-tell c .grow-tree .kept .1 .1 .1 .1 .1 .1 .1 .1 .1 .1 .1 .1 .1 .1 .1 .1 .0
+same-length-11 c = grow-tree-of-tell c .grow-tree .kept .1 .1 .1 .1 .1 .1 .1 .1 .1 .1 .0
 
 returns : tie.Need-returns
 returns c = plant-done _ _ _ _ _ _ _ _ _ _ (start-of-tell c .pre) _ _ (set-up-of-tell c .set-up .ensures) _ (grow-tree-of-tell c .grow-tree .ensures) (c .tell .ensures)

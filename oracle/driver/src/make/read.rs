@@ -11,7 +11,8 @@ pub fn read(chance: &mut Chance) -> Read {
         reader,
         ..Read::default()
     };
-    let rows = chance.within(1, 6);
+    // the library walks six rows at a time: none, one or two groups, and what is left
+    let rows = chance.within(1, 14);
     match reader {
         Reader::OutOfBagError => error(chance, &mut read, rows),
         Reader::CheckListings => {
