@@ -91,7 +91,8 @@ fn add_rest(
     truechild: &[u32],
     falsechild: &[u32],
 )
-    requires { ⌜ (first ≤ rows) × Countable base × Readable rows features a n (now values) (columnsOf (now value) (now feature) (now threshold) (now score) (now truechild) (now falsechild)) (now out) ⌝ }
+    requires { ⌜ (first ≤ rows) × Countable base × Readable rows features a n (now values)
+        (columnsOf (now value) (now feature) (now threshold) (now score) (now truechild) (now falsechild)) (now out) ⌝ }
     ensures { λ _. ⌜ Further (withTree (now (counts .entry)) base
         (leafAt features (now (values .entry)) (entriesAt (columnsOf (now (value .entry)) (now (feature .entry)) (now (threshold .entry)) (now (score .entry))
         (now (truechild .entry)) (now (falsechild .entry))) a n))) first rows (now (out .entry)) (now (out .exit)) ⌝ }

@@ -28,8 +28,9 @@ start-of-t c = c .before .before .before .before .before .before .before .before
 cast-m : tie.Need-cast-m
 cast-m c =
     let s = start-of-t c in
-    let r = c .before .before .before .before .before .before .r in
-    omega (arith, rows-fit (s .args .to) (r .given .0 .0) (r .given .1) (c .before .before .before .g .given .1) (s .pre .2), s .fits .to)
+    let g = c .before .before .before in
+    let r = g .before .before .before .r in
+    omega (arith, rows-fit (s .args .to) (r .given .0 .0) (r .given .1) (g .g .given .1) (s .pre .2), s .fits .to)
 
 push-requires : tie.Need-push-requires
 push-requires c κs = search needs
