@@ -181,6 +181,11 @@ fn value(row: u32, feature: usize, show: &Show) -> String {
     format!("row {row} ({} in line {line} of {file})", cell.trim())
 }
 
+/// Checks that a table has row numbers in every cell.
+pub fn has_rows(csv: &Csv) -> Result<(), Stop> {
+    (0..csv.names().len()).try_for_each(|column| rows(csv, column).map(|_| ()))
+}
+
 fn rows(csv: &Csv, column: usize) -> Result<Vec<u32>, Stop> {
     let read = |row: usize| {
         let text = csv.cell(row, column).trim();

@@ -17,6 +17,13 @@ fn checked(listing: &str) -> (Run, String, String) {
 }
 
 #[test]
+fn a_show_in_place_of_a_listing_is_refused() {
+    let (told, _, listing) = checked(SHOW);
+    let why = format!("tailboardy: {listing}, line 2, column fixture: \"a\" is not a row number\n");
+    assert_eq!((told.status, told.err), (Some(1), why));
+}
+
+#[test]
 fn a_fresh_listing_is_written() {
     let folder = Folder::new("fresh");
     let show = folder.write("show.csv", SHOW);
