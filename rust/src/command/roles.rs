@@ -125,7 +125,10 @@ impl Roles {
                     quoted(name)
                 ),
             )),
-            None => Ok(listing.names().to_vec()),
+            None => {
+                let names = listing.names().iter().filter(|it| !it.is_empty());
+                Ok(names.cloned().collect())
+            }
         }
     }
 

@@ -23,6 +23,13 @@ fn a_show_in_place_of_a_listing_is_refused() {
     assert_eq!((told.status, told.err), (Some(1), why));
 }
 
+/// Spreadsheets write separators for columns that they once had.
+#[test]
+fn a_listing_may_have_an_empty_column() {
+    let (told, ..) = checked("x,z,\n1,0,\n2,2,\n0,1,\n");
+    assert_eq!((told.status, told.err.as_str()), (Some(0), ""));
+}
+
 #[test]
 fn a_fresh_listing_is_written() {
     let folder = Folder::new("fresh");
