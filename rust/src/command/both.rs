@@ -6,7 +6,7 @@ use crate::fit::Task;
 use crate::fixtures::{listed, twice};
 use crate::incomplete::leave_out;
 use crate::number::{self, Style};
-use crate::outside::{self, Beyond, Range};
+use crate::outside::{self, Beyond, Narrow, Range};
 use crate::show::{Show, matrix};
 use crate::stop::Stop;
 use tailboardy::DenseMatrix;
@@ -19,6 +19,8 @@ pub struct Both {
     pub x: DenseMatrix,
     /// Those that lie outside the range of the old show.
     pub beyond: Vec<Beyond>,
+    /// Those whose values lie so close together that they may have another unit.
+    pub narrow: Vec<Narrow>,
     /// Measurements that only the old show has.
     pub lacking: Vec<String>,
     /// What should be known about both shows,
@@ -48,6 +50,7 @@ impl Both {
         let ranges = outside::ranges(&old.x, &old.weights);
         let mut both = Both {
             beyond: outside::of(&ranges, &x),
+            narrow: outside::narrow(&ranges, &x),
             notes: old.notes.iter().cloned().chain(incomplete).collect(),
             old,
             new,
@@ -64,13 +67,28 @@ impl Both {
         for beyond in &self.beyond {
             let (place, why) = self.told(beyond);
             if beyond.whole && !extrapolate {
-                let how = "convert the column, or let it pass with --extrapolate";
-                faults.add(&place, &format!("{why}; {how}"));
+                let how = match beyond.units {
+                    Some(_) => "convert the column",
+                    None => "check its values and their unit",
+                };
+                faults.add(
+                    &place,
+                    &format!("{why}; {how}, or let it pass with --extrapolate"),
+                );
             } else if strict {
                 faults.add(&place, &format!("{why}; --strict refuses that"));
             } else {
                 let how = "no tree knows such values, so check these corrections";
                 self.warnings.push(format!("{place}: {why}; {how}"));
+            }
+        }
+        for narrow in &self.narrow {
+            let (place, why) = self.told_narrow(narrow);
+            match strict {
+                true => faults.add(&place, &format!("{why}; --strict refuses that")),
+                false => self
+                    .notes
+                    .push(format!("{place}: {why}; if so, convert the column")),
             }
         }
         let file = self.new.file();
@@ -85,11 +103,9 @@ impl Both {
 
     /// Where fixtures lie outside the range of the old show, how many, which, and by how much.
     fn told(&self, beyond: &Beyond) -> (String, String) {
-        let name = &self.old.features[beyond.feature];
         let (new, old) = (&self.new, self.old.csv.file());
-        let unit = new.find(name).map_or("", |it| new.unit(it));
-        let amount = |value: f64| amount(value, unit, new);
-        let range = |it: &Range| format!("{} to {}", amount(it.least), amount(it.greatest));
+        let amount = |value: f64| self.amount(value, beyond.feature);
+        let range = |it: &Range| self.range(it, beyond.feature);
         let (there, here) = (range(&beyond.old), range(&beyond.new));
         let (is, all) = (beyond.outside.len(), new.rows());
         let fixtures = beyond.outside.iter().map(|it| {
@@ -109,7 +125,34 @@ impl Both {
                 listed(fixtures)
             ),
         };
-        (format!("{}, column {name}", new.file()), why)
+        (self.place(beyond.feature), why)
+    }
+
+    /// Where values may have another unit, though they lie inside the range of the old show.
+    fn told_narrow(&self, narrow: &Narrow) -> (String, String) {
+        let range = |it: &Range| self.range(it, narrow.feature);
+        let (there, here) = (range(&narrow.old), range(&narrow.new));
+        let (old, (new_unit, old_unit)) = (self.old.csv.file(), narrow.units);
+        let why = format!(
+            "all values lie close together within the range of {old}: {here} here, {there} there; \
+             these look like {new_unit}, and those of {old} like {old_unit}"
+        );
+        (self.place(narrow.feature), why)
+    }
+
+    fn place(&self, feature: usize) -> String {
+        format!("{}, column {}", self.new.file(), self.old.features[feature])
+    }
+
+    fn range(&self, range: &Range, feature: usize) -> String {
+        let amount = |value: f64| self.amount(value, feature);
+        format!("{} to {}", amount(range.least), amount(range.greatest))
+    }
+
+    fn amount(&self, value: f64, feature: usize) -> String {
+        let new = &self.new;
+        let column = new.find(&self.old.features[feature]);
+        amount(value, column.map_or("", |it| new.unit(it)), new)
     }
 }
 

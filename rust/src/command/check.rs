@@ -3,7 +3,7 @@
 use crate::args::Args;
 use crate::csv::Csv;
 use crate::fit::refused;
-use crate::listing::Listing;
+use crate::listing::{self, Listing};
 use crate::output::Output;
 use crate::roles::Roles;
 use crate::show::Show;
@@ -18,7 +18,10 @@ pub fn run(args: &Args) -> Result<Output, Stop> {
     let listed = args.get("--listing");
     let listed = listed.map(|it| Csv::read(it, &format)).transpose()?;
     if let (None, None, Some(listed)) = (&roles.features, &roles.target, &listed) {
-        roles.features = Some(roles.listed(listed)?);
+        let names = roles.listed(listed)?;
+        // another table in place of a listing is not the show's fault
+        listing::has_rows(listed, &names)?;
+        roles.features = Some(names);
     }
     let show = Show::read(args, &roles)?;
     let listing = Listing::of(listed, &show)?;

@@ -105,7 +105,7 @@ const RANGE: &[Choice] = &[
     choice(
         "--strict",
         "",
-        "refuse fixtures outside the range of the old show, and fixtures with the same name",
+        "refuse fixtures outside the range of the old show or with the same name, and columns that may be in another unit",
     ),
     choice(
         "--extrapolate",

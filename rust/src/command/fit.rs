@@ -102,9 +102,11 @@ pub fn refused(refusal: &Refusal, show: &Show, listing: Option<&Listing>) -> Sto
         (Some(Fault::Target { row, value }), _) => {
             named(*row, show.target.as_ref(), format!("the target is {value}"))
         }
-        (Some(Fault::Weight { row, value }), _) => {
-            named(*row, show.weight.as_ref(), format!("the weight is {value}"))
-        }
+        (Some(Fault::Weight { row, value }), _) => named(
+            *row,
+            show.weight.as_ref(),
+            format!("the weight is {value}; it may not be negative"),
+        ),
         _ => Stop::refused(show.csv.file(), &refusal.to_string()),
     }
 }

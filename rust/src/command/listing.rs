@@ -181,6 +181,12 @@ fn value(row: u32, feature: usize, show: &Show) -> String {
     format!("row {row} ({} in line {line} of {file})", cell.trim())
 }
 
+/// Checks that these columns have row numbers in every cell.
+pub fn has_rows(csv: &Csv, names: &[String]) -> Result<(), Stop> {
+    let mut columns = names.iter().map(|it| csv.column(it));
+    columns.try_for_each(|column| rows(csv, column?).map(|_| ()))
+}
+
 fn rows(csv: &Csv, column: usize) -> Result<Vec<u32>, Stop> {
     let read = |row: usize| {
         let text = csv.cell(row, column).trim();

@@ -46,6 +46,15 @@ impl Range {
         (self.least..=self.greatest).contains(&value)
     }
 
+    fn width(&self) -> f64 {
+        self.greatest - self.least
+    }
+
+    /// The greatest of its values, leaving signs aside.
+    fn size(&self) -> f64 {
+        self.least.abs().max(self.greatest.abs())
+    }
+
     fn by(&self, value: f64) -> f64 {
         value - value.clamp(self.least, self.greatest)
     }
@@ -80,6 +89,37 @@ pub fn of(ranges: &[Range], x: &DenseMatrix) -> Vec<Beyond> {
         (!outside.is_empty()).then(|| Beyond::new(feature, *old, &values, outside))
     };
     ranges.iter().enumerate().filter_map(beyond).collect()
+}
+
+/// A feature whose values all lie inside, but so close together that another unit may be the reason.
+#[derive(Debug)]
+pub struct Narrow {
+    pub feature: usize,
+    pub old: Range,
+    pub new: Range,
+    /// The unit of the new values, and that of the old ones.
+    pub units: (&'static str, &'static str),
+}
+
+/// The features that may be in a greater unit than those of the old show: offsets from the middle of the stage in metres lie inside those
+/// in millimetres. Their range must be at most an eighth as wide, since a house may well be a few times smaller, and lie about 0 in the same way.
+pub fn narrow(ranges: &[Range], x: &DenseMatrix) -> Vec<Narrow> {
+    let narrow = |(feature, old): (usize, &Range)| {
+        let values: Vec<f64> = column(x, feature).collect();
+        let new = Range::of(values.iter().copied());
+        let inside = old.has(new.least) && old.has(new.greatest);
+        let small = 8.0 * new.width() <= old.width() && 8.0 * new.size() <= old.size();
+        let alike = new.width() / new.size() * old.size() / old.width();
+        let units = || units::guess(&values, old.least, old.greatest);
+        let units = (inside && small && (0.5..=2.0).contains(&alike)).then(units);
+        units.flatten().map(|units| Narrow {
+            feature,
+            old: *old,
+            new,
+            units,
+        })
+    };
+    ranges.iter().enumerate().filter_map(narrow).collect()
 }
 
 impl Beyond {
@@ -161,5 +201,23 @@ mod tests {
         assert_eq!(found(&beyond[0]), (1, true, None));
         let beyond = of(&ranges, &matrix(&[[6.0, 13.0], [6.0, 14.0], [6.0, 0.0]]));
         assert_eq!(found(&beyond[0]), (2, false, None));
+    }
+
+    #[test]
+    fn narrow_columns_are_found() {
+        let old = matrix(&[[-12_000.0, -6.0], [3_000.0, 0.0], [11_000.0, 5.0]]);
+        let ranges = ranges(&old, &[]);
+        let found = |rows: &[[f64; 2]]| -> Vec<_> {
+            let narrow = narrow(&ranges, &matrix(rows)).into_iter();
+            narrow.map(|it| (it.feature, it.units)).collect()
+        };
+        assert_eq!(
+            found(&[[-9.0, -0.1], [2.0, 0.02], [10.0, 0.08]]),
+            [(0, ("metres", "millimetres")), (1, ("radians", "degrees"))]
+        );
+        let smaller_house = [[-3_000.0, 0.0], [500.0, 0.0], [2_500.0, 0.0]];
+        assert_eq!(found(&smaller_house), []);
+        let one_side = [[9.0, 0.4], [9.5, 0.41], [10.0, 0.42]];
+        assert_eq!(found(&one_side), []);
     }
 }

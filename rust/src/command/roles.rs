@@ -125,7 +125,10 @@ impl Roles {
                     quoted(name)
                 ),
             )),
-            None => Ok(listing.names().to_vec()),
+            None => {
+                let names = listing.names().iter().filter(|it| !it.is_empty());
+                Ok(names.cloned().collect())
+            }
         }
     }
 
@@ -186,7 +189,15 @@ impl Roles {
                 Some(column) if !common && measured && is_text(old, column) => {
                     measure(old, column, &remedy, faults);
                 }
-                None if measured => not_renamed(&name, &chosen.lacking, old, new)?,
+                None if measured => {
+                    not_renamed(&name, &chosen.lacking, old, new)?;
+                    chosen.left.push(Left {
+                        place: format!("{}, column {name}", new.file()),
+                        why: format!("{} does not have it", old.file()),
+                        column: name,
+                        usable: false,
+                    });
+                }
                 _ => (),
             }
         }
@@ -212,18 +223,21 @@ impl Chosen {
 
     /// Why there are no features, with the columns that could be some.
     fn instead(&self, why: &str) -> String {
-        let usable: Vec<&Left> = self.left.iter().filter(|left| left.usable).collect();
-        if usable.is_empty() {
+        if self.left.is_empty() {
             return why.to_owned();
         }
-        let left = usable
-            .iter()
-            .map(|it| format!("{}, because {}", quoted(&it.column), it.why));
-        let left: Vec<String> = left.collect();
+        let because = |it: &Left| format!("{}, because {}", quoted(&it.column), it.why);
+        let left: Vec<String> = self.left.iter().map(because).collect();
+        let why = format!("{why}; left out: {}", left.join("; "));
+        let usable: Vec<&Left> = self.left.iter().filter(|left| left.usable).collect();
+        let them = match usable.len() {
+            0 => return why,
+            1 if left.len() == 1 => "it".to_owned(),
+            1 => quoted(&usable[0].column),
+            _ => "them".to_owned(),
+        };
         let names = option(usable.iter().map(|it| &it.column));
-        let left = left.join("; ");
-        let them = if usable.len() == 1 { "it" } else { "them" };
-        format!("{why}; left out: {left}; to use {them} all the same: --features {names}")
+        format!("{why}; to use {them} all the same: --features {names}")
     }
 }
 
@@ -275,7 +289,7 @@ fn not_renamed(name: &str, lacking: &[String], old: &Csv, new: &Csv) -> Result<(
             old.file()
         ),
         None => format!(
-            "there is no column {}, which {} has, while that file has no column {}; name the features with --features",
+            "there is no column {}, which {} has, while that file has no column {}; if they are the same measurement, give both the same name, or else name the features with --features",
             quoted(first),
             old.file(),
             quoted(name)

@@ -85,7 +85,7 @@ const OLD_SHOWS: &[[&str; 2]] = &[
     ],
     [
         "y,pan\nup,1\n",
-        "NEW, line 1: there is no column of measurements in common with OLD",
+        "NEW, line 1: there is no column of measurements in common with OLD; left out: \"x\", because OLD does not have it",
     ],
     [
         "x,pan\nup,1\n",
@@ -135,7 +135,8 @@ fn shows_that_are_too_large() {
 #[test]
 fn shows_that_measure_otherwise() {
     let old = "trim,x,pan\n7,1,1\n8,2,2\n";
-    let why = "NEW, line 1: there is no column \"trim\", which OLD has, while that file has no column \"Trim\"; name the features with --features";
+    let why = "NEW, line 1: there is no column \"trim\", which OLD has, while that file has no column \"Trim\"; \
+               if they are the same measurement, give both the same name, or else name the features with --features";
     corrected(old, "Trim,x\n7,1\n", &[], why);
     let words = "trim,x,pan\nlow,1,1\nhigh,2,2\n";
     let why = "OLD, line 2, column trim: \"low\" is not a number, and neither is any other cell of the column; \
@@ -258,7 +259,7 @@ fn weights() {
     for [old, why] in [
         [
             "x,w,pan\n1,1,1\n2,-1,2\n",
-            "line 3, column w: the weight is -1 (refusal 3, numbers)",
+            "line 3, column w: the weight is -1; it may not be negative (refusal 3, numbers)",
         ],
         [
             "x,w,pan\n1,0,1\n2,-0,2\n",

@@ -82,6 +82,10 @@ fn if_nothing_is_left_it_says_what_was_left_out() {
     assert_eq!(told.status, Some(1));
     let line = "OLD: there is no column of measurements besides target and weight";
     assert_eq!(lines(&told), [format!("{line}; {why}")]);
+    let words = "x,pan\n0x10,1\n2.5,2\n(3.5),3\n";
+    let told = on("check", &[words], &["--target", "pan"]);
+    let only = "left out: \"x\", because \"2.5\" is the only number in it";
+    assert_eq!(lines(&told), [format!("{line}; {only}")]);
     let told = correct(old, "no,spot\n1,2\n", &[]);
     let line = "NEW, line 1: there is no column of measurements in common with OLD";
     assert_eq!(lines(&told), [format!("{line}; {why}")]);

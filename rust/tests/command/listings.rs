@@ -17,6 +17,20 @@ fn checked(listing: &str) -> (Run, String, String) {
 }
 
 #[test]
+fn a_show_in_place_of_a_listing_is_refused() {
+    let (told, _, listing) = checked(SHOW);
+    let why = format!("tailboardy: {listing}, line 2, column fixture: \"a\" is not a row number\n");
+    assert_eq!((told.status, told.err), (Some(1), why));
+}
+
+/// Spreadsheets write separators for columns that they once had.
+#[test]
+fn a_listing_may_have_an_empty_column() {
+    let (told, ..) = checked("x,z,\n1,0,\n2,2,\n0,1,\n");
+    assert_eq!((told.status, told.err.as_str()), (Some(0), ""));
+}
+
+#[test]
 fn a_fresh_listing_is_written() {
     let folder = Folder::new("fresh");
     let show = folder.write("show.csv", SHOW);

@@ -104,6 +104,46 @@ fn a_whole_column_outside_is_refused() {
     assert_eq!(both.status, Some(2));
 }
 
+/// Offsets from the middle of the stage lie inside the range of those in a smaller unit.
+#[test]
+fn a_greater_unit_inside_the_range_is_told() {
+    let old = "trim,offset,pan\n5.5,-9000,0\n6.5,200,1\n7.5,8000,2\n";
+    let new = "trim,offset\n6,-8.5\n7,0.3\n6.5,8\n";
+    let why = "NEW, column offset: all values lie close together within the range of OLD: -8.5 to 8 here, -9000 to 8000 there; \
+               these look like metres, and those of OLD like millimetres";
+    let told = correct(old, new, &[]);
+    assert_eq!(told.status, Some(0));
+    let note = format!("note: {why}; if so, convert the column");
+    assert_eq!(lines(&told), [note]);
+    let strict = correct(old, new, &["--strict"]);
+    assert_eq!((strict.status, strict.out.as_str()), (Some(1), ""));
+    assert_eq!(lines(&strict), [format!("{why}; --strict refuses that")]);
+}
+
+/// A measurement that cannot be used is not kept silent.
+#[test]
+fn a_measurement_of_the_new_show_alone_is_told() {
+    let told = correct(OLD, "fixture,trim,tilt\na,6,1.5\nb,7,2\n", &[]);
+    assert_eq!(told.status, Some(0));
+    let note = "note: NEW, column tilt: left out, because OLD does not have it";
+    assert_eq!(lines(&told), [note]);
+    let ignored = correct(
+        OLD,
+        "fixture,trim,tilt\na,6,1.5\nb,7,2\n",
+        &["--ignore", "tilt"],
+    );
+    assert_eq!(lines(&ignored), [""; 0]);
+}
+
+/// Nothing tells what to convert if no unit would explain it.
+#[test]
+fn a_higher_house_is_refused_without_a_unit() {
+    let told = correct(OLD, "fixture,trim\na,8.5\nb,9\n", &[]);
+    assert_eq!(told.status, Some(1));
+    let why = "8.5 to 9 here, 5.5 to 8 there; check its values and their unit, or let it pass with --extrapolate";
+    assert!(told.err.contains(why), "{}", told.err);
+}
+
 fn numbers(name: &str) -> Vec<Vec<f64>> {
     let text = fs::read_to_string(show(name)).unwrap();
     let cells = |line: &str| {
