@@ -98,7 +98,7 @@ fn outsides(both: &Both) -> Vec<String> {
     for outside in both.beyond.iter().flat_map(|it| &it.outside) {
         let cell = &mut cells[outside.row];
         if !cell.is_empty() {
-            cell.push(' ');
+            cell.push_str(" + ");
         }
         cell.push_str(&both.old.features[outside.feature]);
     }

@@ -12,16 +12,16 @@ const NUMBERING: &[&str] = &[
 ];
 
 /// Whether the name of a column says that it numbers or names fixtures: its last word is one of the list, or two of them run together, as in
-/// `fixtureid`. Case does not matter, nor does what is not a letter.
+/// `fixtureid`; or any word is `dmx`, as in `DMX start`. Case does not matter, nor does what is not a letter.
 pub fn is_numbering(name: &str) -> bool {
     let is = |word: &str| NUMBERING.contains(&word);
     let both = |word: &str| {
         let ends = NUMBERING.iter().filter_map(|end| word.strip_suffix(end));
         ends.into_iter().any(is)
     };
-    words(name)
-        .last()
-        .is_some_and(|word| is(word) || both(word))
+    let words = words(name);
+    let last = words.last();
+    last.is_some_and(|word| is(word) || both(word)) || words.iter().any(|word| word == "dmx")
 }
 
 /// Words for what names a fixture, the best first.
@@ -123,6 +123,7 @@ mod tests {
         "position number",
         "dmx_address",
         "DMX",
+        "DMX start",
         "Channel",
         "chan 1",
         "patch",

@@ -4,7 +4,7 @@ use crate::encoding;
 use crate::faults::Faults;
 use crate::format::{self, Format, SPLIT};
 use crate::input::{Input, MOST};
-use crate::number::quoted;
+use crate::number::{self, Decimal, quoted};
 use crate::record::{Cells, Reader};
 use crate::stop::Stop;
 use std::collections::HashSet;
@@ -177,20 +177,33 @@ impl Reading {
         )
     }
 
-    /// Tells the columns that have cells but no name.
+    /// Tells the columns that have cells but no name, and the first one with a number for a name and numbers below it: the line of names is
+    /// missing then, and a fixture was taken for it.
     fn nameless(&self, head: &str, faults: &mut Faults) {
-        let names = self.names.len();
-        for column in (0..names).filter(|it| self.names[*it].is_empty()) {
-            let mut cells = (column..self.cells.len()).step_by(names);
-            if cells.any(|it| !self.cells.get(it).trim().is_empty()) {
+        let mut numbers = false;
+        for (column, name) in self.names.iter().enumerate() {
+            let cells = (column..self.cells.len()).step_by(self.names.len());
+            let cells = cells.map(|it| self.cells.get(it).trim());
+            let mut cells = cells.filter(|it| !it.is_empty()).peekable();
+            if cells.peek().is_none() {
+                continue;
+            }
+            if name.is_empty() {
                 let number = column + 1;
-                faults.add(
-                    head,
-                    &format!("column {number} has no name; give it one, or take it out"),
-                );
+                let why = format!("column {number} has no name; give it one, or take it out");
+                faults.add(head, &why);
+            } else if !numbers && is_number(name) && cells.all(is_number) {
+                numbers = true;
+                let why =
+                    "is a number, not the name of a column; put a line of names above the rows";
+                faults.add(head, &format!("{} {why}", quoted(name)));
             }
         }
     }
+}
+
+fn is_number(text: &str) -> bool {
+    number::decimal(text, Decimal::Point) || number::decimal(text, Decimal::Comma)
 }
 
 /// A column's name on a single line: without the spaces around it, and with one space between words or lines. A byte order mark counts

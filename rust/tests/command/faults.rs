@@ -102,3 +102,18 @@ fn listings_go_by_the_rows_that_are_left() {
     assert_eq!(fit(&told.out), Some(0));
     assert_eq!(fit("x\n2\n0\n1\n"), Some(1));
 }
+
+/// Its first fixture would be lost without a word.
+#[test]
+fn a_table_without_names_is_refused() {
+    let told = checked("LX1,5.73,-2.5\nLX2,6.1,0\nLX3,7,2.5\n", &[]);
+    assert_eq!(
+        (told.status, told.err.as_str()),
+        (
+            Some(1),
+            "tailboardy: SHOW, line 1: \"5.73\" is a number, not the name of a column; put a line of names above the rows\n"
+        )
+    );
+    let told = checked("year,2024,x\na,yes,5.5\nb,no,6.1\nc,no,7\n", &[]);
+    assert_eq!(told.status, Some(0), "{}", told.err);
+}

@@ -98,7 +98,7 @@ fn a_whole_column_outside_is_refused() {
             .lines()
             .nth(1)
             .unwrap()
-            .ends_with(",trim_height truss_offset")
+            .ends_with(",trim_height + truss_offset")
     );
     let both = shows("new-house.csv", &["--extrapolate", "--strict"]);
     assert_eq!(both.status, Some(2));
