@@ -4,13 +4,25 @@ use copy::harness::{Data, Params, Tape, argsorted};
 use copy::ready::Ready;
 use driver::make::chance::Chance;
 
-/// A size to measure. `values` is the number of different values of a feature, or 0 if each row has a new one.
+/// What is measured.
 #[derive(Clone, Copy)]
 pub struct Size {
     pub rows: usize,
     pub features: usize,
     pub trees: usize,
-    pub values: usize,
+    pub values: Values,
+}
+
+/// What the values of the features are like.
+#[derive(Clone, Copy)]
+pub enum Values {
+    /// Each row has a new one.
+    Different,
+    /// Each feature has this many.
+    Few(usize),
+    /// Every feature has the rows in the same order, and splits put the last tenth of a node's rows on the false side: in every
+    /// column the first nine tenths stay where they are.
+    Alike,
 }
 
 pub struct Input {
@@ -30,6 +42,9 @@ pub struct Input {
 /// Seeds of the inputs and of the draws; any numbers would do.
 const SEED: u64 = 1;
 
+/// As many cuts at nine tenths one within another as 10,000 rows allow.
+const LEVELS: usize = 88;
+
 impl Size {
     /// smartcore's defaults, including its default number of features tried.
     pub fn params(&self) -> Params {
@@ -42,19 +57,30 @@ impl Size {
         }
     }
 
-    fn table(&self, chance: &mut Chance) -> Vec<f64> {
-        let value = |_| match self.values {
-            0 => chance.unit(),
-            n => chance.below(n) as f64 / n as f64,
-        };
-        (0..self.rows * self.features).map(value).collect()
+    fn row(&self, chance: &mut Chance) -> Vec<f64> {
+        let features = 0..self.features;
+        match self.values {
+            Values::Different => features.map(|_| chance.unit()).collect(),
+            Values::Few(n) => features
+                .map(|_| chance.below(n) as f64 / n as f64)
+                .collect(),
+            Values::Alike => {
+                let height = chance.unit();
+                features.map(|j| height + j as f64).collect()
+            }
+        }
     }
 
-    /// Waves over the first features, with noise, so that trees grow until each leaf has one row or equal rows.
+    fn table(&self, chance: &mut Chance) -> Vec<f64> {
+        (0..self.rows).flat_map(|_| self.row(chance)).collect()
+    }
+
     fn targets(&self, chance: &mut Chance, x: &[f64]) -> Vec<f64> {
-        let wave = |row: &[f64]| -> f64 { row.iter().take(4).map(|v| (6.0 * v).sin()).sum() };
         let rows = x.chunks(self.features);
-        rows.map(|row| wave(row) + 0.2 * chance.unit()).collect()
+        match self.values {
+            Values::Alike => rows.map(|row| tenths(row[0])).collect(),
+            _ => rows.map(|row| waves(row) + 0.2 * chance.unit()).collect(),
+        }
     }
 
     /// For each tree as many draws with replacement as there are rows.
@@ -67,6 +93,27 @@ impl Size {
         }
         counts
     }
+}
+
+/// Waves over the first features: with noise, trees grow until each leaf has one row or equal rows.
+fn waves(row: &[f64]) -> f64 {
+    row.iter().take(4).map(|v| (6.0 * v).sin()).sum()
+}
+
+/// The last tenth of the heights from 0 to 1 stands out from the others, and the same holds within either part, less and less.
+fn tenths(mut height: f64) -> f64 {
+    let mut target = 0.0;
+    let mut more = 1.0;
+    for _ in 0..LEVELS {
+        if height < 0.9 {
+            height /= 0.9;
+        } else {
+            height = (height - 0.9) * 10.0;
+            target += more;
+        }
+        more *= 0.3;
+    }
+    target
 }
 
 impl Input {

@@ -7,16 +7,22 @@ mod memory;
 mod ours;
 
 use clock::{Pair, Times, median, minimum};
-use input::Size;
+use input::{Size, Values};
 use std::process::ExitCode;
 
-/// The sizes, each with its aims: the greatest ratio of our time to smartcore's, for fit and for predict.
-const CASES: [(&str, Size, f64, f64); 5] = [
-    ("a", size(2_000, 3, 100, 0), 0.60, 0.25),
-    ("b", size(10_000, 3, 100, 0), 0.60, 0.25),
-    ("c", size(2_000, 64, 50, 0), 0.80, 0.40),
-    ("d", size(60_000, 8, 20, 0), 0.70, 0.25),
-    ("e", size(2_000, 3, 100, 20), 0.80, 0.40),
+/// The sizes, each with its aims, if it has any: the greatest ratio of our time to smartcore's, for fit and for predict.
+const CASES: [(&str, Size, &str, &str); 6] = [
+    ("a", size(2_000, 3, 100), "0.60", "0.25"),
+    ("b", size(10_000, 3, 100), "0.60", "0.25"),
+    ("c", size(2_000, 64, 50), "0.80", "0.40"),
+    ("d", size(60_000, 8, 20), "0.70", "0.25"),
+    (
+        "e",
+        of(Values::Few(20), size(2_000, 3, 100)),
+        "0.80",
+        "0.40",
+    ),
+    ("f", of(Values::Alike, size(10_000, 8, 20)), "", ""),
 ];
 
 /// Growing numbers of rows, of features and of trees, one at a time.
@@ -24,28 +30,28 @@ const GROWTH: [(&str, [Size; 4]); 3] = [
     (
         "rows",
         [
-            size(1_000, 4, 20, 0),
-            size(4_000, 4, 20, 0),
-            size(16_000, 4, 20, 0),
-            size(64_000, 4, 20, 0),
+            size(1_000, 4, 20),
+            size(4_000, 4, 20),
+            size(16_000, 4, 20),
+            size(64_000, 4, 20),
         ],
     ),
     (
         "features",
         [
-            size(2_000, 4, 20, 0),
-            size(2_000, 16, 20, 0),
-            size(2_000, 64, 20, 0),
-            size(2_000, 256, 20, 0),
+            size(2_000, 4, 20),
+            size(2_000, 16, 20),
+            size(2_000, 64, 20),
+            size(2_000, 256, 20),
         ],
     ),
     (
         "trees",
         [
-            size(1_000, 4, 10, 0),
-            size(1_000, 4, 40, 0),
-            size(1_000, 4, 160, 0),
-            size(1_000, 4, 640, 0),
+            size(1_000, 4, 10),
+            size(1_000, 4, 40),
+            size(1_000, 4, 160),
+            size(1_000, 4, 640),
         ],
     ),
 ];
@@ -53,20 +59,24 @@ const GROWTH: [(&str, [Size; 4]); 3] = [
 /// The number of rounds for a line of the second table.
 const FEW: usize = 3;
 
-const fn size(rows: usize, features: usize, trees: usize, values: usize) -> Size {
+const fn size(rows: usize, features: usize, trees: usize) -> Size {
     Size {
         rows,
         features,
         trees,
-        values,
+        values: Values::Different,
     }
 }
 
-fn line(name: &str, what: &str, aim: f64, pair: &Pair) {
+const fn of(values: Values, size: Size) -> Size {
+    Size { values, ..size }
+}
+
+fn line(name: &str, what: &str, aim: &str, pair: &Pair) {
     let ms = |seconds: f64| seconds * 1e3;
     let (low, high) = pair.spread();
     println!(
-        "| {name} | {what} | {:.2} | {:.2} | {:.2} | {:.2} | **{:.2}** | {:.2} | {low:.2} to {high:.2} | {aim:.2} |",
+        "| {name} | {what} | {:.2} | {:.2} | {:.2} | {:.2} | **{:.2}** | {:.2} | {low:.2} to {high:.2} | {aim} |",
         ms(median(pair.rust)),
         ms(minimum(pair.rust)),
         ms(median(pair.ours)),
@@ -144,7 +154,7 @@ fn main() -> ExitCode {
         ["cases", count] => cases(number(count)),
         ["alone", name, count] => {
             let case = CASES.iter().find(|case| case.0 == name);
-            clock::alone(case.expect("a to e").1, number(count));
+            clock::alone(case.expect("a to f").1, number(count));
             true
         }
         _ => {

@@ -84,6 +84,17 @@ pub record Cleft (p : ℕ → Bool) (l : List ℕ) (n : ℕ) : Type 0 where
   pub passed : Every (λ r. p r ≡ true) (take n l)
   pub others : Every (λ r. p r ≡ false) (drop n l)
 
+-- the first n pass
+pub record Front (p : ℕ → Bool) (l : List ℕ) (n : ℕ) : Type 0 where
+  pub within : n ≤ length l
+  pub passed : Every (λ r. p r ≡ true) (take n l)
+
+-- n is the first place before e whose entry does not pass, or e itself
+pub record FirstFalse (p : ℕ → Bool) (l : List ℕ) (e n : ℕ) : Type 0 where
+  pub front : Front p l n
+  pub within : n ≤ e
+  pub next : n < e → p (getD l n 0) ≡ false
+
 -- after one pass over a stretch: those that pass at its front, the others at the front of the scratch
 pub record Swept (p : ℕ → Bool) (before col scratch : List ℕ) (r : ℕ) : Type 0 where
   pub within : r ≤ length before
@@ -104,6 +115,13 @@ partedColumns rows a e p n order = inColumns rows a e (λ k. parted p) n order
 pub record PartAsks (col : List ℕ) (scratch flags : ℕ) : Type 0 where
   pub room : length col ≤ scratch
   pub below : Every (λ r. r < flags) col
+
+-- what a look along a stretch asks, from a up to e: a flag for each row, and that all before a are flagged
+pub record LookAsks (flags : List Bool) (col : List ℕ) (a e : ℕ) : Type 0 where
+  pub below : Every (λ r. r < length flags) col
+  pub front : Front (flagged flags) col a
+  pub ordered : a ≤ e
+  pub high : e ≤ length col
 
 -- of the stretch from a to e of every column
 pub record ColumnsAsk (rows features a e : ℕ) (order : List ℕ) (scratch flags : ℕ) : Type 0 where

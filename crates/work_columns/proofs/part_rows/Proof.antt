@@ -1,4 +1,4 @@
--- `work_columns::stable_partition` meets its contract: the pass leaves those that pass at the front, and the copy puts the others behind them. Assumes nothing.
+-- `work_columns::part_rows` meets its contract: the pass leaves those that pass at the front, and the copy puts the others behind them. Assumes nothing.
 use native.Mathlib.Omega.{arith}
 use borrow.Author.Needs.{needs}
 use mathlib.Core.Path.{_≡_, _∙_}
@@ -8,8 +8,8 @@ use Prim.Native.Nat.{ℕ, _+_, _-_}
 use lib.ListN.{length, drop, drop-of-length-le}
 use lib.Seq.{paste}
 use Rattle.work_columns.specs.Columns.{Swept, Parted}
-use Rattle.work_columns.proofs.stable_partition.Statement.{statement}
-use Rattle.work_columns.proofs.stable_partition.Tie as tie
+use Rattle.work_columns.proofs.part_rows.Statement.{statement}
+use Rattle.work_columns.proofs.part_rows.Tie as tie
 
 -- the pass and the copy back make the partition
 joined : (p : ℕ → Bool) (before col scratch after : List ℕ) (r : ℕ) → Swept p before col scratch r → length col ≡ length before
@@ -41,7 +41,7 @@ returns c =
     let s = at-sweep c .sweep in
     joined _ _ _ _ _ _ (s .ensures) (s .kept .0) (c .before .before .copy-in .ensures)
 
-pub stable-partition-spec : {M : Type 1} → statement M
-stable-partition-spec =
+pub part-rows-spec : {M : Type 1} → statement M
+part-rows-spec =
     tie.close
     (tie.spec sweep-requires sub-copy-in copy-in-requires same-length same-length-2 returns)
