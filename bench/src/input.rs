@@ -18,7 +18,7 @@ pub struct Size {
 pub enum Values {
     /// Each row has a new one.
     Different,
-    /// Each feature has this many.
+    /// Each feature has this many different ones.
     Few(usize),
     /// Every feature has the rows in the same order, and splits put the last tenth of a node's rows on the false side: in every
     /// column the first nine tenths stay where they are.

@@ -1,41 +1,15 @@
--- A list whose first entries pass a test: what is kept of it, and that partitioning it leaves them. If the others do not pass, it changes nothing. Assumes nothing.
-use Prim.Native.Nat.{ℕ, _+_, _<_}
-use native.Mathlib.Numerals.{add-one}
+-- A list whose first entries pass a test, and the others do not: what is kept of it, and that partitioning it changes nothing. Assumes nothing.
+use Prim.Native.Nat.{ℕ}
 use native.Mathlib.Omega.{arith}
-use mathlib.Core.Path.{_≡_, sym, ap, _∙_, subst}
-use mathlib.Core.Bool.{Bool, true, not}
-use mathlib.Core.List.{List, [], _∷_, _++_, append-nil, append-assoc}
-use lib.ListN.{length, getD, take, drop, take-append-drop, length-take}
-use lib.Seq.{take-suc}
+use mathlib.Core.Path.{_≡_, sym, ap, _∙_}
+use mathlib.Core.Bool.{Bool, not}
+use mathlib.Core.List.{List, _++_, append-nil}
+use lib.ListN.{length, take, drop, take-append-drop, length-take}
 use Rattle.rules.specs.Words.{keep}
-use Rattle.lemmas.specs.Lists.{Every, every-imp, every-append, keep-all, keep-none, keep-append}
-use Rattle.work_columns.specs.Columns.{fails, parted, Cleft, Front}
-
--- ---- the first n pass
-
-pub front-more : (p : ℕ → Bool) (l : List ℕ) (n : ℕ) → Front p l n → n < length l → p (getD l n 0) ≡ true → {m : ℕ} → m ≡ n + 1 → Front p l m
-front-more p l n f h t {m} e =
-    record {
-      within = omega arith;
-      passed = subst (Every (λ r. p r ≡ true)) (sym (ap (λ k. take k l) (e ∙ add-one n) ∙ take-suc l n 0 h))
-          (every-append _ (take n l) (getD l n 0 ∷ []) (f .passed) (t, tt));
-    }
-
-module _ (p : ℕ → Bool) (l : List ℕ) (n : ℕ) (h : Every (λ r. p r ≡ true) (take n l)) where
-  pub passed-kept : keep p l ≡ take n l ++ keep p (drop n l)
-  passed-kept =
-      ap (keep p) (sym (take-append-drop n l)) ∙ keep-append p (take n l) (drop n l) ∙ ap (λ k. k ++ keep p (drop n l)) (keep-all p (take n l) h)
-
-  pub passed-left : keep (fails p) l ≡ keep (fails p) (drop n l)
-  passed-left =
-      ap (keep (fails p)) (sym (take-append-drop n l)) ∙ keep-append (fails p) (take n l) (drop n l)
-      ∙ ap (λ k. k ++ keep (fails p) (drop n l)) (keep-none (fails p) (take n l) (every-imp _ _ (λ k e. ap not e) (take n l) h))
-
-  -- a partition leaves them where they stand
-  pub passed-stay : parted p l ≡ take n l ++ parted p (drop n l)
-  passed-stay = (λ i. passed-kept i ++ passed-left i) ∙ append-assoc (take n l) (keep p (drop n l)) (keep (fails p) (drop n l))
-
--- ---- and the others do not
+use Rattle.lemmas.specs.Lists.{every-imp, keep-all, keep-none}
+use Rattle.partition.specs.Parted.{fails, parted}
+use Rattle.partition.specs.Stays.{passed-kept, passed-left}
+use Rattle.work_columns.specs.Columns.{Cleft}
 
 module _ (p : ℕ → Bool) (l : List ℕ) (n : ℕ) (c : Cleft p l n) where
   pub front-keeps : keep p l ≡ take n l

@@ -4,15 +4,13 @@
 pub mod Columns
 -- what the split pass promises
 pub mod Split
--- a front that a loop writes
-pub mod Fronts
 -- parts of parts, and the same places of every column changed
 pub mod Stretches
 -- root totals, counts and the kept rows of a listing, by their loops
 pub mod Setup
 -- the kept rows of every listing are the root's
 pub mod Kept
--- a list that is parted as it stands
+-- a list that is parted as it stands: its first entries pass, the others do not
 pub mod Cleft
 -- the split pass, row by row
 pub mod Pass

@@ -7,8 +7,8 @@ use mathlib.Core.Path.{_≡_, refl, sym, ap, _∙_, subst}
 use mathlib.Core.Logic.{_⊎_, inl, inr}
 use mathlib.Core.Bool.{Bool, true, false, not}
 use mathlib.Core.List.{List, [], _∷_, _++_, map, map-append}
-use lib.ListN.{length, getD, set, take, drop, drop-of-length-le, take-append-drop, length-drop, length-set}
-use lib.Seq.{drop-cons, take-all}
+use lib.ListN.{length, getD, set, take, drop, drop-of-length-le, take-append-drop, length-set}
+use lib.Seq.{drop-cons}
 use lib.Ieee.{Float}
 use Rattle.rules.specs.declared.Totals.{Totals}
 use Rattle.rules.specs.declared.Cut.{Cut}
@@ -20,7 +20,8 @@ use Rattle.lemmas.specs.Lists.{Every, every-take, every-drop, keep-map, total-a
 use Rattle.criterion.specs.declared.Side.{Side}
 use Rattle.criterion.specs.Sides.{sideOn, joined}
 use Rattle.work_columns.specs.declared.Gathered.{Gathered}
-use Rattle.work_columns.specs.Columns.{bare, fails, Cleft}
+use Rattle.partition.specs.Parted.{fails}
+use Rattle.work_columns.specs.Columns.{bare, Cleft}
 use Rattle.work_columns.specs.Split.{goes, marked, GatherAsks, GatherDone, PassAsks, PassDone}
 use Rattle.work_columns.specs.Cleft.{front-keeps, rest-keeps, cleft-count}
 
@@ -153,9 +154,6 @@ module _ (features : ℕ) (values targets weights : List Float) (counts : List �
 -- at n, which the code widened to k
 pub lent-front : (l : List ℕ) (n : ℕ) {k : ℕ} → k ≡ n → take (k - 0) l ≡ take n l
 lent-front l n {k} q = ap (λ m. take m l) (let e : k - 0 ≡ n = omega (arith, q) in e)
-
-pub lent-rest : (l : List ℕ) (n : ℕ) {k : ℕ} → k ≡ n → take (length l - k) (drop k l) ≡ drop n l
-lent-rest l n {k} q = take-all (length l - k) (drop k l) (let h : length (drop k l) ≤ length l - k = simp (length-drop) (omega arith) in h) ∙ ap (λ m. drop m l) q
 
 pub part-asks : {rows features : ℕ} {values targets weights : List Float} {counts : List ℕ} {c : Cut} {l : List ℕ} {n flags : ℕ}
     → PassAsks rows features values targets weights counts c l n flags

@@ -16,7 +16,8 @@ use Rattle.lemmas.specs.Work.{part}
 use Rattle.criterion.specs.Sides.{sideOn}
 use Rattle.work_columns.specs.declared.Sides.{Sides}
 use Rattle.work_columns.specs.declared.Gathered.{Gathered}
-use Rattle.work_columns.specs.Columns.{flagged, bare, Cleft, Counted}
+use Rattle.partition.specs.Parted.{flagged}
+use Rattle.work_columns.specs.Columns.{bare, Cleft, Counted}
 
 -- the tables of a fit, by their lengths
 pub record Shaped (rows features : ℕ) (values targets weights : List Float) (counts : List ℕ) : Type 0 where

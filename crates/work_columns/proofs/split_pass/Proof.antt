@@ -4,7 +4,8 @@ use mathlib.Core.Path.{sym, subst}
 use mathlib.Core.Logic.{inl, inr}
 use denote.Ref.{now}
 use Rattle.work_columns.specs.Split.{GatherAsks}
-use Rattle.work_columns.specs.Pass.{lent-front, lent-rest, part-asks, pass-done}
+use Rattle.partition.specs.Stays.{lent-rest}
+use Rattle.work_columns.specs.Pass.{lent-front, part-asks, pass-done}
 use Rattle.work_columns.proofs.split_pass.Statement.{statement}
 use Rattle.work_columns.proofs.split_pass.Tie as tie
 

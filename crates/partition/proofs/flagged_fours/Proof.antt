@@ -1,4 +1,4 @@
--- `work_columns::flagged_fours` meets its contract: the rows passed are all flagged, four more in a turn. Assumes nothing.
+-- `partition::flagged_fours` meets its contract: the rows passed are all flagged, four more in a turn. Assumes nothing.
 use borrow.Author.Needs.{needs}
 use borrow.Author.Tests.{not-false}
 use native.Mathlib.Omega.{arith}
@@ -8,10 +8,10 @@ use mathlib.Core.List.{List}
 use Prim.Native.Nat.{ℕ, _+_, _-_, _≤_}
 use lib.ListN.{length, getD}
 use Rattle.lemmas.specs.Tests.{and-both}
-use Rattle.work_columns.specs.Columns.{flagged, Front}
-use Rattle.work_columns.specs.Cleft.{front-more}
-use Rattle.work_columns.proofs.flagged_fours.Statement.{statement}
-use Rattle.work_columns.proofs.flagged_fours.Tie as tie
+use Rattle.partition.specs.Parted.{flagged, Front}
+use Rattle.partition.specs.Stays.{front-more}
+use Rattle.partition.proofs.flagged_fours.Statement.{statement}
+use Rattle.partition.proofs.flagged_fours.Tie as tie
 
 module _ (p : ℕ → Bool) (l : List ℕ) (k : ℕ) (f : Front p l k) (h : k + 4 ≤ length l) where
   four : {a b c d : Bool} → a ≡ p (getD l k 0) → b ≡ p (getD l (k + 1) 0) → c ≡ p (getD l (k + 2) 0) → d ≡ p (getD l (k + 3) 0) → (((a && b) && c) && d) ≡ true

@@ -1,4 +1,4 @@
--- `work_columns::sweep` meets its contract: what it says of a whole stretch holds of the i rows passed, and from i on the stretch is as it was. Assumes nothing.
+-- `partition::sweep` meets its contract: what it says of a whole stretch holds of the i rows passed, and from i on the stretch is as it was. Assumes nothing.
 use borrow.Author.Needs.{needs}
 use native.Mathlib.Omega.{arith}
 use mathlib.Core.Path.{_≡_, refl, sym, ap, _∙_}
@@ -11,10 +11,10 @@ use lib.ListN.{length, length-set, getD, set, take, drop}
 use lib.Seq.{take-all, length-take-le}
 use Rattle.rules.specs.Words.{keep}
 use Rattle.lemmas.specs.Lists.{every-at}
-use Rattle.work_columns.specs.Columns.{flagged, fails, Swept}
-use Rattle.work_columns.specs.Fronts.{front-kept, front-left, rest-more, head-same}
-use Rattle.work_columns.proofs.sweep.Statement.{statement}
-use Rattle.work_columns.proofs.sweep.Tie as tie
+use Rattle.partition.specs.Parted.{flagged, fails, Swept}
+use Rattle.partition.specs.Fronts.{front-kept, front-left, rest-more, head-same}
+use Rattle.partition.proofs.sweep.Statement.{statement}
+use Rattle.partition.proofs.sweep.Tie as tie
 
 record Passed (col₀ scratch₀ : List ℕ) (flags : List Bool) (col scratch : List ℕ) (w i : ℕ) : Type 0 where
   within : i ≤ length col₀

@@ -1,4 +1,4 @@
--- `work_columns::flag_at` meets its contract: a row of the stretch has a flag. Assumes nothing.
+-- `partition::flag_at` meets its contract: a row of the stretch has a flag. Assumes nothing.
 use native.Mathlib.Omega.{arith}
 use borrow.Author.Needs.{needs}
 use mathlib.Core.Path.{ap}
@@ -6,8 +6,8 @@ use mathlib.Core.Bool.{false}
 use denote.Ref.{now}
 use lib.ListN.{getD}
 use Rattle.lemmas.specs.Lists.{every-at}
-use Rattle.work_columns.proofs.flag_at.Statement.{statement}
-use Rattle.work_columns.proofs.flag_at.Tie as tie
+use Rattle.partition.proofs.flag_at.Statement.{statement}
+use Rattle.partition.proofs.flag_at.Tie as tie
 
 mul-wide : tie.Need-mul-wide
 mul-wide c = search needs

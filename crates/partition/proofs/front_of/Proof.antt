@@ -1,8 +1,7 @@
--- `work_columns::front_of` meets its contract: what is found among the first four rows, or behind the fours, is found in the stretch. Assumes nothing.
-use native.Mathlib.Omega.{arith}
+-- `partition::front_of` meets its contract: what is found among the first four rows, or behind the fours, is found in the stretch. Assumes nothing.
 use borrow.Author.Needs.{needs}
-use Rattle.work_columns.proofs.front_of.Statement.{statement}
-use Rattle.work_columns.proofs.front_of.Tie as tie
+use Rattle.partition.proofs.front_of.Statement.{statement}
+use Rattle.partition.proofs.front_of.Tie as tie
 
 least-requires : tie.Need-least-requires
 least-requires c κs = search needs

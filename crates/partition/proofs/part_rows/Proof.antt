@@ -1,4 +1,4 @@
--- `work_columns::part_rows` meets its contract: the pass leaves those that pass at the front, and the copy puts the others behind them. Assumes nothing.
+-- `partition::part_rows` meets its contract: the pass leaves those that pass at the front, and the copy puts the others behind them. Assumes nothing.
 use native.Mathlib.Omega.{arith}
 use borrow.Author.Needs.{needs}
 use mathlib.Core.Path.{_≡_, _∙_}
@@ -7,9 +7,9 @@ use mathlib.Core.List.{List, [], append-nil}
 use Prim.Native.Nat.{ℕ, _+_, _-_}
 use lib.ListN.{length, drop, drop-of-length-le}
 use lib.Seq.{paste}
-use Rattle.work_columns.specs.Columns.{Swept, Parted}
-use Rattle.work_columns.proofs.part_rows.Statement.{statement}
-use Rattle.work_columns.proofs.part_rows.Tie as tie
+use Rattle.partition.specs.Parted.{Swept, Parted}
+use Rattle.partition.proofs.part_rows.Statement.{statement}
+use Rattle.partition.proofs.part_rows.Tie as tie
 
 -- the pass and the copy back make the partition
 joined : (p : ℕ → Bool) (before col scratch after : List ℕ) (r : ℕ) → Swept p before col scratch r → length col ≡ length before

@@ -1,4 +1,4 @@
--- `work_columns::first_false` meets its contract: the rows passed are all flagged. Assumes nothing.
+-- `partition::first_false` meets its contract: the rows passed are all flagged. Assumes nothing.
 use borrow.Author.Needs.{needs}
 use borrow.Author.Tests.{not-true, not-false}
 use native.Mathlib.Omega.{arith}
@@ -6,10 +6,10 @@ use mathlib.Core.Path.{refl, sym, _∙_}
 use Prim.Native.Nat.{_-_, _<_, _≤_}
 use lib.ListN.{length}
 use denote.Ref.{now}
-use Rattle.work_columns.specs.Columns.{flagged, Front, FirstFalse}
-use Rattle.work_columns.specs.Cleft.{front-more}
-use Rattle.work_columns.proofs.first_false.Statement.{statement}
-use Rattle.work_columns.proofs.first_false.Tie as tie
+use Rattle.partition.specs.Parted.{flagged, Front}
+use Rattle.partition.specs.Stays.{front-more}
+use Rattle.partition.proofs.first_false.Statement.{statement}
+use Rattle.partition.proofs.first_false.Tie as tie
 
 abbrev Inv-loop : tie.InvT-loop
 Inv-loop col flags start end k₀ k = Front (flagged flags) col k × (k ≤ end)

@@ -1,24 +1,22 @@
--- `work_columns::stable_partition` meets its contract: the rows at the front stay, and what is behind them is parted. Assumes nothing.
+-- `partition::stable_partition` meets its contract: the rows at the front stay, and what is behind them is parted. Assumes nothing.
 use native.Mathlib.Omega.{arith}
 use borrow.Author.Needs.{needs}
 use borrow.Rule.Slice.PartMut.{putMid}
 use mathlib.Core.Path.{_≡_, refl, sym, ap, _∙_, subst}
 use mathlib.Core.Bool.{Bool}
 use mathlib.Core.List.{List, [], _++_, append-nil}
-use Prim.Native.Nat.{ℕ, _+_, _-_, _<_, _≤_}
-use denote.Ref.{now}
+use Prim.Native.Nat.{ℕ, _+_, _-_, _<_}
 use lib.ListN.{length, take, drop, drop-of-length-le, length-append, length-drop}
 use lib.Seq.{length-take-le}
 use Rattle.rules.specs.Words.{keep}
 use Rattle.lemmas.specs.Lists.{Every, every-drop}
-use Rattle.work_columns.specs.Columns.{parted, Front, Parted, PartAsks}
-use Rattle.work_columns.specs.Cleft.{passed-kept, passed-stay}
-use Rattle.work_columns.specs.Pass.{lent-rest}
-use Rattle.work_columns.proofs.stable_partition.Statement.{statement}
-use Rattle.work_columns.proofs.stable_partition.Tie as tie
+use Rattle.partition.specs.Parted.{parted, Front, Parted, PartAsks}
+use Rattle.partition.specs.Stays.{passed-kept, passed-stay, lent-rest}
+use Rattle.partition.proofs.stable_partition.Statement.{statement}
+use Rattle.partition.proofs.stable_partition.Tie as tie
 
 -- the stretch l from k on
-module _ (l : List ℕ) (k : ℕ) (h : k ≤ length l) where
+module _ (l : List ℕ) (k : ℕ) where
   abbrev rest : List ℕ
   rest = take (length l - k) (drop k l)
 
@@ -28,16 +26,16 @@ module _ (l : List ℕ) (k : ℕ) (h : k ≤ length l) where
   long : length rest ≡ length l - k
   long = ap length same ∙ length-drop k l
 
-  rest-asks : {scratch flags s : ℕ} → PartAsks l scratch flags → s ≡ scratch → PartAsks rest s flags
-  rest-asks {scratch} {flags} q e = record { room = omega (arith, long, q .room); below = subst (Every (λ r. r < flags)) (sym same) (every-drop _ k l (q .below)) }
+  rest-asks : {scratch flags : ℕ} → PartAsks l scratch flags → PartAsks rest scratch flags
+  rest-asks {scratch} {flags} q = record { room = omega (arith, long, q .room); below = subst (Every (λ r. r < flags)) (sym same) (every-drop _ k l (q .below)) }
 
   -- and back, parted, behind a front that stays
   behind : (p : ℕ → Bool) (new : List ℕ) (w : ℕ) → Front p l k → Parted p rest new w → Parted p l (putMid k (length l - k) l new) (k + w)
   behind p new w f q =
       let none : drop (length l - k) (drop k l) ≡ [] = drop-of-length-le (drop k l) {i = length l - k} (omega (arith, length-drop k l)) in
       record {
-        within = omega (arith, long, q .within);
-        count = (λ i. sym (length-take-le k l h) i + (q .count ∙ ap (λ z. length (keep p z)) same) i) ∙ sym (length-append (take k l) (keep p (drop k l)))
+        within = omega (arith, f .within, long, q .within);
+        count = (λ i. sym (length-take-le k l (f .within)) i + (q .count ∙ ap (λ z. length (keep p z)) same) i) ∙ sym (length-append (take k l) (keep p (drop k l)))
             ∙ ap length (sym (passed-kept p l k (f .passed)));
         parts = ap (λ z. take k l ++ (new ++ z)) none ∙ ap (λ z. take k l ++ z) (append-nil new ∙ q .parts ∙ ap (parted p) same) ∙ sym (passed-stay p l k (f .passed));
       }
@@ -61,8 +59,7 @@ abbrev start : tie.After-part-rows-arg2 → tie.Start
 start c = c .before .before .before .before .before .before .before
 
 part-rows-requires : tie.Need-part-rows-requires
-part-rows-requires c κs =
-    rest-asks _ _ (c .before .before .front-of .ensures .within) (start c .pre) refl
+part-rows-requires c κs = rest-asks _ _ (start c .pre)
 
 add-result : tie.Need-add-result
 add-result c = search needs
@@ -79,7 +76,7 @@ at-front c = c .before .before .before .before .before .before .before
 returns : tie.Need-returns
 returns c =
     let front = at-front c .front-of .ensures .front in
-    behind _ _ (front .within) _ _ _ front (c .before .before .before .before .part-rows .ensures)
+    behind _ _ _ _ _ front (c .before .before .before .before .part-rows .ensures)
 
 pub stable-partition-spec : {M : Type 1} → statement M
 stable-partition-spec =
