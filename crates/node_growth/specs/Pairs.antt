@@ -19,7 +19,7 @@ use Rattle.lemmas.specs.Outs.{bind-through}
 use Rattle.lemmas.specs.Work.{part}
 use Rattle.candidates.specs.Held.{bare}
 use Rattle.work_columns.specs.declared.Sides.{Sides}
-use Rattle.partition.specs.Parted.{flagged, parted}
+use Rattle.sweeps.specs.Swept.{flagged, parted}
 use Rattle.work_columns.specs.Columns.{partedColumns, ColumnsAsk}
 use Rattle.criterion.specs.declared.Side.{Side}
 use Rattle.search.specs.Flat.{NodeAsks, drawsAt, Fair}

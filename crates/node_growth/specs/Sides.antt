@@ -20,7 +20,7 @@ use Rattle.lemmas.specs.Cuts.{Good, side-good}
 use Rattle.lemmas.specs.Work.{part}
 use Rattle.candidates.specs.Held.{bare}
 use Rattle.work_columns.specs.declared.Sides.{Sides}
-use Rattle.partition.specs.Parted.{flagged}
+use Rattle.sweeps.specs.Swept.{flagged}
 use Rattle.work_columns.specs.Columns.{partedColumns}
 use Rattle.work_columns.specs.Cleft.{cleft-parted}
 use Rattle.work_columns.specs.Split.{goes, SplitAsks, SplitDone}

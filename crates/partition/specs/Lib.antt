@@ -1,8 +1,6 @@
--- What a partition of a stretch of a column does, and the laws that its proof and its callers need. Nothing is assumed.
+-- Where the front of a stretch ends, and that a partition leaves it where it is. Nothing is assumed.
 
--- what a partition promises and asks
-pub mod Parted
--- a front that a loop writes
-pub mod Fronts
+-- what a look along a stretch promises and asks
+pub mod Looks
 -- a front that stays
 pub mod Stays

@@ -1,55 +1,12 @@
-// A stretch of a column partitioned: its flagged rows first, then the others, each in their order.
+// A stretch of a column partitioned: its flagged rows first, then the others, each in their order. The flagged rows at its front stay where they are.
 ghost use mathlib.Core.Path.{_≡_};
-ghost use Prim.Native.Nat.{_+_, _≤_, _<_};
+ghost use Prim.Native.Nat.{_≤_, _<_};
 ghost use lib.ListN.{length, getD};
-ghost use lib.Seq.{paste};
 ghost use Rattle.lemmas.specs.Lists.{Every};
-ghost use Rattle.partition.specs.Parted.{flagged, Front, FirstFalse, Swept, Parted, PartAsks, LookAsks};
+ghost use Rattle.sweeps.specs.Swept.{flagged, Parted, PartAsks};
+ghost use Rattle.partition.specs.Looks.{Front, FirstFalse, LookAsks};
 
-// One pass: the flagged rows to the front of the stretch, the others to the front of the scratch. Each row is written to both.
-fn sweep(col: &mut [u32], scratch: &mut [u32], flags: &[bool]) -> usize
-    requires { ⌜ PartAsks (now col) (length (now scratch)) (length (now flags)) ⌝ }
-    ensures { λ r. ⌜ Swept (flagged (now (flags .entry))) (now (col .entry)) (now (col .exit)) (now (scratch .exit)) r ⌝ }
-{
-    let mut w: usize = 0;
-    let mut i: usize = 0;
-    while i < col.len() {
-        let e = col[i];
-        let row = e as usize;
-        let t = flags[row];
-        let f = i - w;
-        col[w] = e;
-        scratch[f] = e;
-        if t {
-            w += 1;
-        }
-        i += 1;
-    }
-    w
-}
-
-// The first n of src, copied over dst from `at` on.
-fn copy_in(dst: &mut [u32], at: usize, src: &[u32], n: usize)
-    requires { ⌜ (at + n ≤ length (now dst)) × (n ≤ length (now src)) ⌝ }
-    ensures { λ _. ⌜ now (dst .exit) ≡ paste (now (dst .entry)) at (now (src .entry)) n ⌝ }
-{
-    let mut j: usize = 0;
-    while j < n {
-        dst[at + j] = src[j];
-        j += 1;
-    }
-}
-
-// The flagged rows of a stretch first, then the others, each in their order. Every row is written. Answers how many are flagged.
-fn part_rows(col: &mut [u32], scratch: &mut [u32], flags: &[bool]) -> usize
-    requires { ⌜ PartAsks (now col) (length (now scratch)) (length (now flags)) ⌝ }
-    ensures { λ r. ⌜ Parted (flagged (now (flags .entry))) (now (col .entry)) (now (col .exit)) r ⌝ }
-{
-    let n = col.len();
-    let w = sweep(col, scratch, flags);
-    copy_in(col, w, scratch, n - w);
-    w
-}
+// ---- where the front ends
 
 // Is the row at place i of a stretch flagged?
 fn flag_at(col: &[u32], flags: &[bool], i: usize) -> bool
@@ -60,13 +17,13 @@ fn flag_at(col: &[u32], flags: &[bool], i: usize) -> bool
     flags[row]
 }
 
-// The first place from `start` on whose row is not flagged, or `end` if there is none before it. All rows before `start` are flagged.
-fn first_false(col: &[u32], flags: &[bool], start: usize, end: usize) -> usize
-    requires { ⌜ LookAsks (now flags) (now col) start end ⌝ }
-    ensures { λ r. ⌜ FirstFalse (flagged (now (flags .entry))) (now (col .entry)) end r ⌝ }
+// The first place from `start` on whose row is not flagged, or the end. All rows before `start` are flagged.
+fn first_false(col: &[u32], flags: &[bool], start: usize) -> usize
+    requires { ⌜ LookAsks (now flags) (now col) start ⌝ }
+    ensures { λ r. ⌜ FirstFalse (flagged (now (flags .entry))) (now (col .entry)) r ⌝ }
 {
     let mut k = start;
-    while k < end {
+    while k < col.len() {
         if !flag_at(col, flags, k) {
             return k;
         }
@@ -77,7 +34,7 @@ fn first_false(col: &[u32], flags: &[bool], start: usize, end: usize) -> usize
 
 // A place before which all rows are flagged, reached from `start` by fours: with fewer branches than row by row, which along a long front is what counts.
 fn flagged_fours(col: &[u32], flags: &[bool], start: usize) -> usize
-    requires { ⌜ LookAsks (now flags) (now col) start (length (now col)) ⌝ }
+    requires { ⌜ LookAsks (now flags) (now col) start ⌝ }
     ensures { λ r. ⌜ Front (flagged (now (flags .entry))) (now (col .entry)) r ⌝ }
 {
     let mut k = start;
@@ -94,19 +51,48 @@ fn flagged_fours(col: &[u32], flags: &[bool], start: usize) -> usize
     k
 }
 
-// The place of the first row that is not flagged, or the end. In a mixed column that is mostly one of the first four, which are looked at one by one; a longer front is walked by fours.
-fn front_of(col: &[u32], flags: &[bool]) -> usize
-    requires { ⌜ Every (λ r. r < length (now flags)) (now col) ⌝ }
-    ensures { λ r. ⌜ FirstFalse (flagged (now (flags .entry))) (now (col .entry)) (length (now (col .entry))) r ⌝ }
+// ---- the partition
+
+// A stretch partitioned whose rows before `start` are all flagged. Nothing is written before the first row that is not.
+fn part_behind(col: &mut [u32], scratch: &mut [u32], flags: &[bool], start: usize) -> usize
+    requires { ⌜ PartAsks (now col) (length (now scratch)) (length (now flags)) × Front (flagged (now flags)) (now col) start ⌝ }
+    ensures { λ r. ⌜ Parted (flagged (now (flags .entry))) (now (col .entry)) (now (col .exit)) r ⌝ }
 {
     let n = col.len();
-    let few = slices::least(n, 4);
-    let k = first_false(col, flags, 0, few);
-    if k < few {
-        return k;
+    let fours = flagged_fours(col, flags, start);
+    let k = first_false(col, flags, fours);
+    let w = sweeps::part_from(&mut col[k..n], scratch, flags, 0, 0);
+    k + w
+}
+
+// A stretch of two or three rows.
+fn part_two(col: &mut [u32], scratch: &mut [u32], flags: &[bool]) -> usize
+    requires { ⌜ PartAsks (now col) (length (now scratch)) (length (now flags)) × (2 ≤ length (now col)) ⌝ }
+    ensures { λ r. ⌜ Parted (flagged (now (flags .entry))) (now (col .entry)) (now (col .exit)) r ⌝ }
+{
+    let s = flag_at(col, flags, 0);
+    let t = flag_at(col, flags, 1);
+    if s & t {
+        return part_behind(col, scratch, flags, 2);
     }
-    let fours = flagged_fours(col, flags, k);
-    first_false(col, flags, fours, n)
+    let w = sweeps::sweep_two(col, scratch, s, t);
+    sweeps::part_from(col, scratch, flags, 2, w)
+}
+
+// A stretch of four rows or more. In a mixed column the front ends within the first four, and that it does can be foreseen; where, cannot.
+fn part_four(col: &mut [u32], scratch: &mut [u32], flags: &[bool]) -> usize
+    requires { ⌜ PartAsks (now col) (length (now scratch)) (length (now flags)) × (4 ≤ length (now col)) ⌝ }
+    ensures { λ r. ⌜ Parted (flagged (now (flags .entry))) (now (col .entry)) (now (col .exit)) r ⌝ }
+{
+    let s = flag_at(col, flags, 0);
+    let t = flag_at(col, flags, 1);
+    let u = flag_at(col, flags, 2);
+    let v = flag_at(col, flags, 3);
+    if s & t & u & v {
+        return part_behind(col, scratch, flags, 4);
+    }
+    let w = sweeps::sweep_four(col, scratch, s, t, u, v);
+    sweeps::part_from(col, scratch, flags, 4, w)
 }
 
 // The flagged rows of a stretch first, then the others, each in their order. Answers how many are flagged.
@@ -116,7 +102,11 @@ pub fn stable_partition(col: &mut [u32], scratch: &mut [u32], flags: &[bool]) ->
     ensures { λ r. ⌜ Parted (flagged (now (flags .entry))) (now (col .entry)) (now (col .exit)) r ⌝ }
 {
     let n = col.len();
-    let k = front_of(col, flags);
-    let w = part_rows(&mut col[k..n], scratch, flags);
-    k + w
+    if n < 2 {
+        return part_behind(col, scratch, flags, 0);
+    }
+    if n < 4 {
+        return part_two(col, scratch, flags);
+    }
+    part_four(col, scratch, flags)
 }

@@ -7,7 +7,7 @@ use mathlib.Core.List.{List, _++_, append-nil}
 use lib.ListN.{length, take, drop, take-append-drop, length-take}
 use Rattle.rules.specs.Words.{keep}
 use Rattle.lemmas.specs.Lists.{every-imp, keep-all, keep-none}
-use Rattle.partition.specs.Parted.{fails, parted}
+use Rattle.sweeps.specs.Swept.{fails, parted}
 use Rattle.partition.specs.Stays.{passed-kept, passed-left}
 use Rattle.work_columns.specs.Columns.{Cleft}
 

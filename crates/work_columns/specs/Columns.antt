@@ -12,7 +12,7 @@ use Rattle.rules.specs.Search.{Element}
 use Rattle.rules.specs.Fit.{elementIn}
 use Rattle.lemmas.specs.Lists.{Every}
 use Rattle.lemmas.specs.Work.{part}
-use Rattle.partition.specs.Parted.{parted}
+use Rattle.sweeps.specs.Swept.{parted}
 
 -- n entries from place a on, changed where they lie
 unfoldable pub changed : ℕ → ℕ → (List ℕ → List ℕ) → List ℕ → List ℕ

@@ -16,8 +16,8 @@ use Rattle.rules.specs.Fit.{elementIn}
 use Rattle.lemmas.specs.Lists.{Every, every-imp, every-append, every-keep, total-keep, length-total}
 use Rattle.lemmas.specs.Work.{part}
 use Rattle.work_columns.specs.declared.Sides.{Sides}
-use Rattle.partition.specs.Parted.{flagged, fails, parted}
-use Rattle.partition.specs.Fronts.{keep-both, parted-long}
+use Rattle.sweeps.specs.Swept.{flagged, fails, parted}
+use Rattle.sweeps.specs.Fronts.{keep-both, parted-long}
 use Rattle.work_columns.specs.Columns.{changed, inColumns, partedColumns, Cleft, ColumnsAsk}
 use Rattle.work_columns.specs.Split.{Alike, goes, sidesOf, marked, PassAsks, PassDone, SplitAsks, SplitDone}
 use Rattle.work_columns.specs.Stretches.{column-end, Keeps, part-in, part-join, part-long, part-every, in-long, in-later, in-beside, in-here}

@@ -20,7 +20,7 @@ use Rattle.lemmas.specs.Lists.{Every, every-take, every-drop, keep-map, total-a
 use Rattle.criterion.specs.declared.Side.{Side}
 use Rattle.criterion.specs.Sides.{sideOn, joined}
 use Rattle.work_columns.specs.declared.Gathered.{Gathered}
-use Rattle.partition.specs.Parted.{fails}
+use Rattle.sweeps.specs.Swept.{fails}
 use Rattle.work_columns.specs.Columns.{bare, Cleft}
 use Rattle.work_columns.specs.Split.{goes, marked, GatherAsks, GatherDone, PassAsks, PassDone}
 use Rattle.work_columns.specs.Cleft.{front-keeps, rest-keeps, cleft-count}

@@ -16,7 +16,7 @@ use Rattle.lemmas.specs.Work.{part}
 use Rattle.criterion.specs.Sides.{sideOn}
 use Rattle.work_columns.specs.declared.Sides.{Sides}
 use Rattle.work_columns.specs.declared.Gathered.{Gathered}
-use Rattle.partition.specs.Parted.{flagged}
+use Rattle.sweeps.specs.Swept.{flagged}
 use Rattle.work_columns.specs.Columns.{bare, Cleft, Counted}
 
 -- the tables of a fit, by their lengths

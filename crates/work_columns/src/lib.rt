@@ -8,7 +8,7 @@ ghost use Rattle.rules.specs.Totals.{empty};
 ghost use Rattle.rules.specs.Search.{totalsOf};
 ghost use Rattle.rules.specs.Fit.{elementIn};
 ghost use Rattle.lemmas.specs.Work.{part};
-ghost use Rattle.partition.specs.Parted.{flagged, parted};
+ghost use Rattle.sweeps.specs.Swept.{flagged, parted};
 ghost use Rattle.work_columns.specs.Columns.{bare, RootAsks, CountAsks, KeptTo, KeepAsks, KeptAll, KeepAllAsks, partedColumns, ColumnsAsk};
 ghost use Rattle.work_columns.specs.Split.{GatherAsks, GatherDone, PassAsks, PassDone, SplitAsks, SplitDone};
 use criterion::Side;

@@ -2,28 +2,13 @@
 use borrow.Author.Needs.{needs}
 use borrow.Author.Tests.{not-false}
 use native.Mathlib.Omega.{arith}
-use mathlib.Core.Path.{_≡_, refl, sym, _∙_}
-use mathlib.Core.Bool.{Bool, true, _&&_}
-use mathlib.Core.List.{List}
-use Prim.Native.Nat.{ℕ, _+_, _-_, _≤_}
-use lib.ListN.{length, getD}
-use Rattle.lemmas.specs.Tests.{and-both}
-use Rattle.partition.specs.Parted.{flagged, Front}
-use Rattle.partition.specs.Stays.{front-more}
+use Prim.Native.Nat.{_-_}
+use lib.ListN.{length}
+use Rattle.sweeps.specs.Swept.{flagged}
+use Rattle.partition.specs.Looks.{Front}
+use Rattle.partition.specs.Stays.{front-four}
 use Rattle.partition.proofs.flagged_fours.Statement.{statement}
 use Rattle.partition.proofs.flagged_fours.Tie as tie
-
-module _ (p : ℕ → Bool) (l : List ℕ) (k : ℕ) (f : Front p l k) (h : k + 4 ≤ length l) where
-  four : {a b c d : Bool} → a ≡ p (getD l k 0) → b ≡ p (getD l (k + 1) 0) → c ≡ p (getD l (k + 2) 0) → d ≡ p (getD l (k + 3) 0) → (((a && b) && c) && d) ≡ true
-      → Front p l (k + 4)
-  four {a} {b} {c} {d} ea eb ec ed t =
-      let x = and-both ((a && b) && c) d t in
-      let y = and-both (a && b) c (x .0) in
-      let z = and-both a b (y .0) in
-      let one : Front p l (k + 1) = front-more p l k f (omega arith) (sym ea ∙ z .0) refl in
-      let two : Front p l (k + 2) = front-more p l (k + 1) one (omega arith) (sym eb ∙ z .1) (omega arith) in
-      let three : Front p l (k + 3) = front-more p l (k + 2) two (omega arith) (sym ec ∙ y .1) (omega arith) in
-      front-more p l (k + 3) three (omega arith) (sym ed ∙ x .1) (omega arith)
 
 abbrev Inv-loop : tie.InvT-loop
 Inv-loop col flags start k₀ k = Front (flagged flags) col k
@@ -70,7 +55,7 @@ loop-less c = search needs
 loop-again : tie.Need-loop-again Inv-loop μ-loop
 loop-again c =
     let at = c .before .before .before .before .before .before in
-    four _ _ (at .loop .k) (at .loop .inv) (omega arith) (c .before .before .before .before .flag-at .ensures) (c .before .before .before .flag-at2 .ensures)
+    front-four _ _ (at .loop .k) (at .loop .inv) (omega arith) (c .before .before .before .before .flag-at .ensures) (c .before .before .before .flag-at2 .ensures)
     (c .before .before .flag-at3 .ensures) (c .before .flag-at4 .ensures) (not-false _ (c .if1 .left))
 
 returns-2 : tie.Need-returns-2 Inv-loop μ-loop

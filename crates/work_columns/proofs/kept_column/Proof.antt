@@ -14,7 +14,7 @@ use Rattle.rules.specs.Lent.{keptIn}
 use Rattle.lemmas.specs.Lists.{every-at}
 use Rattle.work_columns.specs.Columns.{KeptTo}
 use Rattle.work_columns.specs.Setup.{weighed-row}
-use Rattle.partition.specs.Fronts.{front-kept, front-left}
+use Rattle.sweeps.specs.Fronts.{front-kept, front-left}
 use Rattle.work_columns.proofs.kept_column.Statement.{statement}
 use Rattle.work_columns.proofs.kept_column.Tie as tie
 

@@ -12,8 +12,8 @@ use lib.ListN.{length}
 use Rattle.rules.specs.Words.{stretch}
 use Rattle.lemmas.specs.Lists.{Every}
 use Rattle.lemmas.specs.Work.{part}
-use Rattle.partition.specs.Parted.{flagged, parted, PartAsks}
-use Rattle.partition.specs.Fronts.{parted-long}
+use Rattle.sweeps.specs.Swept.{flagged, parted, PartAsks}
+use Rattle.sweeps.specs.Fronts.{parted-long}
 use Rattle.work_columns.specs.Columns.{ColumnsAsk}
 use Rattle.work_columns.specs.Stretches.{column-end, part-long, Keeps, Going, going-start, going-turn, going-done, going-long, going-rest, going-past}
 use Rattle.work_columns.proofs.partition_columns.Statement.{statement}

@@ -1,4 +1,4 @@
--- `partition::stable_partition` meets its contract: the rows at the front stay, and what is behind them is parted. Assumes nothing.
+-- `partition::part_behind` meets its contract: the rows at the front stay, and what is behind them is parted. Assumes nothing.
 use native.Mathlib.Omega.{arith}
 use borrow.Author.Needs.{needs}
 use borrow.Rule.Slice.PartMut.{putMid}
@@ -10,10 +10,12 @@ use lib.ListN.{length, take, drop, drop-of-length-le, length-append, length-drop
 use lib.Seq.{length-take-le}
 use Rattle.rules.specs.Words.{keep}
 use Rattle.lemmas.specs.Lists.{Every, every-drop}
-use Rattle.partition.specs.Parted.{parted, Front, Parted, PartAsks}
+use Rattle.sweeps.specs.Swept.{parted, Parted, PartAsks, SweepAsks}
+use Rattle.partition.specs.Looks.{Front}
+use Rattle.sweeps.specs.First.{begun-none}
 use Rattle.partition.specs.Stays.{passed-kept, passed-stay, lent-rest}
-use Rattle.partition.proofs.stable_partition.Statement.{statement}
-use Rattle.partition.proofs.stable_partition.Tie as tie
+use Rattle.partition.proofs.part_behind.Statement.{statement}
+use Rattle.partition.proofs.part_behind.Tie as tie
 
 -- the stretch l from k on
 module _ (l : List ℕ) (k : ℕ) where
@@ -26,8 +28,9 @@ module _ (l : List ℕ) (k : ℕ) where
   long : length rest ≡ length l - k
   long = ap length same ∙ length-drop k l
 
-  rest-asks : {scratch flags : ℕ} → PartAsks l scratch flags → PartAsks rest scratch flags
-  rest-asks {scratch} {flags} q = record { room = omega (arith, long, q .room); below = subst (Every (λ r. r < flags)) (sym same) (every-drop _ k l (q .below)) }
+  rest-asks : {scratch flags : ℕ} → PartAsks l scratch flags → SweepAsks rest scratch flags 0 0
+  rest-asks {scratch} {flags} q =
+      record { room = omega (arith, long, q .room); within = omega arith; few = omega arith; below = subst (Every (λ r. r < flags)) (sym same) (every-drop _ k l (q .below)) }
 
   -- and back, parted, behind a front that stays
   behind : (p : ℕ → Bool) (new : List ℕ) (w : ℕ) → Front p l k → Parted p rest new w → Parted p l (putMid k (length l - k) l new) (k + w)
@@ -40,26 +43,29 @@ module _ (l : List ℕ) (k : ℕ) where
         parts = ap (λ z. take k l ++ (new ++ z)) none ∙ ap (λ z. take k l ++ z) (append-nil new ∙ q .parts ∙ ap (parted p) same) ∙ sym (passed-stay p l k (f .passed));
       }
 
-front-of-requires : tie.Need-front-of-requires
-front-of-requires c κs = search needs
+flagged-fours-requires : tie.Need-flagged-fours-requires
+flagged-fours-requires c κs = search needs
 
-mul-part-rows : tie.Need-mul-part-rows
-mul-part-rows c = search needs
+first-false-requires : tie.Need-first-false-requires
+first-false-requires c κs = search needs
 
-sub-part-rows : tie.Need-sub-part-rows
-sub-part-rows c = search needs
+mul-part-from : tie.Need-mul-part-from
+mul-part-from c = search needs
 
-part-part-rows-start : tie.Need-part-part-rows-start
-part-part-rows-start c = search needs
+sub-part-from : tie.Need-sub-part-from
+sub-part-from c = search needs
 
-part-part-rows-end : tie.Need-part-part-rows-end
-part-part-rows-end c = search needs
+part-part-from-start : tie.Need-part-part-from-start
+part-part-from-start c = search needs
 
-abbrev start : tie.After-part-rows-arg2 → tie.Start
-start c = c .before .before .before .before .before .before .before
+part-part-from-end : tie.Need-part-part-from-end
+part-part-from-end c = search needs
 
-part-rows-requires : tie.Need-part-rows-requires
-part-rows-requires c κs = rest-asks _ _ (start c .pre)
+abbrev start : tie.After-part-from-arg2 → tie.Start
+start c = c .before .before .before .before .before .before .before .before .before
+
+part-from-requires : tie.Need-part-from-requires
+part-from-requires c κs = rest-asks _ _ (start c .pre .0)
 
 add-result : tie.Need-add-result
 add-result c = search needs
@@ -70,24 +76,25 @@ same-length c = search needs
 same-length-2 : tie.Need-same-length-2
 same-length-2 c = search needs
 
-abbrev at-front : tie.After-slice-known4 → tie.After-front-of
-at-front c = c .before .before .before .before .before .before .before
+abbrev at-part : tie.After-slice-known4 → tie.After-part-from
+at-part c = c .before .before .before .before
 
 returns : tie.Need-returns
 returns c =
-    let front = at-front c .front-of .ensures .front in
-    behind _ _ _ _ _ front (c .before .before .before .before .part-rows .ensures)
+    let at = at-part c in
+    behind _ _ _ _ _ (at .before .before .before .first-false .ensures .front) (at .part-from .ensures .done _ (begun-none _ _ _))
 
-pub stable-partition-spec : {M : Type 1} → statement M
-stable-partition-spec =
+pub part-behind-spec : {M : Type 1} → statement M
+part-behind-spec =
     tie.close
     (tie.spec
-    front-of-requires
-    mul-part-rows
-    sub-part-rows
-    part-part-rows-start
-    part-part-rows-end
-    part-rows-requires
+    flagged-fours-requires
+    first-false-requires
+    mul-part-from
+    sub-part-from
+    part-part-from-start
+    part-part-from-end
+    part-from-requires
     add-result
     same-length
     same-length-2

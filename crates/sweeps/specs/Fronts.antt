@@ -10,7 +10,7 @@ use lib.ListN.{length, getD, set, take, drop, length-append}
 use lib.Seq.{take-suc, take-suc-set, take-set-le, drop-set-lt, getD-drop, drop-drop}
 use Rattle.rules.specs.Words.{keep, putIf}
 use Rattle.lemmas.specs.Lists.{keep-append, total-sides, length-total}
-use Rattle.partition.specs.Parted.{fails, parted}
+use Rattle.sweeps.specs.Swept.{fails, parted}
 
 -- the next entry x of l₀ is written into l just past those kept, and stays if it is kept
 module _ {A : Type 0} (p : A → Bool) (l₀ l : List A) (i w : ℕ) (d x : A) (same : x ≡ getD l₀ i d) (h : i < length l₀) (e : take w l ≡ keep p (take i l₀)) where

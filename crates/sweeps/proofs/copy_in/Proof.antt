@@ -1,4 +1,4 @@
--- `partition::copy_in` meets its contract: after j turns the first j are pasted. Assumes nothing.
+-- `sweeps::copy_in` meets its contract: after j turns the first j are pasted. Assumes nothing.
 use borrow.Author.Needs.{needs}
 use native.Mathlib.Omega.{arith}
 use mathlib.Core.Path.{_≡_, refl, _∙_}
@@ -8,8 +8,8 @@ use native.Mathlib.Numerals.{add-one}
 use denote.Ref.{now}
 use lib.ListN.{length, getD, set}
 use lib.Seq.{paste, paste-zero, paste-suc}
-use Rattle.partition.proofs.copy_in.Statement.{statement}
-use Rattle.partition.proofs.copy_in.Tie as tie
+use Rattle.sweeps.proofs.copy_in.Statement.{statement}
+use Rattle.sweeps.proofs.copy_in.Tie as tie
 
 abbrev Inv-loop : tie.InvT-loop
 Inv-loop dst₀ at src n j₀ dst j = (dst ≡ paste dst₀ at src j) × (j ≤ n) × (length dst ≡ length dst₀)
