@@ -79,7 +79,7 @@ fn part_two(col: &mut [u32], scratch: &mut [u32], flags: &[bool]) -> usize
     sweeps::part_from(col, scratch, flags, 2, w)
 }
 
-// A stretch of four rows or more. In a mixed column the front ends within the first four, and that it does can be foreseen; where, cannot.
+// A stretch of four rows or more. In a mixed column the front mostly ends within the first four, and this can be foreseen; where it ends, cannot.
 fn part_four(col: &mut [u32], scratch: &mut [u32], flags: &[bool]) -> usize
     requires { ⌜ PartAsks (now col) (length (now scratch)) (length (now flags)) × (4 ≤ length (now col)) ⌝ }
     ensures { λ r. ⌜ Parted (flagged (now (flags .entry))) (now (col .entry)) (now (col .exit)) r ⌝ }

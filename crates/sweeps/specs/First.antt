@@ -2,12 +2,12 @@
 use Prim.Native.Nat.{ℕ, _+_, _-_, _<_, _≤_}
 use native.Mathlib.Omega.{arith}
 use mathlib.Core.Path.{_≡_, refl, sym, ap, _∙_, subst}
-use mathlib.Core.Bool.{Bool, true, false, not, _&&_}
+use mathlib.Core.Bool.{Bool, true, false, not}
 use mathlib.Core.List.{List, [], _∷_}
 use lib.ListN.{length, getD, take, drop, length-set}
 use Rattle.rules.specs.Words.{keep, putIf}
 use Rattle.lemmas.specs.Lists.{Every, every-drop}
-use Rattle.sweeps.specs.Swept.{fails, bit, PartAsks, SweepAsks, Begun, twoColumn, twoOthers, TwoDone, fourColumn, fourOthers, FourDone}
+use Rattle.sweeps.specs.Swept.{fails, bit, PartAsks, SweepAsks, Begun, twoColumn, twoOthers, TwoDone, frontEnd, thirdPlace, lastPlace, fourColumn, fourOthers, FourDone}
 
 pub begun-none : (p : ℕ → Bool) (l scratch : List ℕ) → Begun p l l scratch 0 0
 unfolding keep
@@ -108,8 +108,8 @@ module _ (p : ℕ → Bool) where
   four-begun (d ∷ []) m h k a b c o q = absurd (let no : ¬ (4 ≤ 1) = omega arith in no h)
   four-begun [] m h k a b c o q = absurd (let no : ¬ (4 ≤ 0) = omega arith in no h)
 
--- A front of fewer than four rows is not written: of the three places in the column the first is where it ends, and the others are not before it.
-pub four-behind : (s t u : Bool) → let end = bit s + bit (s && t) + bit ((s && t) && u) in (end ≤ bit s + bit t + bit ((s && t) && u)) × (end ≤ bit s + bit t + bit u)
+-- none of these places is before the end of the front
+pub four-behind : (s t u : Bool) → (frontEnd s t u ≤ thirdPlace s t u) × (frontEnd s t u ≤ lastPlace s t u)
 four-behind true true true = (omega arith, omega arith)
 four-behind true true false = (omega arith, omega arith)
 four-behind true false true = (omega arith, omega arith)

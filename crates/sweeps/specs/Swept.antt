@@ -68,7 +68,7 @@ pub record TwoDone (s t : Bool) (col₀ scratch₀ col scratch : List ℕ) (r : 
   pub column : col ≡ twoColumn s col₀
   pub others : scratch ≡ twoOthers s col₀ scratch₀
 
--- the row that a sweep of the first four writes for the third, for the second, for the first: while all are flagged, the one that it writes for the next
+-- the row that a sweep of the first four writes for the third, for the second, for the first: if it and all before it are flagged, the one that it writes for the next
 abbrev pub forThird : Bool → Bool → Bool → List ℕ → ℕ
 forThird s t u l = cond ((s && t) && u) (getD l 3 0) (getD l 2 0)
 
@@ -78,11 +78,19 @@ forSecond s t u l = cond (s && t) (forThird s t u l) (getD l 1 0)
 abbrev pub forFirst : Bool → Bool → Bool → List ℕ → ℕ
 forFirst s t u l = cond s (forSecond s t u l) (getD l 0 0)
 
+-- the places of the column where it writes them: for the second where a front of fewer than four rows ends, for the third, for the last
+abbrev pub frontEnd : Bool → Bool → Bool → ℕ
+frontEnd s t u = bit s + bit (s && t) + bit ((s && t) && u)
+
+abbrev pub thirdPlace : Bool → Bool → Bool → ℕ
+thirdPlace s t u = bit s + bit t + bit ((s && t) && u)
+
+abbrev pub lastPlace : Bool → Bool → Bool → ℕ
+lastPlace s t u = bit s + bit t + bit u
+
 -- and what it leaves
 abbrev pub fourColumn : Bool → Bool → Bool → List ℕ → List ℕ
-fourColumn s t u l =
-    let late = bit ((s && t) && u) in
-    set (set (set l (bit s + bit (s && t) + late) (forSecond s t u l)) (bit s + bit t + late) (forThird s t u l)) (bit s + bit t + bit u) (getD l 3 0)
+fourColumn s t u l = set (set (set l (frontEnd s t u) (forSecond s t u l)) (thirdPlace s t u) (forThird s t u l)) (lastPlace s t u) (getD l 3 0)
 
 abbrev pub fourOthers : Bool → Bool → Bool → List ℕ → List ℕ → List ℕ
 fourOthers s t u l m =

@@ -7,7 +7,7 @@ ghost use lib.Seq.{paste};
 ghost use Rattle.sweeps.specs.Swept.{flagged, bit, SweepAsks, SweepDone, PartDone, TwoDone, FourDone};
 
 // The rows from `start` on in one pass: the flagged ones to the front of the stretch, the others to the front of the scratch. Each row is written to both.
-// Of the rows before `start`, which were swept already, `found` are flagged.
+// It goes on from where another stopped: what it promises holds if the rows before `start` are swept already, and `found` of them are flagged.
 fn sweep(col: &mut [u32], scratch: &mut [u32], flags: &[bool], start: usize, found: usize) -> usize
     requires { ⌜ SweepAsks (now col) (length (now scratch)) (length (now flags)) start found ⌝ }
     ensures { λ r. ⌜ SweepDone (flagged (now (flags .entry))) (now (col .entry)) (now (scratch .entry)) start found (now (col .exit)) (now (scratch .exit)) r ⌝ }
@@ -41,7 +41,7 @@ fn copy_in(dst: &mut [u32], at: usize, src: &[u32], n: usize)
     }
 }
 
-// A stretch that is swept up to `start`, partitioned. Answers how many are flagged.
+// A stretch partitioned, if it is swept up to `start` already. Answers how many are flagged.
 pub fn part_from(
     col: &mut [u32],
     scratch: &mut [u32],
@@ -58,7 +58,7 @@ pub fn part_from(
     w
 }
 
-// ---- the first rows, without a branch on where the front ends, which cannot be foreseen
+// ---- the first rows: what is compiled has no branch for `one_if` and `pick`, and so none on where the front ends, which cannot be foreseen
 
 fn one_if(b: bool) -> usize
     ensures { λ r. ⌜ (r ≡ bit b) × (r ≤ 1) ⌝ }
