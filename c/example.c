@@ -135,6 +135,9 @@ static void forest(void) {
         ALL(nodes.false_child), ALL(out));
     if (number != 0) stop("tailboardy_out_of_bag_means", number);
     printf("out-of-bag means of rows 1 and 2: %g and %g\n", out[1], out[2]);
+    const TailboardyErrorTold error = tailboardy_out_of_bag_error(ROWS, ALL(targets), ALL(out));
+    if (error.number != 0) stop("tailboardy_out_of_bag_error", error.number);
+    printf("their error: %g, over %" PRIu32 " of %d rows\n", error.error, error.rows, ROWS);
 }
 
 int main(void) {

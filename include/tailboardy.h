@@ -52,9 +52,9 @@
  *        5    -26        0          0      0           0            0    (row 2)
  *        6    -22        0          0      0           0            0    (row 0)
  *
- * Refusals: 1 sizes, 2 lengths, 3 numbers, 4 counts, 5 listing, 6 rooms, 7 draw, 8 table, 9 no counts, 10 other counts. The table in
- * docs/RULES.md says when each is given. Below, the refusals that a call can give are listed after its description, in the order of
- * its checks. A refused call leaves every lent slice unchanged, except that refusal 7 fills them all with zeros. */
+ * Refusals: 1 sizes, 2 lengths, 3 numbers, 4 counts, 5 listing, 6 rooms, 7 draw, 8 table, 9 no counts, 10 other counts, 18 no means.
+ * The table in docs/RULES.md says when each is given. Below, the refusals that a call can give are listed after its description, in
+ * the order of its checks. A refused call leaves every lent slice unchanged, except that refusal 7 fills them all with zeros. */
 #ifndef TAILBOARDY_H
 #define TAILBOARDY_H
 
@@ -110,10 +110,11 @@ typedef struct {
     uint32_t search;
 } TailboardyForestTold;
 
-/* 0 or a refusal. With 0: the error; otherwise that field is 0. */
+/* 0 or a refusal. With 0: the error, and the number of rows that it is over; otherwise these fields are 0. */
 typedef struct {
     uint32_t number;
     double error;
+    uint32_t rows;
 } TailboardyErrorTold;
 
 /* 0 or a refusal. With 0: whether the node exists and, if it does, its value and, if it is a split, its other entries. All other
@@ -272,8 +273,8 @@ uint32_t tailboardy_forest_importances(
     const uint32_t *false_child, size_t false_child_length,
     double *out, size_t out_length);
 
-/* The sum of the squared differences between target and mean, divided by the number of rows; a mean that is NaN adds nothing.
- * Refusals: 1, 2. */
+/* The sum of the squared differences between target and mean, divided by the number of rows whose mean is not NaN, and that number.
+ * A row whose mean is NaN adds nothing. Refusals: 1, 2, 18. */
 TailboardyErrorTold tailboardy_out_of_bag_error(
     size_t rows,
     const double *targets, size_t targets_length,

@@ -181,6 +181,7 @@ static void out_of_bag_error(void) {
     TailboardyErrorTold told = tailboardy_out_of_bag_error(rows, D(0), D(1));
     tell(told.number);
     tell_real(told.error);
+    tell(told.rows);
     give_slices(taken);
 }
 

@@ -60,6 +60,9 @@ pub enum Fault {
         at: usize,
         value: f64,
     },
+    /// No row has an out-of-bag mean, because all of them are in every bag; and
+    /// [how many trees are enough](crate::OutOfBagMeans::enough_trees) for all to have one.
+    InEveryBag { rows: usize, trees: Option<usize> },
     /// An out-of-bag error that is not finite.
     Error(f64),
     /// The sum of a tree's scores, which is not finite.
@@ -182,6 +185,13 @@ impl fmt::Display for Fault {
                 "node {node} of tree {tree} is neither a leaf nor a valid split"
             ),
             Fault::Result { result, at, value } => write!(f, "the {result} {at} is {value}"),
+            Fault::InEveryBag { rows, trees } => match trees {
+                None => f.write_str("the only row is in every tree's bag"),
+                Some(trees) => write!(
+                    f,
+                    "each of the {rows} rows is in every tree's bag, and it takes some {trees} trees to leave out each of them"
+                ),
+            },
             Fault::Error(value) => write!(f, "the out-of-bag error is {value}"),
             Fault::Scores { tree, sum } => write!(f, "the scores of tree {tree} add up to {sum}"),
             Fault::Mass { tree, mass } => {

@@ -41,11 +41,13 @@ fn unless(
     }
 }
 
-pub(crate) fn error(error: f64, targets: &[f64]) -> Result<f64, Refusal> {
+/// Checks an out-of-bag error. The target of a row without a mean has no part in it.
+pub(crate) fn error(error: f64, targets: &[f64], means: &[f64]) -> Result<(), Refusal> {
     if error.is_finite() {
-        return Ok(error);
+        return Ok(());
     }
-    let bad = targets.iter().position(|target| !target.is_finite());
+    let bad = |row: &usize| !targets[*row].is_finite() && !means[*row].is_nan();
+    let bad = (0..targets.len()).find(bad);
     refused(bad.map_or(Fault::Error(error), |row| {
         let value = targets[row];
         Fault::Target { row, value }

@@ -36,7 +36,7 @@ use crate::{explain, finite, parts, sizes};
 /// // how far off the trees are on fixtures that they did not see, which were in none of their bags, and which feature matters most
 /// assert_eq!(forest.samples().map(|bags| bags.shape()), Some((100, 8)));
 /// let error = forest.predict_oob(&x)?.error(&y)?;
-/// assert!(error.sqrt() < 15.0);
+/// assert!(error.error.sqrt() < 15.0 && error.rows == 8);
 /// assert_eq!(forest.compute_feature_importances()?.ranked()[0].0, 1);
 /// # Ok::<(), tailboardy::Refusal>(())
 /// ```

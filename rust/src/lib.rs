@@ -85,7 +85,7 @@ pub use matrix::DenseMatrix;
 pub use nodes::{Kind, Node, Split, Tree};
 pub use parameters::{DecisionTreeRegressorParameters, RandomForestRegressorParameters, Splitter};
 pub use refusal::{Cause, Refusal};
-pub use results::{Importances, Means, OutOfBagMeans, Report};
+pub use results::{Importances, Means, OutOfBagError, OutOfBagMeans, Report};
 pub use seed::SplitMix64;
 pub use tree::DecisionTreeRegressor;
 

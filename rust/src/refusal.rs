@@ -40,7 +40,7 @@ pub struct Refusal {
 /// # Ok::<(), tailboardy::Refusal>(())
 /// ```
 ///
-/// 1 to 10 are the proved library's, numbered as in the table of docs/RULES.md; 100 is this crate's own.
+/// 1 to 10 and 18 are the proved library's, numbered as in the table of docs/RULES.md; 100 is this crate's own.
 #[derive(Debug, Clone, Copy, PartialEq, Eq, Hash)]
 #[non_exhaustive]
 pub enum Cause {
@@ -64,13 +64,15 @@ pub enum Cause {
     NoCounts,
     /// 10: out-of-bag means were requested for other rows than the forest was fitted on.
     OtherCounts,
+    /// 18: an out-of-bag error was requested, but no row has an out-of-bag mean.
+    NoMeans,
     /// 100: a result is not finite. The library returns such a result, as smartcore does; this crate does not pass it on.
     NotFinite,
     /// A number that this crate does not know, because the library is newer.
     Unlisted(u32),
 }
 
-const CAUSES: [Cause; 10] = [
+const CAUSES: [Cause; 11] = [
     Cause::Sizes,
     Cause::Lengths,
     Cause::Numbers,
@@ -81,6 +83,7 @@ const CAUSES: [Cause; 10] = [
     Cause::Table,
     Cause::NoCounts,
     Cause::OtherCounts,
+    Cause::NoMeans,
 ];
 
 impl Cause {
@@ -103,6 +106,7 @@ impl Cause {
             Cause::Table => 8,
             Cause::NoCounts => 9,
             Cause::OtherCounts => 10,
+            Cause::NoMeans => 18,
             Cause::NotFinite => 100,
             Cause::Unlisted(number) => number,
         }
@@ -122,6 +126,7 @@ impl Cause {
             Cause::Table => "table",
             Cause::NoCounts => "no counts",
             Cause::OtherCounts => "other counts",
+            Cause::NoMeans => "no means",
             Cause::NotFinite => "not finite",
             Cause::Unlisted(_) => "unlisted",
         }
@@ -149,6 +154,7 @@ impl Cause {
                 "fit with keep_samples, which records the rows that each tree left out"
             }
             Cause::OtherCounts => "pass the rows that the forest was fitted on",
+            Cause::NoMeans => "grow more trees, with bootstrap, on two rows or more",
             Cause::NotFinite => {
                 "the targets or weights are too large, or the weights too small, to calculate with: multiply or divide all of them by a constant"
             }

@@ -194,9 +194,32 @@ impl OutOfBagMeans {
         self.iter().flatten().count()
     }
 
+    /// The number of trees with which, if bags are drawn with equal chances, each of these rows is almost sure to have a mean: in at most
+    /// one forest of a hundred some row has none. `None` for less than two rows, since a single one is in every bag.
+    ///
+    /// ```
+    /// use tailboardy::{DenseMatrix, RandomForestRegressor, RandomForestRegressorParameters};
+    ///
+    /// let x = DenseMatrix::new(80, 1, (0..80).map(f64::from).collect(), false)?;
+    /// let parameters = RandomForestRegressorParameters::default()
+    ///     .with_n_trees(20)
+    ///     .with_keep_samples(true);
+    /// let means = RandomForestRegressor::fit(&x, &[1.0; 80], parameters)?.predict_oob(&x)?;
+    /// assert_eq!((means.enough_trees(), means.count()), (Some(20), 80));
+    /// # Ok::<(), tailboardy::Refusal>(())
+    /// ```
+    #[must_use]
+    pub fn enough_trees(&self) -> Option<usize> {
+        let rows = u16::try_from(self.0.len()).map(f64::from);
+        let rows = rows.ok().filter(|rows| *rows >= 2.0)?;
+        let left_out = (1.0 - 1.0 / rows).powf(rows);
+        // the chance that some row has no mean is at most the sum of their chances
+        let trees = (0.01 / rows).ln() / (1.0 - left_out).ln();
+        Some(trees.ceil() as usize)
+    }
+
     /// The out-of-bag error, computed by the proved library: the sum of the squared differences between target and mean, divided by the
-    /// number of all rows. A row without a mean adds nothing, so the error is too optimistic for a forest that leaves few rows out; see
-    /// [`count`](OutOfBagMeans::count).
+    /// number of rows that have a mean. A row without one adds nothing and is not counted.
     ///
     /// ```
     /// use tailboardy::{DenseMatrix, RandomForestRegressor, RandomForestRegressorParameters};
@@ -205,29 +228,72 @@ impl OutOfBagMeans {
     /// let y = [0.0, 0.0, 10.0, 10.0];
     /// let parameters = RandomForestRegressorParameters::default().with_keep_samples(true);
     /// let means = RandomForestRegressor::fit(&x, &y, parameters)?.predict_oob(&x)?;
-    /// assert!(means.error(&y)? < 50.0);
+    /// let error = means.error(&y)?;
+    /// assert!(error.error < 50.0 && error.rows == means.count());
     /// assert_eq!(means.error(&y[1..]).unwrap_err().number(), 2);
+    ///
+    /// let all = RandomForestRegressor::fit(&x, &y, parameters.with_bootstrap(false))?.predict_oob(&x)?;
+    /// assert_eq!(
+    ///     all.error(&y).unwrap_err().to_string(),
+    ///     "refusal 18 (no means): each of the 4 rows is in every tree's bag, and it takes some 16 trees to leave out each of them; \
+    ///      grow more trees, with bootstrap, on two rows or more"
+    /// );
     /// # Ok::<(), tailboardy::Refusal>(())
     /// ```
     ///
     /// # Errors
     ///
-    /// Refusal 2 if there is not one target per row, and 100 if the error is not finite: a target is not, or a square is too large.
-    pub fn error(&self, y: &[f64]) -> Result<f64, Refusal> {
+    /// Refusal 2 if there is not one target per row, 18 if no row has a mean, and 100 if the error is not finite: the target of a row that
+    /// has a mean is not, or a square is too large.
+    pub fn error(&self, y: &[f64]) -> Result<OutOfBagError, Refusal> {
         let rows = self.0.len();
         let told = linked::out_of_bag_error(rows, y, &self.0);
-        match told.number {
-            0 => finite::error(told.error, y),
-            number => Err(Refusal::of(
-                number,
-                Some(Fault::Length {
-                    list: "targets",
-                    is: y.len(),
-                    asked: rows,
-                }),
-            )),
-        }
+        let fault = match told.number {
+            0 => {
+                finite::error(told.error, y, &self.0)?;
+                return Ok(OutOfBagError {
+                    error: told.error,
+                    rows: told.rows as usize,
+                });
+            }
+            18 => Fault::InEveryBag {
+                rows,
+                trees: self.enough_trees(),
+            },
+            _ => Fault::Length {
+                list: "targets",
+                is: y.len(),
+                asked: rows,
+            },
+        };
+        Err(Refusal::of(told.number, Some(fault)))
     }
+}
+
+/// The out-of-bag error of a forest, and how many rows it is over.
+///
+/// ```
+/// use tailboardy::{DenseMatrix, RandomForestRegressor, RandomForestRegressorParameters};
+///
+/// let x = DenseMatrix::from_2d_array(&[[1.0], [2.0], [3.0], [4.0], [5.0], [6.0]])?;
+/// let y = [0.0, 0.0, 0.0, 10.0, 10.0, 10.0];
+/// let parameters = RandomForestRegressorParameters::default()
+///     .with_n_trees(3)
+///     .with_keep_samples(true);
+/// let means = RandomForestRegressor::fit(&x, &y, parameters)?.predict_oob(&x)?;
+/// let told = means.error(&y)?;
+/// println!("{} over {} of {} rows", told.error, told.rows, means.len());
+/// if 10 * told.rows < 9 * means.len() {
+///     println!("too few trees to tell");
+/// }
+/// # Ok::<(), tailboardy::Refusal>(())
+/// ```
+#[derive(Debug, Clone, Copy, PartialEq)]
+pub struct OutOfBagError {
+    /// The mean of the squared differences between target and out-of-bag mean.
+    pub error: f64,
+    /// The number of rows that have an out-of-bag mean. The error says nothing of the others.
+    pub rows: usize,
 }
 
 /// The library has a NaN for a row without a mean.

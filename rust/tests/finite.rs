@@ -152,11 +152,17 @@ fn errors() {
     let means = given(&[1.0, 2.0, 3.0, 0.0], &[[1, 1, 1, 0]])
         .predict_oob(&four())
         .unwrap();
-    assert_eq!(means.error(&[1.0, 2.0, 3.0, 6.0]).unwrap(), 4.0);
+    let error = means.error(&[1.0, 2.0, 3.0, 6.0]).unwrap();
+    assert_eq!((error.error, error.rows), (16.0, 1));
     let large = means.error(&[0.0, 0.0, 0.0, 1e200]);
     refused(large, "the out-of-bag error is inf");
     let none = [0.0, 0.0, 0.0, f64::NAN];
     refused(means.error(&none), "the target of row 3 is NaN");
+    // a row without a mean has no part in it
+    let other = [f64::NAN, 0.0, 0.0, 6.0];
+    assert_eq!(means.error(&other).unwrap().error, 16.0);
+    let both = [f64::NAN, 0.0, 0.0, 1e200];
+    refused(means.error(&both), "the out-of-bag error is inf");
 }
 
 /// Scores whose sum is infinite would all be divided to 0.

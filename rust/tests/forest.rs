@@ -106,10 +106,9 @@ fn a_row_left_out_is_told_by_the_others() {
             means.iter().collect::<Vec<_>>(),
             [None, Some(0.0), None, None]
         );
-        assert_eq!(
-            (means.count(), means.error(given.y).unwrap()),
-            (1, target * target / 4.0)
-        );
+        let error = means.error(given.y).unwrap();
+        assert_eq!((error.error, error.rows), (target * target, 1));
+        assert_eq!(means.count(), 1);
     }
 }
 

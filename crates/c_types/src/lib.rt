@@ -179,10 +179,12 @@ pub fn error_told_of(reply: ErrorReply) -> ErrorTold
         ErrorReply::Refused(n) => ErrorTold {
             number: n,
             error: 0.0,
+            rows: 0,
         },
-        ErrorReply::Error(e) => ErrorTold {
+        ErrorReply::Error(f) => ErrorTold {
             number: 0,
-            error: e,
+            error: f.error,
+            rows: f.rows,
         },
     }
 }

@@ -155,7 +155,7 @@ pub forest-numbers : (a b : ForestTold) → forestNumbers a ≡ forestNumbers b 
 forest-numbers a b h = λ i. record { number = h i .number; tree = h i .tree; search = h i .search }
 
 pub error-numbers : (a b : ErrorTold) → errorNumbers a ≡ errorNumbers b → a ≡ b
-error-numbers a b h = λ i. record { number = h i .number; error = h i .error }
+error-numbers a b h = λ i. record { number = h i .number; error = h i .error; rows = h i .rows }
 
 pub node-numbers : (a b : NodeTold) → nodeNumbers a ≡ nodeNumbers b → a ≡ b
 node-numbers a b h =

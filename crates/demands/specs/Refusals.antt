@@ -15,6 +15,7 @@ use Rattle.rules.specs.declared.Place.{Place}
 use Rattle.rules.specs.declared.TreeAnswer.{TreeAnswer}
 use Rattle.rules.specs.declared.ForestAnswer.{ForestAnswer}
 use Rattle.rules.specs.declared.Reply.{Reply}
+use Rattle.rules.specs.declared.Figure.{Figure}
 use Rattle.rules.specs.declared.ErrorReply.{ErrorReply}
 use Rattle.rules.specs.declared.NodeReply.{NodeReply}
 use Rattle.rules.specs.Words.{nought, filled}
@@ -41,7 +42,7 @@ pub record OrderOfChecks {W : Type 0} (K : WaitingForm W) : Type 0 where
   pub predictions : (S : Shape) (xs : List Float) (c : Columns) (out : List Float) → numbers (predictTests S xs c out) ≡ 1 ∷ 2 ∷ 6 ∷ 8 ∷ []
   pub means : (S : Shape) (xs : List Float) (T : ForestTable) (out : List Float) → numbers (meanTests S xs T out) ≡ 1 ∷ 2 ∷ 6 ∷ 8 ∷ []
   pub outOfBag : (S : Shape) (xs : List Float) (ks : List ℕ) (T : ForestTable) (out : List Float) → numbers (outTests S xs ks T out) ≡ 1 ∷ 9 ∷ 10 ∷ 2 ∷ 6 ∷ 8 ∷ []
-  pub error : (rows : ℕ) (ys ms : List Float) → numbers (errorTests rows ys ms) ≡ 1 ∷ 2 ∷ []
+  pub error : (rows : ℕ) (ys ms : List Float) → numbers (errorTests rows ys ms) ≡ 1 ∷ 2 ∷ 18 ∷ []
   pub treeImportances : (features : ℕ) (c : Columns) (out : List Float) → numbers (treeImportanceTests features c out) ≡ 1 ∷ 6 ∷ 8 ∷ []
   pub forestImportances : (features : ℕ) (T : ForestTable) (out : List Float) → numbers (forestImportanceTests features T out) ≡ 1 ∷ 6 ∷ 8 ∷ []
   pub treeTable : (features : ℕ) (c : Columns) → numbers (treeTableTests features c) ≡ 1 ∷ 8 ∷ []
@@ -119,7 +120,7 @@ By ts Reply.Done = firstFailed ts ≡ 0
 
 abbrev pub ErrorBy : List Test → ErrorReply → Type 0
 ErrorBy ts (ErrorReply.Refused n) = (firstFailed ts ≡ n) × (1 ≤ n)
-ErrorBy ts (ErrorReply.Error e) = firstFailed ts ≡ 0
+ErrorBy ts (ErrorReply.Error f) = firstFailed ts ≡ 0
 
 abbrev pub NodeBy : List Test → NodeReply → Type 0
 NodeBy ts (NodeReply.Refused n) = (firstFailed ts ≡ n) × (1 ≤ n)
@@ -265,9 +266,9 @@ check-refused =
     plain ts zero q = q
     plain ts (suc k) q = failed ts k q
 
-    error : (ts : List Test) (k : ℕ) → firstFailed ts ≡ k → (e : Float) → ErrorBy ts (errs k e)
-    error ts zero q e = q
-    error ts (suc k) q e = (q, omega arith)
+    error : (ts : List Test) (k : ℕ) → firstFailed ts ≡ k → (f : Figure) → ErrorBy ts (errs k f)
+    error ts zero q f = q
+    error ts (suc k) q f = (q, omega arith)
 
     node : (ts : List Test) (n : ℕ) → firstFailed ts ≡ n → (c : Columns) (k : ℕ) → NodeBy ts (nodeRead n c k)
     node ts (suc n) q c k = (q, omega arith)

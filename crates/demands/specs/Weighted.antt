@@ -1,26 +1,31 @@
 -- A forest with weights has every row in every bag. One that is not refused has every count 1, so no row of it has an out-of-bag mean: read with its own counts, each
--- is a NaN. And a count of 0, as any other than 1, is refused with 4 as soon as what is checked before it passes. Assumes nothing.
-use Prim.Native.Nat.{ℕ, _+_, _*_, _<_}
+-- is a NaN, and their error is refused with 18. And a count of 0, as any other than 1, is refused with 4 as soon as what is checked before it passes. Assumes nothing.
+use Prim.Native.Nat.{ℕ, zero, suc, _+_, _*_, _<_}
 use native.Mathlib.Nat.{suc-mul, mul-le-mul-right, zero-lt-suc}
 use native.Mathlib.Omega.{arith}
-use mathlib.Core.Path.{_≡_, refl, sym, subst}
-use mathlib.Core.Bool.{Bool, true, false, _&&_}
+use mathlib.Core.Path.{_≡_, refl, sym, ap, _∙_, subst}
+use mathlib.Core.Bool.{Bool, true, false, not, _&&_}
 use mathlib.Core.List.{List, _∷_}
-use lib.ListN.{length, getD}
+use lib.ListN.{length, getD, length-map}
 use lib.Dec.{T, eqb→eq}
-use lib.Ieee.{Float, nan}
+use lib.Ieee.{Float, nan, isNan}
 use lib.Ieee.Fits.{and-r}
 use Rattle.rules.specs.declared.ForestAnswer.{ForestAnswer}
 use Rattle.rules.specs.declared.Reply.{Reply}
+use Rattle.rules.specs.declared.ErrorReply.{ErrorReply}
+use Rattle.rules.specs.Words.{from}
 use Rattle.rules.specs.Lent.{WaitingForm, ForestRooms, unweighted}
 use Rattle.rules.specs.Checks.{Test, test, firstFailed, treesIn, shapeIn, lengths, numbersGood, countsGood, countsOne}
+use Rattle.rules.specs.Reading.{reads}
 use Rattle.rules.specs.Forest.{ForestCall, grownForest, tapesGood, forestTests, forestEnds, fitForest}
-use Rattle.lemmas.specs.Lists.{or-other, Every, each, every-imp, every-at}
-use Rattle.lemmas.specs.Passed.{past, Binary64}
+use Rattle.rules.specs.OutOfBag.{outOfBagMeans, outOfBagError}
+use Rattle.lemmas.specs.Lists.{or-other, Every, each, every-imp, every-at, length-from}
+use Rattle.lemmas.specs.Passed.{past, Passed, Binary64}
 use Rattle.lemmas.specs.Answered.{forest-answered, forest-right}
 use Rattle.demands.specs.Refusals.{ForestUnrefused, forest-passes}
 use Rattle.demands.specs.OutOfBag.{ownMeans, own-done}
 use Rattle.demands.specs.Means.{in-every-bag}
+use Rattle.demands.specs.Error.{no-mean}
 
 -- ---- the statements
 
@@ -34,6 +39,12 @@ NoMeans =
     (W : Type 0) (K : WaitingForm W) (C : ForestCall) (R : ForestRooms W) → unweighted (C .given .weights) ≡ false → Binary64 (C .given .inputs .values)
     → fitForest K C R .answer ≡ ForestAnswer.Grown → (out : List Float) → length out ≡ C .shape .rows → (i : ℕ) → i < C .shape .rows
     → (ownMeans K C R out .answer ≡ Reply.Done) × (getD (ownMeans K C R out .rooms) i nan ≡ nan)
+
+abbrev pub NoError : Type 1
+NoError =
+    (W : Type 0) (K : WaitingForm W) (C : ForestCall) (R : ForestRooms W) → unweighted (C .given .weights) ≡ false → Binary64 (C .given .inputs .values)
+    → fitForest K C R .answer ≡ ForestAnswer.Grown → (out : List Float) → length out ≡ C .shape .rows
+    → outOfBagError (C .shape .rows) (C .given .inputs .targets) (ownMeans K C R out .rooms) ≡ ErrorReply.Refused 18
 
 abbrev pub OtherCount : Type 1
 OtherCount =
@@ -75,6 +86,28 @@ no-means W K C R u held h out o i b = (
         let a = forest-answered K C R h in
         every-at (λ k. k ≡ 1) (C .given .counts) 0 (t * C .shape .rows + i) (passed-ones K C R u (a .passed))
         (inside t (C .trees) (C .shape .rows) i (length (C .given .counts)) l b (forest-right K C R a .passed .countsLong))
+
+-- ---- their error
+
+read-long : (n k : ℕ) (results out : List Float) → length results ≡ k → length out ≡ k → length (reads n results out .rooms) ≡ k
+unfolding reads
+read-long zero k results out r o = r
+read-long (suc n) k results out r o = o
+
+pub no-error : NoError
+unfolding outOfBagMeans isNan
+no-error W K C R u held h out o =
+    no-mean (C .shape .rows) (C .given .inputs .targets) (ownMeans K C R out .rooms)
+    (record {
+      some = p .someRows;
+      few = p .fewRows;
+      targets = p .targetsLong;
+      means = read-long _ (C .shape .rows) _ out (length-map (from 0 (C .shape .rows)) _ ∙ length-from 0 (C .shape .rows)) o;
+    })
+    (λ i b. ap (λ m. not (isNan m)) (no-means W K C R u held h out o i b .1))
+  where
+    p : Passed (C .shape) (C .trees) (C .given)
+    p = forest-right K C R (forest-answered K C R h) .passed
 
 -- ---- another count
 

@@ -1,4 +1,4 @@
--- The rehearsal table: P1 to P10, with P1's importances and node rooms, over the whole calls, rooms included. One list and one theorem, by computation.
+-- The rehearsal table: P1 to P10, with P1's importances and node rooms and P8's out-of-bag error, over the whole calls, rooms included. One list and one theorem, by computation.
 -- What a call leaves is written out to the last float, so that a wrong one differs at once. Beside it the two corners of the threshold. Assumes nothing.
 use Prim.Native.Nat.{ℕ}
 use mathlib.Core.Path.{_≡_, refl}
@@ -16,6 +16,7 @@ use Rattle.rules.specs.declared.Scale.the-variants.{Normalised, ByMass}
 use Rattle.rules.specs.declared.TreeAnswer.{TreeAnswer}
 use Rattle.rules.specs.declared.ForestAnswer.{ForestAnswer}
 use Rattle.rules.specs.declared.Reply.{Reply}
+use Rattle.rules.specs.declared.ErrorReply.{ErrorReply}
 use Rattle.rules.specs.Words.{float, from, putIf, keep, every, alongFrom, along, total, member, fresh, eachOnce}
 use Rattle.rules.specs.Totals.{takeIn, less, valueOf, massless, gap, proxy, score}
 use Rattle.rules.specs.Threshold.{midpoint, thresholdBetween}
@@ -29,7 +30,7 @@ use Rattle.rules.specs.Fit.{listing, elementIn, element, column, root, treeOf, 
 use Rattle.rules.specs.Table.{isLeaf, goodEntry, goodFrom, goodTree, treeIn, startsGood, treeAt, treesOf, goodForest}
 use Rattle.rules.specs.Reading.{onto, walked, leafValue, reads, addTrees, meanOf, scored, addScores, sumFrom, dividedIf, normalised, scoresOf, scaled, treeImportanceTests, treeImportances}
 use Rattle.rules.specs.Forest.{ForestCall, squares, triedOf, part, oneTreeAt, eachTree, withTree, nextTree, growTrees, grownForest, startsFrom, forestEntries, tapesGood, roomsGood, forestTests, forestDone, forestEnds, fitForest}
-use Rattle.rules.specs.OutOfBag.{outTrees, outOfBagMean, outTests, outOfBagMeans}
+use Rattle.rules.specs.OutOfBag.{outTrees, outOfBagMean, outTests, outOfBagMeans, squareOff, addSquares, rowsWithMean, figure, errorTests, errs, outOfBagError}
 
 -- ---- a call of the table, and what it leaves
 
@@ -37,13 +38,13 @@ pub data Call : Type 0 where
   fits : TreeCall → TreeRooms WaitingRoom → Call
   -- the fit of a tree, then its importances
   weighs : Scale → TreeCall → TreeRooms WaitingRoom → List Float → Call
-  -- the fit of a forest, then its out-of-bag means with the fit's own counts and features
+  -- the fit of a forest, then its out-of-bag means with the fit's own counts and features, then their error with the fit's own targets
   bags : ForestCall → ForestRooms WaitingRoom → List Float → Call
 
 pub data Seen : Type 0 where
   fitted : Outcome TreeAnswer (TreeRooms WaitingRoom) → Seen
   read : Outcome Reply (List Float) → Seen
-  bagged : Outcome ForestAnswer (ForestRooms WaitingRoom) → Outcome Reply (List Float) → Seen
+  bagged : Outcome ForestAnswer (ForestRooms WaitingRoom) → Outcome Reply (List Float) → ErrorReply → Seen
 
 unfoldable pub run : Call → Seen
 unfolding from putIf keep every alongFrom along total member fresh eachOnce takeIn less valueOf massless gap proxy score midpoint thresholdBetween valuesAt cell listingAt
@@ -53,12 +54,13 @@ unfolding from putIf keep every alongFrom along total member fresh eachOnce take
     root treeOf growFrom fit entryOf entries limitOf paramsOf oneTreeOf grownTree treeTests treeDone treeEnds fitTree isLeaf goodEntry goodFrom goodTree treeIn startsGood
     treeAt treesOf goodForest onto walked leafValue reads addTrees meanOf scored addScores sumFrom dividedIf normalised scoresOf scaled treeImportanceTests treeImportances
     squares triedOf part oneTreeAt eachTree withTree nextTree growTrees grownForest startsFrom forestEntries tapesGood roomsGood forestTests forestDone forestEnds fitForest
-    outTrees outOfBagMean outTests outOfBagMeans add sub mul div lt le eq isNan ofInt ofBits
+    outTrees outOfBagMean outTests outOfBagMeans squareOff addSquares rowsWithMean figure errorTests errs outOfBagError add sub mul div lt le eq isNan ofInt ofBits
 run (fits C R) = fitted (fitTree waitingRoom C R)
 run (weighs by C R out) = read (treeImportances (C .shape .features) by (fitTree waitingRoom C R .rooms .nodes) out)
 run (bags C R out) =
     let F = fitForest waitingRoom C R in
-    bagged F (outOfBagMeans (C .shape) (C .given .inputs .values) (C .given .counts) (record { trees = C .trees; nodes = F .rooms .nodes; starts = F .rooms .starts }) out)
+    let M = outOfBagMeans (C .shape) (C .given .inputs .values) (C .given .counts) (record { trees = C .trees; nodes = F .rooms .nodes; starts = F .rooms .starts }) out in
+    bagged F M (outOfBagError (C .shape .rows) (C .given .inputs .targets) (M .rooms))
 
 -- ---- the table's calls
 
@@ -220,19 +222,24 @@ no n R = fitted (record { answer = TreeAnswer.Refused n; rooms = R })
 abbrev results : List Float → Outcome Reply (List Float)
 results l = record { answer = Reply.Done; rooms = l }
 
--- P8's forest, with the means of its one tree for the rows that it leaves out
-abbrev oneTree : List Float → Seen
-oneTree means =
+-- a forest of one tree that takes three words, with the means for the rows that it leaves out, and their error
+abbrev oneTree : ℕ → Columns → List Float → ErrorReply → Seen
+oneTree n c means error =
     bagged (record {
       answer = ForestAnswer.Grown;
       rooms = record {
-        nodes = five;
-        starts = 0 ∷ 5 ∷ [];
-        reports = record { nodes = 5 ∷ []; depth = 3 ∷ []; mass = f4 ∷ []; searches = 3 ∷ []; words = 3 ∷ []; thresholds = 0 ∷ [] };
+        nodes = c;
+        starts = 0 ∷ n ∷ [];
+        reports = record { nodes = n ∷ []; depth = 3 ∷ []; mass = f4 ∷ []; searches = 3 ∷ []; words = 3 ∷ []; thresholds = 0 ∷ [] };
         work = work 0 false f0;
       };
     })
     (results means)
+    error
+
+-- P8's: the second row alone has a mean
+abbrev bagOfP8 : Float → Seen
+bagOfP8 error = oneTree 5 five (nan ∷ f0 ∷ nan ∷ nan ∷ []) (ErrorReply.Error (record { error = error; rows = 1 }))
 
 -- ---- the table
 
@@ -260,11 +267,11 @@ cases =
     ∷ case (fits (tree Unlimited 1 5 plain) (lent 7)) (says 1 0 f4 0 (lone f5 6))
     -- P7
     ∷ case (fits (tree Unlimited 1 2 (given (7 ∷ 7 ∷ 7 ∷ 7 ∷ []) flats ones sorted)) (lent 7)) (says 1 0 f4 1 (lone f5 6))
-    -- P8, in the five places that are asked: the tree, and the forest of it alone with the second row's out-of-bag value, also if that row's target is -1000
+    -- P8, in the five places that are asked: the tree, and the forest of it alone with the second row's out-of-bag value, also if that row's target is -1000; then the error is a million
     ∷ case (fits (tree Unlimited 1 2 (sampled flats)) (lent 5)) (says 5 3 f4 3 five)
     ∷ case (fits (tree Unlimited 1 2 (sampled deep)) (lent 5)) (says 5 3 f4 3 five)
-    ∷ case (bags (forest (sampled flats)) (lentAll 5) (nineFloats 4)) (oneTree (nan ∷ f0 ∷ nan ∷ nan ∷ []))
-    ∷ case (bags (forest (sampled deep)) (lentAll 5) (nineFloats 4)) (oneTree (nan ∷ f0 ∷ nan ∷ nan ∷ []))
+    ∷ case (bags (forest (sampled flats)) (lentAll 5) (nineFloats 4)) (bagOfP8 f0)
+    ∷ case (bags (forest (sampled deep)) (lentAll 5) (nineFloats 4)) (bagOfP8 (times 15625 6))
     -- P9: node room 1 is enough
     ∷ case (fits (tree Unlimited 1 2 (given rise flats (0 ∷ 0 ∷ 0 ∷ 0 ∷ []) sorted)) (lent 1)) (says 1 0 f0 0 (lone f0 0))
     -- P10
@@ -272,6 +279,8 @@ cases =
     -- P1's importance: 1 normalised, 25 not
     ∷ case (weighs Normalised (tree Unlimited 1 2 plain) (lent 7) (nineFloats 1)) (read (results (times 1 0 ∷ [])))
     ∷ case (weighs (ByMass (float 4)) (tree Unlimited 1 2 plain) (lent 7) (nineFloats 1)) (read (results (times 25 0 ∷ [])))
+    -- P1's forest leaves no row out
+    ∷ case (bags (forest plain) (lentAll 7) (nineFloats 4)) (oneTree 7 (seven 0) (replicate 4 nan) (ErrorReply.Refused 18))
     -- node room 6 for P1, and 7
     ∷ case (fits (tree Unlimited 1 2 plain) (lent 6)) (no 6 (lent 6))
     ∷ case (fits (tree Unlimited 1 2 plain) (lent 7)) (says 7 3 f4 3 (seven 0))
@@ -283,7 +292,7 @@ Holds (c ∷ cs) = (run (c .call) ≡ c .leaves) × Holds cs
 
 pub rehearsal : Holds cases
 unfolding cases run
-rehearsal = (refl, (refl, (refl, (refl, (refl, (refl, (refl, (refl, (refl, (refl, (refl, (refl, (refl, (refl, (refl, (refl, (refl, (refl, tt))))))))))))))))))
+rehearsal = (refl, (refl, (refl, (refl, (refl, (refl, (refl, (refl, (refl, (refl, (refl, (refl, (refl, (refl, (refl, (refl, (refl, (refl, (refl, tt)))))))))))))))))))
 
 -- ---- the corners of the threshold
 

@@ -227,6 +227,6 @@ pub fn replay_error(call: &[usize], reals: &[f64], answer: &[usize]) -> Verdict 
         calls::reals(reals, p.means, p.room),
     );
     let t = c_types::error_told_of(r);
-    let told = [t.number as usize, rooms::pattern(t.error)];
-    rooms::judged(answer, &told, rooms::first(2))
+    let told = [t.number as usize, rooms::pattern(t.error), t.rows as usize];
+    rooms::judged(answer, &told, rooms::first(3))
 }

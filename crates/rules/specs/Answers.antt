@@ -44,11 +44,12 @@ replyTold Reply.Done = 0
 pub record ErrorTold : Type 0 where
   pub number : ℕ
   pub error : Float
+  pub rows : ℕ
 
 -- R15.4
 abbrev pub errorTold : ErrorReply → ErrorTold
-errorTold (ErrorReply.Refused n) = record { number = n; error = nought }
-errorTold (ErrorReply.Error e) = record { number = 0; error = e }
+errorTold (ErrorReply.Refused n) = record { number = n; error = nought; rows = 0 }
+errorTold (ErrorReply.Error f) = record { number = 0; error = f .error; rows = f .rows }
 
 -- R15.5: whether the node is there, and its six values
 pub record NodeTold : Type 0 where

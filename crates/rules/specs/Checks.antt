@@ -1,4 +1,4 @@
--- How the first test that fails decides, and the tests behind refusals 1, 2, 3, 4 and 6. Those of 5 are in Listing, of 7 in Draws, of 8 in Table, of 9 and 10 in OutOfBag.
+-- How the first test that fails decides, and the tests behind refusals 1, 2, 3, 4 and 6. Those of 5 are in Listing, of 7 in Draws, of 8 in Table, of 9, 10 and 18 in OutOfBag.
 use Prim.Native.Nat.{ℕ, zero, suc, _-_, _*_, max}
 use mathlib.Core.Bool.{Bool, not, _&&_, _||_, cond}
 use mathlib.Core.List.{List, [], _∷_}

@@ -1,14 +1,15 @@
--- Out-of-bag means, refusals 9 and 10, and the error of the means.
+-- Out-of-bag means, the error of the means, and refusals 9, 10 and 18.
 use Prim.Native.Nat.{ℕ, zero, suc, _+_, _*_}
-use mathlib.Core.Bool.{_&&_, cond}
+use mathlib.Core.Bool.{not, _&&_, cond}
 use mathlib.Core.List.{List, [], _∷_, map}
 use lib.ListN.{length, getD}
 use lib.Dec.{ltb, eqb}
 use lib.Ieee.{Float, binary64, add, sub, mul, div, isNan}
 use Rattle.rules.specs.declared.Shape.{Shape}
 use Rattle.rules.specs.declared.Reply.{Reply}
+use Rattle.rules.specs.declared.Figure.{Figure}
 use Rattle.rules.specs.declared.ErrorReply.{ErrorReply}
-use Rattle.rules.specs.Words.{nought, float, from, putIf}
+use Rattle.rules.specs.Words.{nought, float, from, putIf, keep}
 use Rattle.rules.specs.Lent.{Entry, Outcome, valuesAt}
 use Rattle.rules.specs.Checks.{Test, test, firstFailed, rowsIn, treesIn, shapeIn, valuesLong}
 use Rattle.rules.specs.Table.{ForestTable, treesOf, goodForest, startsEnough}
@@ -52,15 +53,27 @@ addSquares s [] ms = s
 addSquares s (y ∷ ys) [] = s
 addSquares s (y ∷ ys) (m ∷ ms) = addSquares (cond (isNan m) s (add binary64 s (squareOff y m))) ys ms
 
--- R14.5
-unfoldable pub errs : ℕ → Float → ErrorReply
-errs zero e = ErrorReply.Error e
-errs (suc n) e = ErrorReply.Refused (suc n)
+-- R14.5: the number of rows that have a mean
+unfoldable pub rowsWithMean : List Float → ℕ
+rowsWithMean ms = length (keep (λ m. not (isNan m)) ms)
 
--- R14.5
+-- R14.5: the sum is divided by these rows alone
+unfoldable pub figure : List Float → List Float → Figure
+figure ys ms = record { error = div binary64 (addSquares nought ys ms) (float (rowsWithMean ms)); rows = rowsWithMean ms }
+
+-- R14.6
 unfoldable pub errorTests : ℕ → List Float → List Float → List Test
-errorTests rows ys ms = test 1 (rowsIn rows) ∷ test 2 (eqb (length ys) rows && eqb (length ms) rows) ∷ []
+errorTests rows ys ms =
+    test 1 (rowsIn rows)
+    ∷ test 2 (eqb (length ys) rows && eqb (length ms) rows)
+    ∷ test 18 (ltb 0 (rowsWithMean ms))
+    ∷ []
 
--- R14.5: rows without a mean are counted all the same
+-- R14.6
+unfoldable pub errs : ℕ → Figure → ErrorReply
+errs zero f = ErrorReply.Error f
+errs (suc n) f = ErrorReply.Refused (suc n)
+
+-- R14.6
 unfoldable pub outOfBagError : ℕ → List Float → List Float → ErrorReply
-outOfBagError rows ys ms = errs (firstFailed (errorTests rows ys ms)) (div binary64 (addSquares nought ys ms) (float rows))
+outOfBagError rows ys ms = errs (firstFailed (errorTests rows ys ms)) (figure ys ms)

@@ -63,7 +63,7 @@ forestNumbers t = record { number = t .number; tree = t .tree; search = t .searc
 
 -- R16.2
 abbrev pub errorNumbers : ErrorTold → Answers.ErrorTold
-errorNumbers t = record { number = t .number; error = t .error }
+errorNumbers t = record { number = t .number; error = t .error; rows = t .rows }
 
 -- R16.2
 abbrev pub nodeNumbers : NodeTold → Answers.NodeTold

@@ -129,10 +129,16 @@ pub enum Reply {
     Done,
 }
 
+// R0.21: An out-of-bag error, and the number of rows that it is over.
+pub struct Figure {
+    pub error: f64,
+    pub rows: u32,
+}
+
 // R0.21
 pub enum ErrorReply {
     Refused(u32),
-    Error(f64),
+    Error(Figure),
 }
 
 // R0.21: A good tree may have no node of the number asked.
@@ -189,11 +195,12 @@ pub struct ForestTold {
     pub search: u32,
 }
 
-// R0.23: The error, or the number of a refusal.
+// R0.23: 0 or the number of a refusal, and the error with the number of rows that it is over.
 #[repr(C)]
 pub struct ErrorTold {
     pub number: u32,
     pub error: f64,
+    pub rows: u32,
 }
 
 // R0.23: Whether the node is there, and its place in the six columns; all zero where it is not.

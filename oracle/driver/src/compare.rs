@@ -93,6 +93,7 @@ pub fn compare(mut tally: Tally, count: usize, least: &Counts) -> ExitCode {
     exhaustive::words(|case| tally.hold(&case));
     exhaustive::tables(|case| tally.hold(&case));
     exhaustive::checks(|case| tally.hold(&case));
+    exhaustive::errors(|case| tally.hold(&case));
     limits_fit::each(&mut chance, |case| tally.hold(&case));
     limits_read::each(&mut Chance::new(5), |case| tally.hold(&case));
     random(&mut tally, &mut chance, count);

@@ -86,6 +86,7 @@ fn forest(library: &dyn Library, chance: &mut Chance) -> (Fit, bool) {
         && rooms.all(|(room, column)| room.entries.starts_with(column))
         && reads(library, &read, Reader::ForestMeans, &own.means)
         && reads(library, &read, Reader::OutOfBagMeans, &own.means_oob)
+        && error_told(library, &fit, &own.means_oob)
         && reads(library, &read, Reader::ForestImportances, &own.importances)
         && trees
             .iter()
@@ -111,6 +112,18 @@ fn nodes_told(library: &dyn Library, features: usize, nodes: &[NodeRecord]) -> b
         let left = run::run(library, &Call::Read(read.clone()));
         left.told.into_iter().eq(told)
     })
+}
+
+/// Whether the error of a forest's own means is as expected: most of these forests are so small that some rows have none.
+fn error_told(library: &dyn Library, fit: &Fit, means: &[f64]) -> bool {
+    let error = Call::Read(Read {
+        reader: Reader::OutOfBagError,
+        rows: fit.rows,
+        targets: fit.y.clone(),
+        means: means.to_vec(),
+        ..Read::default()
+    });
+    run::run(library, &error) == expect::expect(&error, 0)
 }
 
 fn tree(library: &dyn Library, chance: &mut Chance) -> (Fit, bool) {

@@ -7,6 +7,9 @@ use std::fmt;
 use std::process::ExitCode;
 use std::time::Instant;
 
+/// The numbers of the refusals, except that of a bad draw.
+const REFUSALS: [u64; 10] = [1, 2, 3, 4, 5, 6, 8, 9, 10, 18];
+
 /// How many calls were answered, by kind, and how many refused, by number.
 #[derive(Clone, Copy)]
 pub struct Counts {
@@ -17,8 +20,8 @@ pub struct Counts {
     pub nodes: usize,
     pub checks: usize,
     pub bad_draws: usize,
-    /// 1 to 6, then 8 to 10.
-    pub refusals: [usize; 9],
+    /// 1 to 6, then 8 to 10, then 18.
+    pub refusals: [usize; REFUSALS.len()],
 }
 
 impl Counts {
@@ -31,7 +34,7 @@ impl Counts {
             nodes: count,
             checks: count,
             bad_draws: count,
-            refusals: [count; 9],
+            refusals: [count; REFUSALS.len()],
         }
     }
 
@@ -45,8 +48,10 @@ impl Counts {
                 _ => &mut self.readers,
             },
             (7, _) => &mut self.bad_draws,
-            (number @ 1..7, _) => &mut self.refusals[number as usize - 1],
-            (number, _) => &mut self.refusals[number as usize - 2],
+            (number, _) => {
+                let place = REFUSALS.iter().position(|refusal| *refusal == number);
+                &mut self.refusals[place.expect("the number of a refusal")]
+            }
         };
         *count += 1;
     }
@@ -81,14 +86,18 @@ impl fmt::Display for Counts {
             bad_draws,
             refusals,
         } = self;
-        let (beside, (first, last)) = (self.beside_trees(), refusals.split_at(6));
+        let (beside, (first, rest)) = (self.beside_trees(), refusals.split_at(6));
+        let (next, last) = rest.split_at(3);
         write!(
             to,
             "{trees} trees grown; {beside} others: {forests} forests grown, "
         )?;
         write!(to, "{readers} answers of readers, {nodes} nodes read out, ")?;
         write!(to, "{checks} checks passed, {bad_draws} bad draws, ")?;
-        write!(to, "refusals 1 to 6 {first:?}, 8 to 10 {last:?}")
+        write!(
+            to,
+            "refusals 1 to 6 {first:?}, 8 to 10 {next:?}, 18 {last:?}"
+        )
     }
 }
 

@@ -189,21 +189,24 @@ pub fn forest_importances(
     refusal
 }
 
-/// The out-of-bag error, or 0 with a refusal: refusals 1, 2. A NaN mean adds nothing.
-pub fn out_of_bag_error(rows: usize, targets: &[f64], means: &[f64]) -> (u32, f64) {
+/// The out-of-bag error: the refusal, the error, and over how many rows it is; with a refusal the last two are 0. Refusals 1, 2, 18.
+/// A row that no tree left out has a NaN mean: it adds nothing and is not counted. Any other row is, whatever its target.
+pub fn out_of_bag_error(rows: usize, targets: &[f64], means: &[f64]) -> (u32, f64, u32) {
     let refusal = first_failed(&[
         (1, &|| rows_in_range(rows)),
         (2, &|| targets.len() == rows && means.len() == rows),
+        (18, &|| means.iter().any(|mean| !mean.is_nan())),
     ]);
     if refusal != 0 {
-        return (refusal, 0.0);
+        return (refusal, 0.0, 0);
     }
-    let mut sum = 0.0;
+    let (mut sum, mut counted) = (0.0, 0);
     for (target, mean) in targets.iter().zip(means) {
         if !mean.is_nan() {
             let off = target - mean;
             sum += off * off;
+            counted += 1;
         }
     }
-    (0, sum / rows as f64)
+    (0, sum / f64::from(counted), counted)
 }

@@ -182,9 +182,9 @@ impl Library for Proved {
         over!(forest_importances(features, trees, starts; t; out))
     }
 
-    fn out_of_bag_error(&self, rows: usize, targets: &[f64], means: &[f64]) -> (u32, f64) {
+    fn out_of_bag_error(&self, rows: usize, targets: &[f64], means: &[f64]) -> (u32, f64, u32) {
         let told = either::out_of_bag_error(rows, targets, means);
-        (told.number, told.error)
+        (told.number, told.error, told.rows)
     }
 
     fn check_listings(&self, rows: usize, features: usize, x: &[f64], listings: &[u32]) -> u32 {

@@ -10,12 +10,12 @@ use std::process::ExitCode;
 const FULL: Counts = Counts {
     trees: 400_000,
     forests: 40_000,
-    readers: 50_000,
+    readers: 57_000,
     nodes: 9_000,
     checks: 25_000,
     bad_draws: 12_000,
     refusals: [
-        40_000, 25_000, 7_500, 8_000, 8_000, 20_000, 150_000, 1_500, 1_200,
+        40_000, 25_000, 7_500, 8_000, 8_000, 20_000, 150_000, 1_500, 1_200, 3_500,
     ],
 };
 

@@ -126,7 +126,7 @@ fields! {
     TreeTold: number tree search nodes depth mass searches words thresholds;
     ForestSettings: limited limit leaf split said tried random;
     ForestTold: number tree search;
-    ErrorTold: number error;
+    ErrorTold: number error rows;
     NodeTold: number there value feature threshold score true_child false_child;
 }
 

@@ -9,6 +9,7 @@ use crate::number::Decimal;
 use crate::output::Output;
 use crate::page::data::{Fixture, Focused, Forest, Measurement, Outside, Page, Source};
 use crate::stop::Stop;
+use crate::summary::{few, out_of_bag};
 use crate::{outside, page, spread};
 use tailboardy::{RandomForestRegressor, Refusal};
 
@@ -92,14 +93,17 @@ fn filled(
             trees: forest.n_trees(),
             nodes: forest.nodes().len(),
             seed: task.parameters.seed,
-            error: means.error(&old.y).map_err(failed)?,
+            error: out_of_bag(&means, &old.y).map_err(failed)?,
         },
         measurements: measurements(both, &importances),
         across,
         up,
         fixtures: fixtures(both, forest, (across, up))?,
         focused: focused.collect(),
-        notes: notes(both),
+        notes: notes(both)
+            .into_iter()
+            .chain(few(&means, &task.parameters))
+            .collect(),
     })
 }
 

@@ -6,7 +6,10 @@ use crate::number::{Style, write};
 use crate::output::Output;
 use crate::show::Show;
 use crate::stop::Stop;
-use tailboardy::{RandomForestRegressor, RandomForestRegressorParameters, Refusal};
+use tailboardy::{
+    Cause, OutOfBagError, OutOfBagMeans, RandomForestRegressor, RandomForestRegressorParameters,
+    Refusal,
+};
 
 /// What `--json` writes if the input is refused: each line that is also on standard error.
 pub fn refused(lines: &[String]) -> Json {
@@ -123,8 +126,14 @@ impl Summary {
         let failed = |refusal: Refusal| Stop::refused(show.csv.file(), &refusal.to_string());
         self.trees(forest, parameters.seed);
         let means = forest.predict_oob(&show.x).map_err(failed)?;
-        let error = means.error(&show.y).map_err(failed)?;
-        self.error(error, means.count(), show.csv.rows());
+        self.error(out_of_bag(&means, &show.y).map_err(failed)?, means.len());
+        if let Some(warning) = few(&means, parameters) {
+            self.add(
+                "warnings",
+                Json::list([&warning]),
+                format!("warning: {warning}"),
+            );
+        }
         let importances = forest.compute_feature_importances().map_err(failed)?;
         let ranked = importances.ranked();
         let name = |feature: usize| show.features[feature].as_str();
@@ -158,22 +167,53 @@ impl Summary {
         self.add("forest", value, text);
     }
 
-    fn error(&mut self, error: f64, told: usize, rows: usize) {
-        if told == 0 {
+    fn error(&mut self, told: Option<OutOfBagError>, all: usize) {
+        let Some(OutOfBagError { error, rows }) = told else {
             let text = "out-of-bag error: none, because every tree uses every fixture";
             return self.add("out_of_bag", Json::Null, text);
-        }
+        };
         let root = error.sqrt();
         let value = Json::object([
             ("error", error.into()),
             ("square_root", root.into()),
-            ("fixtures", told.into()),
+            ("fixtures", rows.into()),
         ]);
         let text = format!(
-            "out-of-bag error: {} (square root {}); {told} of {rows} fixtures are left out by at least one tree",
+            "out-of-bag error: {} (square root {}), over {rows} of {all} fixtures",
             self.number(error),
             self.number(root),
         );
         self.add("out_of_bag", value, text);
     }
+}
+
+/// The out-of-bag error, if some fixture has a mean.
+pub fn out_of_bag(means: &OutOfBagMeans, y: &[f64]) -> Result<Option<OutOfBagError>, Refusal> {
+    match means.error(y) {
+        Err(refusal) if refusal.cause() == Cause::NoMeans => Ok(None),
+        error => error.map(Some),
+    }
+}
+
+/// A warning if fewer than nine tenths of the fixtures have a mean: the error is that of the others, and may mislead. Without
+/// bootstrap none has one, which was asked for.
+pub fn few(means: &OutOfBagMeans, parameters: &RandomForestRegressorParameters) -> Option<String> {
+    let (told, all) = (means.count(), means.len());
+    if !parameters.bootstrap || 10 * told >= 9 * all {
+        return None;
+    }
+    let why = match (told, all) {
+        (_, 1) => "the only fixture is in the bag of every tree".into(),
+        (0, _) => format!("none of the {all} fixtures is left out by a tree"),
+        (1, _) => format!("only 1 of {all} fixtures is left out by a tree"),
+        _ => format!("only {told} of {all} fixtures are left out by a tree"),
+    };
+    let enough = means.enough_trees().filter(|it| *it > parameters.n_trees);
+    let how = match enough {
+        Some(trees) => format!("grow at least {trees} trees (--n-trees {trees})"),
+        None => "grow more trees, or fit more fixtures".into(),
+    };
+    Some(format!(
+        "{why}, so little is known of how far off the corrections are; {how}"
+    ))
 }

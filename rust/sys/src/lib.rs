@@ -63,13 +63,14 @@ pub struct ForestTold {
     pub search: u32,
 }
 
-/// 0 or the number of a refusal, and the error.
+/// 0 or the number of a refusal, and the error with the number of rows that it is over.
 #[repr(C)]
 #[derive(Debug, Clone, Copy)]
 #[allow(missing_docs)]
 pub struct ErrorTold {
     pub number: u32,
     pub error: f64,
+    pub rows: u32,
 }
 
 /// 0 or the number of a refusal, whether the node exists, and its entries; a leaf has only the value.

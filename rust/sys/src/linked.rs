@@ -87,7 +87,7 @@ mod tests {
             };
             let told = out_of_bag_error(1, &[1.0], &[f64::MIN_POSITIVE / 4.0]);
             assert_eq!(mode() & !HAPPENED, PLAIN, "{other:x}");
-            assert_eq!((told.number, told.error), (0, 1.0));
+            assert_eq!((told.number, told.error, told.rows), (0, 1.0, 1));
         }
     }
 }

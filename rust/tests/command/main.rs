@@ -1,6 +1,7 @@
 //! The command, run as a user runs it: on shows/, and on files that are wrong.
 
 mod bad_input;
+mod bags;
 mod columns;
 mod faults;
 mod habits;

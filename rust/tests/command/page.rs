@@ -114,11 +114,8 @@ fn the_forest_and_its_error_are_on_the_page() {
         made.contains("1 tree with ") && made.contains("seed 7"),
         "{made}"
     );
-    let over = told
-        .err
-        .split("; ")
-        .find(|it| it.contains(" of 120 fixtures are left out"));
-    let over = over.unwrap().split(" fixtures").next().unwrap();
+    let over = told.err.split("), over ").nth(1).unwrap();
+    let over = over.split(" fixtures").next().unwrap();
     assert!(
         made.contains(&format!("over {over} fixtures")),
         "{over} in {made}"

@@ -2,6 +2,7 @@
 
 use crate::call::calls::{Read, Reader};
 use crate::make::chance::Chance;
+use crate::make::floats;
 use crate::make::read::is_forest;
 
 /// The refusals that a call can give, in the order of its checks.
@@ -12,7 +13,7 @@ fn order(reader: Reader) -> &'static [u32] {
         Reader::NormalisedImportances | Reader::ImportancesByMass | Reader::ForestImportances => {
             &[1, 6, 8]
         }
-        Reader::OutOfBagError => &[1, 2],
+        Reader::OutOfBagError => &[1, 2, 18],
         Reader::CheckListings => &[1, 2, 5],
         Reader::CheckTree | Reader::Node => &[1, 8],
         Reader::CheckForest => &[1, 6, 8],
@@ -36,6 +37,7 @@ pub fn damage(chance: &mut Chance, read: &mut Read) -> u32 {
             5 => listing(chance, read),
             6 => rooms(chance, read),
             8 => table(chance, read),
+            18 => no_mean(chance, read),
             9 => {
                 read.counts.clear();
                 true
@@ -102,6 +104,17 @@ fn lengths(chance: &mut Chance, read: &mut Read) -> bool {
         Reader::OutOfBagError => wrong_length(chance, &mut read.means, false),
         Reader::CheckListings if second => wrong_length(chance, &mut read.listings, false),
         _ => wrong_length(chance, &mut read.x, false),
+    }
+    true
+}
+
+/// Trees that leave no row out; NaN targets, which are no fault, must not change that.
+fn no_mean(chance: &mut Chance, read: &mut Read) -> bool {
+    for mean in read.means.iter_mut() {
+        *mean = floats::nan(chance);
+    }
+    if chance.one_in(4) {
+        read.targets = floats::anything(chance, read.rows);
     }
     true
 }

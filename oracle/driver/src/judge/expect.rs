@@ -6,7 +6,7 @@ use crate::call::outcome::{FILL, FILL_FLOAT, Outcome, Room, bits};
 use crate::judge::copied::{data, params, tree_counts};
 use copy::harness::{self, Grown, NodeRecord, Readable, Tape};
 
-/// `refusal` is the one for the fault in the input: 0 for none, although a draw of a fit may be bad.
+/// `refusal` is the one for the fault in the input: 0 for none, although a draw may be bad, or no row may have a mean.
 pub fn expect(call: &Call, refusal: u32) -> Outcome {
     match call {
         Call::Fit(fit) => expect_fit(fit, refusal),
@@ -200,7 +200,7 @@ fn expect_read(read: &Read, refusal: u32) -> Outcome {
     let mut told = vec![u64::from(refusal)];
     let mut rooms = Vec::new();
     match read.reader {
-        Reader::OutOfBagError => told.push(expect_error(read, refusal)),
+        Reader::OutOfBagError => told = expect_error(read, refusal).to_vec(),
         Reader::Node => told.extend(expect_node(read, refusal)),
         Reader::CheckListings | Reader::CheckTree | Reader::CheckForest => (),
         _ => {
@@ -228,16 +228,23 @@ fn results(read: &Read) -> Vec<f64> {
     }
 }
 
-/// smartcore does not compute this error, so the driver does.
-fn expect_error(read: &Read, refusal: u32) -> u64 {
+/// smartcore does not compute this error, so the driver does: the refusal, the error, and over how many rows it is. Whether a forest
+/// left any row out is seen only in its means, so 18 is found here even if no fault was put into the input.
+fn expect_error(read: &Read, refusal: u32) -> [u64; 3] {
     if refusal != 0 {
-        return 0;
+        return [u64::from(refusal), 0, 0];
+    }
+    let mut left_out: Vec<usize> = (0..read.rows).collect();
+    left_out.retain(|row| !read.means[*row].is_nan());
+    let rows = left_out.len();
+    if rows == 0 {
+        return [18, 0, 0];
     }
     let mut sum = 0.0f64;
-    for row in (0..read.rows).filter(|row| !read.means[*row].is_nan()) {
+    for row in left_out {
         sum += (read.targets[row] - read.means[row]).powi(2);
     }
-    bits(sum / read.rows as f64)
+    [0, bits(sum / rows as f64), rows as u64]
 }
 
 /// What follows the refusal: whether the node exists, and its entries; for a leaf only the value.

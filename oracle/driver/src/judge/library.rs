@@ -44,7 +44,8 @@ pub trait Library {
         starts: &[u32],
         out: &mut [f64],
     ) -> u32;
-    fn out_of_bag_error(&self, rows: usize, targets: &[f64], means: &[f64]) -> (u32, f64);
+    /// The refusal, the error, and over how many rows it is.
+    fn out_of_bag_error(&self, rows: usize, targets: &[f64], means: &[f64]) -> (u32, f64, u32);
     fn check_listings(&self, rows: usize, features: usize, x: &[f64], listings: &[u32]) -> u32;
     fn check_tree(&self, features: usize, t: &Table) -> u32;
     fn check_forest(&self, features: usize, trees: usize, t: &Table, starts: &[u32]) -> u32;
@@ -106,7 +107,7 @@ impl Library for Paper {
     ) -> u32 {
         paper::forest_importances(features, trees, t, starts, out)
     }
-    fn out_of_bag_error(&self, rows: usize, targets: &[f64], means: &[f64]) -> (u32, f64) {
+    fn out_of_bag_error(&self, rows: usize, targets: &[f64], means: &[f64]) -> (u32, f64, u32) {
         paper::out_of_bag_error(rows, targets, means)
     }
     fn check_listings(&self, rows: usize, features: usize, x: &[f64], listings: &[u32]) -> u32 {

@@ -228,8 +228,9 @@ fn run_read(library: &dyn Library, read: &Read) -> Outcome {
             library.forest_importances(features, trees, &t, starts, &mut out)
         }
         Reader::OutOfBagError => {
-            let (refusal, error) = library.out_of_bag_error(rows, &read.targets, &read.means);
-            return told_only(vec![u64::from(refusal), bits(error)]);
+            let (refusal, error, counted) =
+                library.out_of_bag_error(rows, &read.targets, &read.means);
+            return told_only(vec![u64::from(refusal), bits(error), u64::from(counted)]);
         }
         Reader::CheckListings => {
             let refusal = library.check_listings(rows, features, &read.x, &read.listings);

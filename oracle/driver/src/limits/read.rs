@@ -39,7 +39,7 @@ pub fn each(chance: &mut Chance, mut hold: impl FnMut(Case)) {
     }
     listings(chance, ROWS, 2, &mut hold);
     listings(chance, 2, FEATURES, &mut hold);
-    hold(error(chance));
+    errors(chance, &mut hold);
     hold(chain());
 }
 
@@ -130,15 +130,41 @@ fn chain() -> Case {
     Case::read(read, 0)
 }
 
-fn error(chance: &mut Chance) -> Case {
-    let mut means = floats::finite(chance, ROWS);
-    means[ROWS / 2] = f64::NAN;
-    let read = Read {
+/// The most rows, with a mean for all of them, all but one, every second, one alone, or none; and with no mean and a length that
+/// is off by one, or a row too many.
+fn errors(chance: &mut Chance, hold: &mut impl FnMut(Case)) {
+    let units = |chance: &mut Chance| (0..ROWS).map(|_| chance.unit()).collect();
+    let mut read = Read {
         reader: Reader::OutOfBagError,
         rows: ROWS,
-        targets: (0..ROWS).map(|_| chance.unit()).collect(),
-        means,
+        targets: units(chance),
+        means: units(chance),
         ..Read::default()
     };
-    Case::read(read, 0)
+    let with_mean: [fn(usize) -> bool; 7] = [
+        |_| true,
+        |row| row != ROWS / 2,
+        |row| row != ROWS - 1,
+        |row| row % 2 == 0,
+        |row| row == 0,
+        |row| row == ROWS / 2,
+        |row| row == ROWS - 1,
+    ];
+    for has in with_mean {
+        let mut some = read.clone();
+        for (row, mean) in some.means.iter_mut().enumerate() {
+            if !has(row) {
+                *mean = floats::nan(chance);
+            }
+        }
+        hold(Case::read(some, 0));
+    }
+    read.means.fill_with(|| floats::nan(chance));
+    hold(Case::read(read.clone(), 18));
+    read.means.push(f64::NAN);
+    hold(Case::read(read.clone(), 2));
+    read.targets.push(0.5);
+    hold(Case::read(read.clone(), 2));
+    read.rows += 1;
+    hold(Case::read(read, 1));
 }

@@ -17,7 +17,6 @@ pub fn cases() -> Vec<Case> {
         finished(one_row(0)),
         finished(one_row(1)),
         finished(nothing_kept()),
-        no_mean_at_all(),
         falling_starts(),
     ];
     for features in [3, 4, 8, 9] {
@@ -25,6 +24,8 @@ pub fn cases() -> Vec<Case> {
     }
     cases.extend(own_parts());
     cases.extend(orders());
+    cases.extend(errors());
+    cases.extend(errors_refused());
     cases.extend(nodes_read());
     cases
 }
@@ -94,17 +95,6 @@ fn nothing_kept() -> Fit {
         thresholds: Vec::new(),
         ..minus_zero_drawn()
     }
-}
-
-fn no_mean_at_all() -> Case {
-    let read = Read {
-        reader: Reader::OutOfBagError,
-        rows: 2,
-        targets: vec![1.0, 2.0],
-        means: vec![f64::NAN; 2],
-        ..Read::default()
-    };
-    Case::read(read, 0)
 }
 
 /// The first tree would be valid and the last start is within the columns: only that the starts decrease is wrong.
@@ -200,13 +190,7 @@ fn leaves() -> Read {
 }
 
 fn orders() -> Vec<Case> {
-    let error = Read {
-        reader: Reader::OutOfBagError,
-        rows: 3,
-        targets: THREE.to_vec(),
-        means: vec![1.0, 0.0, 0.5],
-        ..Read::default()
-    };
+    let error = error_of([1.0, 0.0, 1.0], |_| ());
     let by = |reader: Reader, read: &Read| Read {
         reader,
         ..read.clone()
@@ -255,6 +239,88 @@ fn splits(by: [u32; 3], features: usize) -> Read {
         out: features,
         ..Read::default()
     }
+}
+
+/// An error over three rows.
+fn error_of(means: [f64; 3], change: impl Fn(&mut Read)) -> Read {
+    let mut read = Read {
+        reader: Reader::OutOfBagError,
+        rows: 3,
+        targets: THREE.to_vec(),
+        means: means.to_vec(),
+        ..Read::default()
+    };
+    change(&mut read);
+    read
+}
+
+/// Rows with and without a mean, and targets and means that are not finite.
+fn errors() -> Vec<Case> {
+    let (no, high) = (f64::NAN, f64::INFINITY);
+    let case = |means: [f64; 3], targets: [f64; 3]| {
+        let targets = |read: &mut Read| read.targets = targets.to_vec();
+        Case::read(error_of(means, targets), 0)
+    };
+    vec![
+        // two rows have a mean, and one, in each place
+        case([no, 1.0, 0.5], THREE),
+        case([1.0, no, 0.5], THREE),
+        case([1.0, 0.0, no], THREE),
+        case([1.0, no, no], THREE),
+        case([no, 1.0, no], THREE),
+        case([no, no, 1.0], THREE),
+        // the target of a row without a mean is not used
+        case([1.0, no, 0.5], [0.1, no, 0.3]),
+        case([1.0, no, 0.5], [0.1, high, 0.3]),
+        // a row with a mean is counted whatever its target is, even if it is the only one
+        case([1.0, no, 0.5], [no, 0.2, 0.3]),
+        case([1.0, no, 0.5], [0.1, 0.2, -high]),
+        case([no, 1.0, no], [0.1, no, 0.3]),
+        // an infinite mean is a mean, and infinite less infinite is NaN
+        case([high, no, 0.5], THREE),
+        case([no, -high, no], THREE),
+        case([no, high, 1.0], [0.1, high, 0.3]),
+        // each mean is its target
+        case([0.1, no, 0.3], THREE),
+    ]
+}
+
+/// No row has a mean: alone, and together with the faults that are found before it.
+fn errors_refused() -> Vec<Case> {
+    let case = |refusal: u32, change: fn(&mut Read)| {
+        let read = error_of([f64::NAN; 3], change);
+        Case::read(read, refusal)
+    };
+    let one = |read: &mut Read| {
+        (read.rows, read.targets) = (1, vec![0.1]);
+        read.means.truncate(1);
+    };
+    vec![
+        case(18, |_| ()),
+        case(18, |read| read.targets.fill(f64::NAN)),
+        case(18, one),
+        case(2, |read| read.rows = 2),
+        case(2, |read| read.targets.push(0.4)),
+        case(2, |read| read.targets.truncate(2)),
+        case(2, |read| read.means.push(f64::NAN)),
+        case(2, |read| read.means.truncate(2)),
+        case(2, |read| read.means.clear()),
+        // the only mean is past the last row
+        case(2, |read| read.means.push(1.0)),
+        // of no rows none has a mean
+        case(1, |read| read.rows = 0),
+        case(1, no_rows),
+        case(1, |read| read.rows = 65_536),
+        // the low 32 bits are the number of rows
+        case(1, |read| read.rows = (1 << 32) + 3),
+        case(1, |read| (read.rows, read.means[0]) = ((1 << 32) + 3, 1.0)),
+    ]
+}
+
+fn no_rows(read: &mut Read) {
+    read.rows = 0;
+    read.targets.clear();
+    read.means.clear();
 }
 
 /// A node read out of a root and its two leaves; the leaves have entries that must not be returned.

@@ -197,3 +197,25 @@ pub fn checks(mut each: impl FnMut(Case)) {
         }
     }
 }
+
+/// Every error of up to three rows with one of five means, two of which are none, and one of four targets.
+pub fn errors(mut each: impl FnMut(Case)) {
+    let negative = f64::from_bits(0xFFF0_0000_0000_0001);
+    let means = [f64::NAN, negative, -0.0, 0.7, f64::INFINITY];
+    let targets = [0.1, -2.0, f64::NAN, f64::INFINITY];
+    for rows in 1..=3 {
+        for chosen in lists(&[0, 1, 2, 3, 4], rows) {
+            let none = chosen.iter().all(|mean| *mean < 2);
+            for targets in lists(&targets, rows) {
+                let read = Read {
+                    reader: Reader::OutOfBagError,
+                    rows,
+                    targets,
+                    means: chosen.iter().map(|mean| means[*mean]).collect(),
+                    ..Read::default()
+                };
+                each(Case::read(read, if none { 18 } else { 0 }));
+            }
+        }
+    }
+}

@@ -7,6 +7,18 @@ const EDGES: [f64; 16] = [
     3.0, 1e-300, 10.0,
 ];
 
+/// NaNs of both signs, quiet and signalling, with the smallest and the largest payloads.
+const NANS: [u64; 8] = [
+    0x7FF8_0000_0000_0000,
+    0xFFF8_0000_0000_0000,
+    0x7FF0_0000_0000_0001,
+    0xFFF0_0000_0000_0001,
+    0x7FF7_FFFF_FFFF_FFFF,
+    0xFFF7_FFFF_FFFF_FFFF,
+    0x7FFF_FFFF_FFFF_FFFF,
+    0xFFFF_FFFF_FFFF_FFFF,
+];
+
 /// `steps` floats up from `from`.
 fn up(from: f64, steps: usize) -> f64 {
     (0..steps).fold(from, |f, _| f.next_up())
@@ -69,6 +81,11 @@ pub fn weights(chance: &mut Chance, n: usize) -> Vec<f64> {
         _ => chance.pick(&[0.0, 1.0]),
     };
     (0..n).map(|_| one(chance)).collect()
+}
+
+/// Any NaN: a mean of 0/0 has another sign on another processor.
+pub fn nan(chance: &mut Chance) -> f64 {
+    f64::from_bits(chance.pick(&NANS))
 }
 
 /// Floats that a reader may be given: any bits, including NaN and the infinities.

@@ -49,18 +49,52 @@ fn nan_somewhere(chance: &mut Chance, read: &mut Read) {
     }
 }
 
+/// Targets and means. In one of four errors any target may be NaN or infinite, and in another one of four only those of rows without a
+/// mean, where they must not matter.
 fn error(chance: &mut Chance, read: &mut Read, rows: usize) {
     read.rows = rows;
     read.targets = floats::finite(chance, rows);
     read.means = floats::finite(chance, rows);
-    for mean in read.means.iter_mut() {
-        if chance.one_in(4) {
-            *mean = chance.pick(&[f64::NAN, f64::NAN, f64::INFINITY, f64::NEG_INFINITY]);
+    if chance.one_in(4) {
+        let at = chance.below(rows);
+        read.means[at] = chance.pick(&[f64::INFINITY, f64::NEG_INFINITY]);
+    }
+    let any = floats::anything(chance, rows);
+    let [with, without] = chance.pick(&[[true; 2], [false, true], [false; 2], [false; 2]]);
+    for (row, has) in with_mean(chance, rows).into_iter().enumerate() {
+        if if has { with } else { without } {
+            read.targets[row] = any[row];
+        }
+        if !has {
+            read.means[row] = floats::nan(chance);
         }
     }
-    if chance.one_in(10) {
-        read.means.fill(f64::NAN);
+}
+
+/// Which rows have a mean: those that a small forest leaves out, or all, all but one, one, none, or a few.
+fn with_mean(chance: &mut Chance, rows: usize) -> Vec<bool> {
+    let one = chance.below(rows);
+    match chance.below(10) {
+        0..=4 => left_out(chance, rows),
+        5 => vec![true; rows],
+        6 => (0..rows).map(|row| row != one).collect(),
+        7 => (0..rows).map(|row| row == one).collect(),
+        8 => vec![false; rows],
+        _ => (0..rows).map(|_| chance.one_in(4)).collect(),
     }
+}
+
+/// The rows that a forest of one to three trees leaves out at least once. For each tree as many rows are drawn as there are, with
+/// repetitions, so that a row is left out in at most 37 of 100 trees, and a single row never is.
+fn left_out(chance: &mut Chance, rows: usize) -> Vec<bool> {
+    let mut out = vec![false; rows];
+    for _ in 0..chance.within(1, 3) {
+        let bag: Vec<usize> = (0..rows).map(|_| chance.below(rows)).collect();
+        for (row, out) in out.iter_mut().enumerate() {
+            *out |= !bag.contains(&row);
+        }
+    }
+    out
 }
 
 fn over_table(chance: &mut Chance, read: &mut Read, rows: usize) {

@@ -1,5 +1,7 @@
 //! What a page shows, as plain data.
 
+use tailboardy::OutOfBagError;
+
 /// Everything that a page shows. All numbers are finite, but what is computed from them need not be.
 #[derive(Debug)]
 pub struct Page {
@@ -32,7 +34,8 @@ pub struct Forest {
     pub trees: usize,
     pub nodes: usize,
     pub seed: u64,
-    pub error: f64,
+    /// `None` if no fixture has an out-of-bag mean.
+    pub error: Option<OutOfBagError>,
 }
 
 /// A feature, how much it weighs in the forest, and its range in the old show.

@@ -3,6 +3,7 @@
 use crate::page::data::{Page, Source};
 use crate::page::html::{escaped, name, section};
 use crate::page::round::{count, counted, rounded};
+use tailboardy::OutOfBagError;
 
 /// The part of the page that says what it was made from.
 pub fn made(page: &Page) -> String {
@@ -58,30 +59,24 @@ fn forest(page: &Page) -> String {
 
 /// The error, and over how many fixtures it is.
 fn error(page: &Page) -> String {
-    let all = page.focused.len();
-    let told = page.focused.iter().filter(|it| it.mean.is_some()).count();
-    let over = match all - told {
-        0 => format!(
-            "over all {} of the old show",
-            counted(all, "fixture", "fixtures")
-        ),
+    let Some(OutOfBagError { error, rows }) = page.forest.error else {
+        return "none, because no tree left a fixture out".into();
+    };
+    let all = counted(page.focused.len(), "fixture", "fixtures");
+    let over = match page.focused.len() - rows {
+        0 => format!("over all {all} of the old show"),
         1 => format!(
-            "over {} of {}; the other one was left out by no tree and counts as 0",
-            count(told),
-            counted(all, "fixture", "fixtures")
+            "over {} of {all}; the other one was left out by no tree and does not count",
+            count(rows)
         ),
         _ => format!(
-            "over {} of {}; the others were left out by no tree and count as 0",
-            count(told),
-            counted(all, "fixture", "fixtures")
+            "over {} of {all}; the others were left out by no tree and do not count",
+            count(rows)
         ),
     };
-    match page.forest.error {
-        _ if told == 0 => "none, because no tree left a fixture out".into(),
-        error => format!(
-            "{}, {over}; its square root is {}",
-            rounded(error, 3),
-            rounded(error.sqrt(), 3)
-        ),
-    }
+    format!(
+        "{}, {over}; its square root is {}",
+        rounded(error, 3),
+        rounded(error.sqrt(), 3)
+    )
 }

@@ -6,6 +6,7 @@ mod markup;
 use crate::page::data::{Fixture, Focused, Forest, Measurement, Outside, Page, Source};
 use crate::page::write;
 use markup::Element;
+use tailboardy::OutOfBagError;
 
 fn measurement(name: &str, unit: &str, importance: f64, high: f64) -> Measurement {
     Measurement {
@@ -41,6 +42,7 @@ fn rig(fixtures: usize, size: f64) -> Page {
         correction: size * (part(row) - 0.5),
         mean: (row % 5 > 0).then_some(size * (part(row) - 0.45)),
     };
+    let told = (0..fixtures).filter(|row| row % 5 > 0).count();
     Page {
         target: "pan".into(),
         unit: "°".into(),
@@ -50,7 +52,10 @@ fn rig(fixtures: usize, size: f64) -> Page {
             trees: 100,
             nodes: 1234,
             seed: 5,
-            error: 0.25,
+            error: (told > 0).then_some(OutOfBagError {
+                error: 0.25,
+                rows: told,
+            }),
         },
         measurements: vec![
             measurement("offset", "m", 0.75, 9.0 * size),
@@ -106,7 +111,7 @@ fn what_is_urgent_comes_first() {
     for told in [
         "shows/old.csv, 30 fixtures",
         "100 trees with 1,234 nodes, seed 5",
-        "0.25, over 24 of 30 fixtures; the others were left out by no tree and count as 0; its square root is 0.5",
+        "0.25, over 24 of 30 fixtures; the others were left out by no tree and do not count; its square root is 0.5",
         "a < b",
     ] {
         assert!(made.contains(told), "{told} in {made}");
@@ -235,6 +240,7 @@ fn what_is_no_number_is_told_in_words() {
     assert!(part(&elements, "weigh").contains("no tree has a split"));
     assert!(part(&elements, "wide").contains("1.7e308not a number"));
     page.focused.iter_mut().for_each(|it| it.mean = None);
+    page.forest.error = None;
     let (text, elements) = read(&page);
     assert!(part(&elements, "made").contains("none, because no tree left a fixture out"));
     assert!(part(&elements, "old").contains("nothing to compare"));
