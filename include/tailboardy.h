@@ -273,8 +273,8 @@ uint32_t tailboardy_forest_importances(
     const uint32_t *false_child, size_t false_child_length,
     double *out, size_t out_length);
 
-/* The sum of the squared differences between target and mean, divided by the number of rows whose mean is not NaN, and that number.
- * A row whose mean is NaN adds nothing. Refusals: 1, 2, 18. */
+/* The sum of the squared differences between target and mean, divided by how many rows have a mean that is not NaN; and how
+ * many they are. Refusals: 1, 2, 18. */
 TailboardyErrorTold tailboardy_out_of_bag_error(
     size_t rows,
     const double *targets, size_t targets_length,

@@ -189,7 +189,7 @@ impl fmt::Display for Fault {
                 None => f.write_str("the only row is in every tree's bag"),
                 Some(trees) => write!(
                     f,
-                    "each of the {rows} rows is in every tree's bag, and it takes some {trees} trees to leave out each of them"
+                    "each of the {rows} rows is in every tree's bag; with bootstrap, {trees} trees are almost sure to leave out each of them"
                 ),
             },
             Fault::Error(value) => write!(f, "the out-of-bag error is {value}"),

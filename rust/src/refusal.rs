@@ -154,7 +154,7 @@ impl Cause {
                 "fit with keep_samples, which records the rows that each tree left out"
             }
             Cause::OtherCounts => "pass the rows that the forest was fitted on",
-            Cause::NoMeans => "grow more trees, with bootstrap, on two rows or more",
+            Cause::NoMeans => "use bootstrap, two rows or more, and enough trees",
             Cause::NotFinite => {
                 "the targets or weights are too large, or the weights too small, to calculate with: multiply or divide all of them by a constant"
             }

@@ -195,7 +195,7 @@ impl OutOfBagMeans {
     }
 
     /// The number of trees with which, if bags are drawn with equal chances, each of these rows is almost sure to have a mean: in at most
-    /// one forest of a hundred some row has none. `None` for less than two rows, since a single one is in every bag.
+    /// one forest of a hundred some row has none. `None` for fewer than two rows, since a single one is in every bag.
     ///
     /// ```
     /// use tailboardy::{DenseMatrix, RandomForestRegressor, RandomForestRegressorParameters};
@@ -235,8 +235,8 @@ impl OutOfBagMeans {
     /// let all = RandomForestRegressor::fit(&x, &y, parameters.with_bootstrap(false))?.predict_oob(&x)?;
     /// assert_eq!(
     ///     all.error(&y).unwrap_err().to_string(),
-    ///     "refusal 18 (no means): each of the 4 rows is in every tree's bag, and it takes some 16 trees to leave out each of them; \
-    ///      grow more trees, with bootstrap, on two rows or more"
+    ///     "refusal 18 (no means): each of the 4 rows is in every tree's bag; with bootstrap, 16 trees are almost sure to leave out \
+    ///      each of them; use bootstrap, two rows or more, and enough trees"
     /// );
     /// # Ok::<(), tailboardy::Refusal>(())
     /// ```
@@ -283,6 +283,7 @@ impl OutOfBagMeans {
 /// let means = RandomForestRegressor::fit(&x, &y, parameters)?.predict_oob(&x)?;
 /// let told = means.error(&y)?;
 /// println!("{} over {} of {} rows", told.error, told.rows, means.len());
+/// assert_eq!(told.rows, means.count());
 /// if 10 * told.rows < 9 * means.len() {
 ///     println!("too few trees to tell");
 /// }

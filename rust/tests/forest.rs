@@ -113,6 +113,31 @@ fn a_row_left_out_is_told_by_the_others() {
 }
 
 #[test]
+fn without_a_mean_there_is_no_error() {
+    let error = |rows: usize, y: &[f64]| {
+        let x = DenseMatrix::new(rows, 1, vec![1.0; rows], false).unwrap();
+        let parameters = RandomForestRegressorParameters::default()
+            .with_bootstrap(false)
+            .with_keep_samples(true);
+        let forest = RandomForestRegressor::fit(&x, &vec![1.0; rows], parameters).unwrap();
+        forest.predict_oob(&x).unwrap().error(y).unwrap_err()
+    };
+    for (rows, why) in [
+        (1, "the only row is in every tree's bag; use bootstrap, "),
+        (2, "; with bootstrap, 19 trees are almost sure to leave out"),
+        (
+            8,
+            "each of the 8 rows is in every tree's bag; with bootstrap, 16 trees",
+        ),
+    ] {
+        let refusal = error(rows, &vec![f64::NAN; rows]);
+        assert_eq!(refusal.cause(), Cause::NoMeans);
+        assert!(refusal.to_string().contains(why), "{refusal}");
+    }
+    assert_eq!(error(8, &[1.0; 7]).number(), 2);
+}
+
+#[test]
 fn a_seeded_forest_is_one_call_with_its_draws_recorded() {
     let (mut made, mut compared) = (Maker::new(1), 0);
     for _ in 0..400 {

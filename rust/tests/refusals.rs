@@ -85,27 +85,6 @@ fn lengths() {
 }
 
 #[test]
-fn no_means() {
-    let error = |rows: usize, y: &[f64]| {
-        let x = DenseMatrix::new(rows, 1, vec![1.0; rows], false).unwrap();
-        let parameters = parameters().with_bootstrap(false).with_keep_samples(true);
-        let forest = RandomForestRegressor::fit(&x, &vec![1.0; rows], parameters).unwrap();
-        forest.predict_oob(&x).unwrap().error(y)
-    };
-    refused(
-        error(8, &[1.0; 8]),
-        18,
-        "each of the 8 rows is in every tree's bag, and it takes some 16 trees to leave out each of them; grow more trees",
-    );
-    refused(
-        error(1, &[f64::NAN]),
-        18,
-        "the only row is in every tree's bag; grow more trees, with bootstrap, on two rows or more",
-    );
-    refused(error(8, &[1.0; 7]), 2, "targets: 7 given, 8 required");
-}
-
-#[test]
 fn shapes() {
     let x = DenseMatrix::from_2d_array(&[[1.0, 2.0], [3.0, 4.0]]).unwrap();
     refused(

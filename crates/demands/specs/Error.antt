@@ -1,6 +1,7 @@
--- What an out-of-bag error can be. It is over at least one row and at most all, and a call whose sizes and lengths are in order is refused if no row has a mean, by 18, and only then.
--- Where every row has a mean, the sum is divided by all rows; elsewhere the error is not below what it would then be. It is never below 0: it is a sum of squares over a number of
--- rows. And where each row's mean is its target, a finite one, or the row has none, it is 0. Assumes nothing.
+-- What an out-of-bag error can be. It is over at least one row and at most all, and a call whose sizes and lengths are in order is refused if no row has a mean, by 18, and only then;
+-- with a refusal error and number are told as 0. Where every row has a mean, the sum is divided by the number of all rows, and that is the number told; elsewhere the error is not below
+-- that sum divided by the number of all rows. It is never below 0: it is a sum of squares over a number of rows. And where each row's mean is its target, a finite one, or the row has
+-- none, it is 0. Assumes nothing.
 use Prim.Native.Nat.{ℕ, zero, suc, _+_, _<_, _≤_, suc-le-suc}
 use native.Mathlib.Nat.{zero-lt-suc}
 use native.Mathlib.Omega.{arith}
@@ -21,6 +22,7 @@ use Rattle.rules.specs.declared.Figure.{Figure}
 use Rattle.rules.specs.declared.ErrorReply.{ErrorReply}
 use Rattle.rules.specs.Words.{nought, float, keep, putIf}
 use Rattle.rules.specs.Checks.{test, firstFailed, within}
+use Rattle.rules.specs.Answers.{errorTold}
 use Rattle.rules.specs.OutOfBag.{squareOff, addSquares, rowsWithMean, figure, errs, errorTests, outOfBagError}
 use Rattle.lemmas.specs.Lists.{keep-short}
 use Rattle.lemmas.specs.Passed.{past}
@@ -30,7 +32,7 @@ use Rattle.lemmas.specs.Passed.{past}
 abbrev pub SomeRows : Type 0
 SomeRows = (rows : ℕ) (ys ms : List Float) (f : Figure) → outOfBagError rows ys ms ≡ ErrorReply.Error f → (1 ≤ f .rows) × (f .rows ≤ rows)
 
--- a target and a mean for each row, of which there are not too many
+-- one target and one mean, which may be NaN, for each of 1 to 65,535 rows
 pub record InOrder (rows : ℕ) (ys ms : List Float) : Type 0 where
   pub some : 1 ≤ rows
   pub few : rows ≤ 65535
@@ -46,7 +48,12 @@ NoMean = (rows : ℕ) (ys ms : List Float) → InOrder rows ys ms → ((i : ℕ)
 abbrev pub OneMean : Type 0
 OneMean = (rows : ℕ) (ys ms : List Float) → InOrder rows ys ms → (i : ℕ) → i < rows → hasMean ms i ≡ true → outOfBagError rows ys ms ≡ ErrorReply.Error (figure ys ms)
 
--- the sum, divided by all rows
+abbrev pub RefusedZero : Type 0
+RefusedZero =
+    (rows : ℕ) (ys ms : List Float) (n : ℕ) → outOfBagError rows ys ms ≡ ErrorReply.Refused n
+    → errorTold (outOfBagError rows ys ms) ≡ record { number = n; error = nought; rows = 0 }
+
+-- the sum, divided by the number of all rows
 abbrev pub overAll : ℕ → List Float → List Float → Float
 overAll rows ys ms = div binary64 (addSquares nought ys ms) (float rows)
 
@@ -55,8 +62,8 @@ AllMeans =
     (rows : ℕ) (ys ms : List Float) → InOrder rows ys ms → ((i : ℕ) → i < rows → hasMean ms i ≡ true)
     → outOfBagError rows ys ms ≡ ErrorReply.Error (record { error = overAll rows ys ms; rows = rows })
 
-abbrev pub NeverFlatters : Type 0
-NeverFlatters = (rows : ℕ) (ys ms : List Float) (f : Figure) → outOfBagError rows ys ms ≡ ErrorReply.Error f → lt (f .error) (overAll rows ys ms) ≡ false
+abbrev pub NeverLower : Type 0
+NeverLower = (rows : ℕ) (ys ms : List Float) (f : Figure) → outOfBagError rows ys ms ≡ ErrorReply.Error f → lt (f .error) (overAll rows ys ms) ≡ false
 
 abbrev pub NeverBelow : Type 0
 NeverBelow = (rows : ℕ) (ys ms : List Float) (f : Figure) → outOfBagError rows ys ms ≡ ErrorReply.Error f → lt (f .error) nought ≡ false
@@ -107,7 +114,8 @@ answered rows ys ms f h =
 in-order : (rows : ℕ) (ys ms : List Float) → InOrder rows ys ms → (b : Bool) → ltb 0 (rowsWithMean ms) ≡ b → outOfBagError rows ys ms ≡ errs (cond b 0 18) (figure ys ms)
 unfolding outOfBagError errorTests firstFailed within
 in-order rows ys ms o b e =
-    λ i. errs (firstFailed (test 1 (le-leb 1 rows (o .some) i && le-leb rows 65535 (o .few) i) ∷ test 2 (eq-eqb (length ys) rows (o .targets) i && eq-eqb (length ms) rows (o .means) i) ∷ test 18 (e i) ∷ [])) (figure ys ms)
+    λ i. errs (firstFailed (test 1 (le-leb 1 rows (o .some) i && le-leb rows 65535 (o .few) i)
+    ∷ test 2 (eq-eqb (length ys) rows (o .targets) i && eq-eqb (length ms) rows (o .means) i) ∷ test 18 (e i) ∷ [])) (figure ys ms)
 
 -- ---- how many rows
 
@@ -149,6 +157,9 @@ all-means rows ys ms o h =
     in-order rows ys ms o true (lt-ltb 0 (rowsWithMean ms) (omega (arith, all, o .some)))
     ∙ ap (λ n. ErrorReply.Error (record { error = div binary64 (addSquares nought ys ms) (float n); rows = n })) all
 
+pub refused-zero : RefusedZero
+refused-zero rows ys ms n h = ap errorTold h
+
 pub some-rows : SomeRows
 unfolding figure
 some-rows rows ys ms f h = let a = answered rows ys ms f h in (subst (λ n. 1 ≤ n) (ap (λ f. f .rows) (a .is)) (a .some), subst (λ n. n ≤ rows) (ap (λ f. f .rows) (a .is)) (a .most))
@@ -174,9 +185,9 @@ never-below rows ys ms f h =
     (not-below (div binary64 (addSquares nought ys ms) n)
     (div-side binary64 false (addSquares nought ys ms) n (squares-side nought ys ms tt) (round-side binary64 false (rowsWithMean ms) 1)))
 
-pub never-flatters : NeverFlatters
+pub never-lower : NeverLower
 unfolding figure ofBits
-never-flatters rows ys ms f h =
+never-lower rows ys ms f h =
     let a = answered rows ys ms f h in
     subst (λ f. lt (f .error) (overAll rows ys ms) ≡ false) (a .is)
     (by-more (addSquares nought ys ms) (rowsWithMean ms) rows (squares-side nought ys ms tt) (a .some) (a .most) (omega (arith, a .few)))

@@ -1,6 +1,6 @@
--- A count as a float is finite, and above 0 where it is not 0; the mass of a row that is left out, by its count or by its weight, is a zero; and what is divided by a larger count
--- is not larger. Assumes nothing.
-use mathlib.Core.Path.{_≡_, refl, sym, ap, _∙_, subst}
+-- A count as a float is finite, and above 0 where it is not 0; the mass of a row that is left out, by its count or by its weight, is a zero; and what is not below 0 is
+-- not larger if it is divided by a larger count. Assumes nothing.
+use mathlib.Core.Path.{_≡_, refl, sym, ap, _∙_}
 use Prim.Native.Nat.{ℕ, _*_, _^_, _≤_, _<_}
 use native.Mathlib.Nat.{mul-pos, zero-lt-suc, mul-one, zero-mul, le-trans, mul-le-mul-right, mul-assoc, mul-comm, mul-right-comm}
 use native.Mathlib.Omega.{arith}
@@ -8,7 +8,7 @@ use mathlib.Core.Bool.{Bool, true, false, cond, true≢false}
 use lib.IntN.{ℤ, pos}
 use lib.Dec.{T, eqb, ltb→lt, lt→ltb, eqb→eq}
 use lib.Pow.{pow-pos}
-use lib.Ieee.{Float, nan, inf, fin, binary64, low, up, down, round, mul, div, ofInt, lt, le}
+use lib.Ieee.{Float, nan, inf, fin, binary64, low, up, down, round, mul, div, ofInt, lt}
 use lib.Ieee.Fits.{up-pos, down-pos}
 use lib.Ieee.Exact.{HasValue}
 use lib.Ieee.Scale.{finite}
@@ -115,6 +115,6 @@ falls (fin false a b) (fin false c d) (fin false m e) k n p q r s h =
     under : (a : ℕ) (b : ℤ) (k : ℕ) → 0 < k → a * up b * 1 ≡ k * down b → 0 < a * up b * down e
     under a b k p v = mul-pos (omega (arith, v, mul-pos p (down-pos b))) (down-pos e)
 
--- so is the quotient of a sum of squares by fewer rows never below that by more
+-- so a sum of squares divided by fewer rows is never below the same sum divided by more
 pub by-more : (x : Float) (k n : ℕ) → T (side false x) → 0 < k → k ≤ n → n ≤ 2 ^ 53 → lt (div binary64 x (ofInt binary64 (pos k))) (div binary64 x (ofInt binary64 (pos n))) ≡ false
 by-more x k n h p q r = falls (ofInt binary64 (pos k)) (ofInt binary64 (pos n)) x k n p q (count-value k (le-trans q r)) (count-value n r) h

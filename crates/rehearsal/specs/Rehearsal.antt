@@ -1,4 +1,4 @@
--- The rehearsal table: P1 to P10, with P1's importances and node rooms and P8's out-of-bag error, over the whole calls, rooms included. One list and one theorem, by computation.
+-- The rehearsal table: P1 to P10, with P1's importances and node rooms and the out-of-bag errors of P8 and P1, over the whole calls, rooms included. One list and one theorem, by computation.
 -- What a call leaves is written out to the last float, so that a wrong one differs at once. Beside it the two corners of the threshold. Assumes nothing.
 use Prim.Native.Nat.{ℕ}
 use mathlib.Core.Path.{_≡_, refl}

@@ -57,7 +57,7 @@ addSquares s (y ∷ ys) (m ∷ ms) = addSquares (cond (isNan m) s (add binary64 
 unfoldable pub rowsWithMean : List Float → ℕ
 rowsWithMean ms = length (keep (λ m. not (isNan m)) ms)
 
--- R14.5: the sum is divided by these rows alone
+-- R14.5: the sum is divided by the number of these rows alone
 unfoldable pub figure : List Float → List Float → Figure
 figure ys ms = record { error = div binary64 (addSquares nought ys ms) (float (rowsWithMean ms)); rows = rowsWithMean ms }
 

@@ -195,25 +195,28 @@ pub fn out_of_bag(means: &OutOfBagMeans, y: &[f64]) -> Result<Option<OutOfBagErr
     }
 }
 
-/// A warning if fewer than nine tenths of the fixtures have a mean: the error is that of the others, and may mislead. Without
-/// bootstrap none has one, which was asked for.
+/// A warning if fewer than nine tenths of the fixtures have a mean: the error says nothing of the rest, and may
+/// mislead. Without bootstrap none has one, which was asked for.
 pub fn few(means: &OutOfBagMeans, parameters: &RandomForestRegressorParameters) -> Option<String> {
     let (told, all) = (means.count(), means.len());
     if !parameters.bootstrap || 10 * told >= 9 * all {
         return None;
     }
+    let unknown = "so it is not known how far off the corrections are";
+    let others = "and the error says nothing of the others";
     let why = match (told, all) {
-        (_, 1) => "the only fixture is in the bag of every tree".into(),
-        (0, _) => format!("none of the {all} fixtures is left out by a tree"),
-        (1, _) => format!("only 1 of {all} fixtures is left out by a tree"),
-        _ => format!("only {told} of {all} fixtures are left out by a tree"),
+        (_, 1) => format!("the only fixture is in the bag of every tree, {unknown}"),
+        (0, _) => format!("none of the {all} fixtures is left out by a tree, {unknown}"),
+        (1, _) => format!("only 1 of {all} fixtures is left out by a tree, {others}"),
+        _ => format!("only {told} of {all} fixtures are left out by a tree, {others}"),
     };
-    let enough = means.enough_trees().filter(|it| *it > parameters.n_trees);
-    let how = match enough {
-        Some(trees) => format!("grow at least {trees} trees (--n-trees {trees})"),
-        None => "grow more trees, or fit more fixtures".into(),
+    let how = match means.enough_trees() {
+        None => "fit two fixtures or more".into(),
+        Some(trees) if trees > parameters.n_trees => {
+            format!("grow at least {trees} trees (--n-trees {trees})")
+        }
+        // some fixtures are in every bag by their weight
+        Some(_) => "grow more trees, or weigh the fixtures more evenly".into(),
     };
-    Some(format!(
-        "{why}, so little is known of how far off the corrections are; {how}"
-    ))
+    Some(format!("{why}; {how}"))
 }

@@ -13,7 +13,7 @@ fn a_small_forest_is_warned_of() {
     let fixtures = json.get("out_of_bag").get("fixtures").number().to_owned();
     assert!(fixtures.parse::<usize>().unwrap() < 108, "{fixtures}");
     let warning = format!(
-        "only {fixtures} of 120 fixtures are left out by a tree, so little is known of how far off the corrections are; grow at least 21 trees (--n-trees 21)"
+        "only {fixtures} of 120 fixtures are left out by a tree, and the error says nothing of the others; grow at least 21 trees (--n-trees 21)"
     );
     assert_eq!(json.get("warnings").texts(), [warning.as_str()]);
     let text = fit(&["3"]).out;
@@ -26,37 +26,66 @@ fn a_small_forest_is_warned_of() {
     let page = run(&[&["report"], &files[..]].concat());
     assert!(page.out.contains(&warning));
 
-    for enough in [&["21"][..], &["3", "--no-bootstrap"]] {
-        let told = fit(enough);
-        assert!(!told.out.contains("warning"), "{}", told.out);
+    for (enough, told) in [
+        (&["21"][..], ", over 120 of 120 fixtures\nimportances"),
+        (&["3", "--no-bootstrap"], "uses every fixture\nimportances"),
+    ] {
+        let text = fit(enough).out;
+        assert!(text.contains(told), "{text}");
     }
 }
 
+/// Three fixtures, one of which is in every bag by its weight, and less: what is told of those that are left out, by seed.
 #[test]
-fn an_error_over_no_fixture_is_none() {
+fn few_fixtures_are_told_of_in_words() {
     let folder = Folder::new("bags");
-    let two = folder.write("two.csv", "x,pan\n1,1\n2,2\n");
-    let one = folder.write("one.csv", "x,pan\n1,1\n");
-    let none = "out-of-bag error: none, because every tree uses every fixture\nwarning:";
-    let words = |file: &str, seed: usize| {
-        let seed = seed.to_string();
-        run(&[
-            "fit",
-            file,
-            "--target",
-            "pan",
-            "--n-trees",
-            "1",
-            "--seed",
-            &seed,
-        ])
-        .out
+    let show = |rows: usize| {
+        let all = "x,pan,weight\n1.5,1,1\n2,2,1\n3,3,1e9\n";
+        let lines: Vec<&str> = all.lines().take(1 + rows).collect();
+        folder.write(&format!("{rows}.csv"), &(lines.join("\n") + "\n"))
     };
-    let both = (0..20)
-        .map(|seed| words(&two, seed))
-        .find(|it| it.contains(none));
-    let warning = "none of the 2 fixtures is left out by a tree, so little is known of how far off the corrections are; grow at least 19 trees (--n-trees 19)";
-    assert!(both.unwrap().contains(&format!("{none} {warning}\n")));
-    let warning = "the only fixture is in the bag of every tree, so little is known of how far off the corrections are; grow more trees, or fit more fixtures";
-    assert!(words(&one, 0).contains(&format!("{none} {warning}\n")));
+    let fitted = |rows: usize, trees: &str, seed: usize| {
+        let (show, seed) = (show(rows), seed.to_string());
+        let target = ["fit", &show, "--target", "pan", "--weight", "weight"];
+        run(&[&target[..], &["--n-trees", trees, "--seed", &seed]].concat()).out
+    };
+    let others = "and the error says nothing of the others";
+    let unknown = "so it is not known how far off the corrections are";
+    let none = "out-of-bag error: none, because every tree uses every fixture\nwarning: ";
+    for (rows, trees, told) in [
+        (
+            3,
+            "100",
+            format!(
+                ", over 2 of 3 fixtures\nwarning: only 2 of 3 fixtures are left out by a tree, {others}; grow more trees, or weigh the fixtures more evenly\n"
+            ),
+        ),
+        (
+            2,
+            "1",
+            format!(
+                ", over 1 of 2 fixtures\nwarning: only 1 of 2 fixtures is left out by a tree, {others}; grow at least 19 trees (--n-trees 19)\n"
+            ),
+        ),
+        (
+            2,
+            "1",
+            format!(
+                "{none}none of the 2 fixtures is left out by a tree, {unknown}; grow at least 19 trees (--n-trees 19)\n"
+            ),
+        ),
+        (
+            1,
+            "100",
+            format!(
+                "{none}the only fixture is in the bag of every tree, {unknown}; fit two fixtures or more\n"
+            ),
+        ),
+    ] {
+        let texts: Vec<String> = (0..20).map(|seed| fitted(rows, trees, seed)).collect();
+        assert!(
+            texts.iter().any(|it| it.contains(&told)),
+            "{told} in {texts:?}"
+        );
+    }
 }

@@ -35,8 +35,8 @@ returns-3 c = passes 1 _ _ (inside (c .before .before)) (fails 2 _ _ (sym (and-o
 abbrev start-place : tie.Else3 → tie.Start
 start-place c = c .before .before .before .before .before .before
 
-abbrev some : tie.Else3 → ℕ
-some c = rowsWithMean (now (start-place c .args .means))
+abbrev number : tie.Else3 → ℕ
+number c = rowsWithMean (now (start-place c .args .means))
 
 long : (c : tie.Else3) → let a = start-place c .args in (eqb (length (now (a .targets))) (a .rows) && eqb (length (now (a .means))) (a .rows)) ≡ true
 long c = sym (and-on _ _ (eq-eqb _ _ (c .before .if2 .left)) (sym (eq-eqb _ _ (c .if3 .left))))
@@ -45,13 +45,13 @@ returns-4 : tie.Need-returns-4
 unfolding errorTests
 returns-4 c =
     passes 1 _ _ (inside (c .before .before .before))
-    (passes 2 _ _ (long (c .before)) (fails 18 _ _ (le-ltb 0 (some (c .before)) (omega (arith, c .if4 .taken, start-place (c .before) .pre)))))
+    (passes 2 _ _ (long (c .before)) (fails 18 _ _ (le-ltb 0 (number (c .before)) (omega (arith, c .if4 .taken, start-place (c .before) .pre)))))
 
 returns-5 : tie.Need-returns-5
 unfolding errorTests
 returns-5 c =
     passes 1 _ _ (inside (c .before .before .before))
-    (passes 2 _ _ (long (c .before)) (passes 18 _ _ (lt-ltb 0 (some (c .before)) (omega (arith, c .if4 .left, start-place (c .before) .pre))) none-failed))
+    (passes 2 _ _ (long (c .before)) (passes 18 _ _ (lt-ltb 0 (number (c .before)) (omega (arith, c .if4 .left, start-place (c .before) .pre))) none-failed))
 
 pub error-verdict-spec : {M : Type 1} → statement M
 error-verdict-spec = tie.close (tie.spec rows-in-requires returns returns-2 returns-3 returns-4 returns-5)

@@ -1,10 +1,10 @@
 -- `errors::rows_with_mean` meets its contract: the rows counted so far, with those from i on, are all. Assumes nothing.
 use borrow.Author.Needs.{needs}
 use native.Mathlib.Omega.{arith}
-use mathlib.Core.Path.{_≡_, refl, sym, ap, _∙_}
-use Prim.Native.Nat.{_-_, _+_, _<_, _≤_}
+use mathlib.Core.Path.{_≡_, sym, _∙_}
+use Prim.Native.Nat.{_-_, _+_, _≤_}
 use mathlib.Core.Logic.{⊎-elim}
-use mathlib.Core.Bool.{Bool, true, false}
+use mathlib.Core.Bool.{true, false}
 use denote.Ref.{now}
 use lib.ListN.{length}
 use Rattle.rules.specs.OutOfBag.{rowsWithMean}

@@ -8,7 +8,7 @@ use crate::judge::run;
 
 pub struct Case {
     pub call: Call,
-    /// 0 if there is no fault, although a draw may be bad, or no row may have a mean.
+    /// 0 if there is no fault, although a draw may be bad, or every mean NaN.
     pub refusal: u32,
 }
 

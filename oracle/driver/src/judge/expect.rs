@@ -6,7 +6,7 @@ use crate::call::outcome::{FILL, FILL_FLOAT, Outcome, Room, bits};
 use crate::judge::copied::{data, params, tree_counts};
 use copy::harness::{self, Grown, NodeRecord, Readable, Tape};
 
-/// `refusal` is the one for the fault in the input: 0 for none, although a draw may be bad, or no row may have a mean.
+/// `refusal` is the one for the fault in the input: 0 for none, although a draw may be bad, or every mean NaN.
 pub fn expect(call: &Call, refusal: u32) -> Outcome {
     match call {
         Call::Fit(fit) => expect_fit(fit, refusal),

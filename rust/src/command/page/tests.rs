@@ -116,6 +116,10 @@ fn what_is_urgent_comes_first() {
     ] {
         assert!(made.contains(told), "{told} in {made}");
     }
+    let (_, elements) = read(&rig(5, 1.0));
+    let told =
+        "0.25, over 4 of 5 fixtures; the other one was left out by no tree and does not count;";
+    assert!(part(&elements, "made").contains(told));
 }
 
 #[test]
