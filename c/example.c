@@ -1,6 +1,6 @@
 /* The worked example of include/tailboardy.h: fits one tree on four fixtures, prints its nodes and predicts with it; then a listing
- * that lost a row and a draw that is out of range, which are refused; and a forest of two trees. c/run compares what it prints with
- * example.out. */
+ * that lost a row and a draw that is out of range, which are refused; a tree whose thresholds are measured values; and a forest of two
+ * trees. c/run compares what it prints with example.out. */
 #include <inttypes.h>
 #include <stdio.h>
 #include <stdlib.h>
@@ -52,12 +52,16 @@ static void print_nodes(const Nodes *nodes, uint32_t start, uint32_t end) {
     }
 }
 
-/* Fits one tree with the random splitter, each row once, trying both features in every search. */
-static TailboardyTreeTold fit_tree(Nodes *nodes, const uint32_t *listing, const double *thresholds) {
+/* Each search tries both features: with the random splitter, and with the best, which here cuts at the lower of two values. */
+static const TailboardyTreeSettings drawn = {.leaf = 1, .split = 2, .tried = FEATURES, .random = true};
+static const TailboardyTreeSettings measured = {.leaf = 1, .split = 2, .tried = FEATURES, .lower = true};
+
+/* Fits one tree, each row once. */
+static TailboardyTreeTold fit_tree(Nodes *nodes, TailboardyTreeSettings settings, const uint32_t *listing,
+    const double *thresholds) {
     static const uint32_t counts[ROWS] = {1, 1, 1, 1};
     static const uint32_t words[] = {1, 0, 0, 1, 1, 0};
     static Work work;
-    const TailboardyTreeSettings settings = {.leaf = 1, .split = 2, .tried = FEATURES, .random = true};
     return tailboardy_fit_tree(
         nodes->value, NODES, nodes->feature, NODES, nodes->threshold, NODES, nodes->score, NODES,
         nodes->true_child, NODES, nodes->false_child, NODES,
@@ -69,7 +73,7 @@ static TailboardyTreeTold fit_tree(Nodes *nodes, const uint32_t *listing, const 
 static void one_tree(void) {
     static Nodes nodes;
     static const double thresholds[] = {0.5, 7.0, 6.8, 7.2};
-    const TailboardyTreeTold told = fit_tree(&nodes, listings, thresholds);
+    const TailboardyTreeTold told = fit_tree(&nodes, drawn, listings, thresholds);
     if (told.number != 0) stop("tailboardy_fit_tree", told.number);
     printf("one tree: %" PRIu32 " nodes, depth %" PRIu32 ", mass %g, %" PRIu32 " searches, %" PRIu32 " words, %" PRIu32
            " thresholds\n", told.nodes, told.depth, told.mass, told.searches, told.words, told.thresholds);
@@ -92,7 +96,7 @@ static void damaged_listing(void) {
     static Nodes nodes;
     static const uint32_t damaged[FEATURES * ROWS] = {2, 3, 3, 1, 0, 2, 1, 3};
     static const double thresholds[] = {0.5, 7.0, 6.8, 7.2};
-    const TailboardyTreeTold told = fit_tree(&nodes, damaged, thresholds);
+    const TailboardyTreeTold told = fit_tree(&nodes, drawn, damaged, thresholds);
     printf("a damaged listing: refusal %" PRIu32 ", and by the check alone %" PRIu32 "\n", told.number,
         tailboardy_check_listings(ROWS, FEATURES, ALL(values), ALL(damaged)));
 }
@@ -101,8 +105,19 @@ static void damaged_listing(void) {
 static void bad_draw(void) {
     static Nodes nodes;
     static const double thresholds[] = {0.5, 7.0, 7.5, 7.2};
-    const TailboardyTreeTold told = fit_tree(&nodes, listings, thresholds);
+    const TailboardyTreeTold told = fit_tree(&nodes, drawn, listings, thresholds);
     printf("a threshold out of range: refusal %" PRIu32 ", search %" PRIu32 "\n", told.number, told.search);
+}
+
+/* The best splitter takes nothing from the tape of thresholds. If it cut at midpoints, this tree would have 0 and 6.85 in place of -3
+ * and 6.2, as the forest below does. */
+static void measured_cuts(void) {
+    static Nodes nodes;
+    static const double unused[4] = {0};
+    const TailboardyTreeTold told = fit_tree(&nodes, measured, listings, unused);
+    if (told.number != 0) stop("tailboardy_fit_tree", told.number);
+    printf("a tree cut at measured values: %" PRIu32 " nodes\n", told.nodes);
+    print_nodes(&nodes, 0, told.nodes);
 }
 
 /* Two trees with the best splitter, which takes no thresholds. The first has row 0 twice and leaves row 1 out, the second has row 3
@@ -144,6 +159,7 @@ int main(void) {
     one_tree();
     damaged_listing();
     bad_draw();
+    measured_cuts();
     forest();
     return 0;
 }

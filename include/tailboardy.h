@@ -67,7 +67,9 @@ extern "C" {
 #endif
 
 /* The parameters of one tree: the maximum depth, which is `limit` if `limited` is true and unlimited otherwise; the least leaf; the
- * least split; how many features each search tries; and whether the splitter is random or the best. */
+ * least split; how many features each search tries; whether the splitter is random or the best; and where the best splitter cuts
+ * between two values of a feature: at the lower of them if `lower` is true, and at their midpoint otherwise. The random splitter
+ * ignores `lower`. */
 typedef struct {
     bool limited;
     uint16_t limit;
@@ -75,6 +77,7 @@ typedef struct {
     uint32_t split;
     uint32_t tried;
     bool random;
+    bool lower;
 } TailboardyTreeSettings;
 
 /* The same for the trees of a forest. How many features each search tries is `tried` if `said` is true, and otherwise the square root
@@ -87,6 +90,7 @@ typedef struct {
     bool said;
     uint32_t tried;
     bool random;
+    bool lower;
 } TailboardyForestSettings;
 
 /* 0 or a refusal. With refusal 7: the tree, which is always 0, and the search of the bad draw. With 0: the number of nodes, the depth,

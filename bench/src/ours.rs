@@ -66,6 +66,7 @@ impl Rooms {
             said: false,
             tried: 0,
             random: params.random,
+            lower: false,
         };
         let told = linked::fit_forest(
             &mut self.value,

@@ -106,6 +106,7 @@ static void fit_tree(void) {
     plain.split = number();
     plain.tried = number();
     plain.random = number();
+    plain.lower = number();
     TailboardyTreeTold told = tailboardy_fit_tree(COLUMNS_AT(7), WORK_AT(13), GIVEN_AT(0), rows, features, plain);
     tell(told.number);
     tell(told.tree);
@@ -130,6 +131,7 @@ static void fit_forest(void) {
     plain.said = number();
     plain.tried = number();
     plain.random = number();
+    plain.lower = number();
     TailboardyForestTold told = tailboardy_fit_forest(COLUMNS_AT(9), U(15), REPORTS_AT(16), WORK_AT(22),
         GIVEN_AT(0), S(size_t, 7), S(size_t, 8), rows, features, trees, plain);
     tell(told.number);

@@ -83,7 +83,9 @@ pub use limits::{MAX_FEATURES, MAX_ROWS, MAX_TREES};
 pub use listings::Listings;
 pub use matrix::DenseMatrix;
 pub use nodes::{Kind, Node, Split, Tree};
-pub use parameters::{DecisionTreeRegressorParameters, RandomForestRegressorParameters, Splitter};
+pub use parameters::{
+    Cuts, DecisionTreeRegressorParameters, RandomForestRegressorParameters, Splitter,
+};
 pub use refusal::{Cause, Refusal};
 pub use results::{Importances, Means, OutOfBagError, OutOfBagMeans, Report};
 pub use seed::SplitMix64;

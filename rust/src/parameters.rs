@@ -17,9 +17,45 @@ use tailboardy_sys::{ForestSettings, TreeSettings};
 pub enum Splitter {
     /// A single threshold, drawn at random between the lowest and the highest value.
     Random,
-    /// The best of all possible cuts.
+    /// The best of all possible cuts; [`Cuts`] says where they lie.
     #[default]
     Best,
+}
+
+/// Where the best splitter cuts between two neighbouring values of a feature. [`Splitter::Random`] draws its thresholds, and ignores
+/// this.
+///
+/// The rows that a tree is grown on go the same way for either choice, so the tree is the same but for its thresholds: the same nodes,
+/// values, scores and importances. Any other row goes the other way if its value is above the lower of the two and not above their
+/// midpoint. So predictions of new rows may differ, and out-of-bag means with their error too.
+///
+/// ```
+/// use tailboardy::{Cuts, DecisionTreeRegressor, DecisionTreeRegressorParameters, DenseMatrix};
+///
+/// // trim heights at which a bar hung
+/// let x = DenseMatrix::from_2d_array(&[[5.5], [6.5], [7.5]])?;
+/// let y = [1.0, 1.0, 4.0];
+/// let midpoint = DecisionTreeRegressorParameters::default().with_max_depth(2);
+/// let measured = midpoint.with_cuts(Cuts::Measured);
+/// let midpoint = DecisionTreeRegressor::fit(&x, &y, midpoint)?;
+/// let measured = DecisionTreeRegressor::fit(&x, &y, measured)?;
+/// assert_eq!(midpoint.nodes().threshold[0], 7.0);
+/// assert_eq!(measured.nodes().threshold[0], 6.5);
+///
+/// assert_eq!(midpoint.predict(&x)?, measured.predict(&x)?);
+/// let between = DenseMatrix::from_2d_array(&[[6.6], [7.0], [7.1]])?;
+/// assert_eq!(&*midpoint.predict(&between)?, [1.0, 1.0, 4.0]);
+/// assert_eq!(&*measured.predict(&between)?, [4.0, 4.0, 4.0]);
+/// # Ok::<(), tailboardy::Refusal>(())
+/// ```
+#[derive(Debug, Clone, Copy, PartialEq, Eq, Default)]
+pub enum Cuts {
+    /// At their midpoint, as in smartcore. If that rounds up to the higher value, or the difference of the two overflows: at the lower.
+    #[default]
+    Midpoint,
+    /// At the lower of the two, so that each threshold is a value that was measured. Of rows with the same value it is that of the
+    /// first in the listing, which shows if they are zeros of both signs.
+    Measured,
 }
 
 /// The parameters of a forest. The names are smartcore's where they mean the same; see docs/SMARTCORE.md. Every fit takes them by
@@ -55,6 +91,8 @@ pub struct RandomForestRegressorParameters {
     pub keep_samples: bool,
     /// How cuts are chosen. Default: the best.
     pub splitter: Splitter,
+    /// Where the best splitter cuts between two values. Default: at their midpoint.
+    pub cuts: Cuts,
     /// The seed from which bags, orders and thresholds are drawn. Default: 0.
     pub seed: u64,
     /// How many threads grow trees. It affects only the time taken, not the forest. Default: as many as the machine can run at once.
@@ -72,6 +110,7 @@ impl Default for RandomForestRegressorParameters {
             bootstrap: true,
             keep_samples: false,
             splitter: Splitter::Best,
+            cuts: Cuts::Midpoint,
             seed: 0,
             n_threads: None,
         }
@@ -101,6 +140,8 @@ pub struct DecisionTreeRegressorParameters {
     pub min_samples_split: u32,
     /// How cuts are chosen. Default: the best.
     pub splitter: Splitter,
+    /// Where the best splitter cuts between two values. Default: at their midpoint.
+    pub cuts: Cuts,
     /// The seed from which orders and thresholds are drawn. The order matters only between cuts that are equally good. Default: 0.
     pub seed: u64,
 }
@@ -113,6 +154,7 @@ impl Default for DecisionTreeRegressorParameters {
             min_samples_leaf: 1,
             min_samples_split: 2,
             splitter: Splitter::Best,
+            cuts: Cuts::Midpoint,
             seed: 0,
         }
     }
@@ -139,6 +181,7 @@ impl RandomForestRegressorParameters {
         bootstrap as with_bootstrap: bool => bootstrap;
         keep_samples as with_keep_samples: bool => keep_samples;
         splitter as with_splitter: Splitter => splitter;
+        cuts as with_cuts: Cuts => cuts;
         seed as with_seed: u64 => seed;
         n_threads as with_n_threads: usize => Some(n_threads);
     }
@@ -150,6 +193,7 @@ impl RandomForestRegressorParameters {
             split: self.min_samples_split,
             tried: self.m,
             random: self.splitter == Splitter::Random,
+            lower: self.cuts == Cuts::Measured,
         }
     }
 }
@@ -161,6 +205,7 @@ impl DecisionTreeRegressorParameters {
         min_samples_leaf as with_min_samples_leaf: u32 => min_samples_leaf;
         min_samples_split as with_min_samples_split: u32 => min_samples_split;
         splitter as with_splitter: Splitter => splitter;
+        cuts as with_cuts: Cuts => cuts;
         seed as with_seed: u64 => seed;
     }
 
@@ -173,6 +218,7 @@ impl DecisionTreeRegressorParameters {
             split: self.min_samples_split,
             tried: Some(self.m.unwrap_or(all)),
             random: self.splitter == Splitter::Random,
+            lower: self.cuts == Cuts::Measured,
         }
     }
 }
@@ -186,6 +232,7 @@ pub(crate) struct Settings {
     /// `None` for the square root of the number of features, rounded down.
     pub tried: Option<u32>,
     pub random: bool,
+    pub lower: bool,
 }
 
 impl Settings {
@@ -198,6 +245,7 @@ impl Settings {
             said: self.tried.is_some(),
             tried: self.tried.unwrap_or(0),
             random: self.random,
+            lower: self.lower,
         }
     }
 
@@ -209,6 +257,7 @@ impl Settings {
             split: self.split,
             tried: self.tried(features),
             random: self.random,
+            lower: self.lower,
         }
     }
 

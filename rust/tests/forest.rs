@@ -4,8 +4,8 @@ mod common;
 
 use common::{Maker, bits, same};
 use tailboardy::{
-    Cause, Counts, DecisionTreeRegressor, DecisionTreeRegressorParameters, DenseMatrix, Draws,
-    Fitting, Given, Kind, Listings, RandomForestRegressor, RandomForestRegressorParameters,
+    Cause, Counts, Cuts, DecisionTreeRegressor, DecisionTreeRegressorParameters, DenseMatrix,
+    Draws, Fitting, Given, Kind, Listings, RandomForestRegressor, RandomForestRegressorParameters,
     Splitter,
 };
 
@@ -269,15 +269,18 @@ fn a_tree_alone_is_a_forest_of_one_that_tries_all() {
     for _ in 0..50 {
         let (x, y) = (made.matrix(25, 3), made.plain(25, 1).1);
         let splitter = made.one_of(&[Splitter::Best, Splitter::Random]);
+        let cuts = made.one_of(&[Cuts::Midpoint, Cuts::Measured]);
         let weights: Vec<f64> = (0..25)
             .map(|_| made.one_of(&[0.0, -0.0, 0.5, 3.0]))
             .collect();
         let alone = DecisionTreeRegressorParameters::default()
             .with_splitter(splitter)
+            .with_cuts(cuts)
             .with_seed(9);
         let alone = DecisionTreeRegressor::fit_with_weights(&x, &y, &weights, alone).unwrap();
         let one = RandomForestRegressorParameters::default()
             .with_splitter(splitter)
+            .with_cuts(cuts)
             .with_n_trees(1)
             .with_bootstrap(false)
             .with_m(3)

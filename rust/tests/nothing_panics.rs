@@ -119,7 +119,9 @@ fn seeded() {
             fitting = fitting.with_listings(&listings);
         }
         told(fitting.check(), &mut tally);
-        let tree = DecisionTreeRegressorParameters::default().with_splitter(parameters.splitter);
+        let tree = DecisionTreeRegressorParameters::default()
+            .with_splitter(parameters.splitter)
+            .with_cuts(parameters.cuts);
         told(fitting.tree(tree), &mut tally);
         if let Some(forest) = told(fitting.forest(parameters), &mut tally) {
             read(&mut made, &forest, &x, &y, &mut tally);

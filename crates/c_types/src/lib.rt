@@ -2,7 +2,7 @@
 ghost use mathlib.Core.Path.{_≡_};
 ghost use Prim.Native.Nat.{_<_};
 ghost use Rattle.rules.specs.Answers.{treeTold, forestTold, replyTold, errorTold, nodeTold};
-ghost use Rattle.rules.specs.Plain.{depthOf, splitterOf, triedFrom, settingsOf, treeSettingsOf, forestSettingsOf, scaleOf, treeNumbers, forestNumbers, errorNumbers, nodeNumbers};
+ghost use Rattle.rules.specs.Plain.{depthOf, splitterOf, heightOf, triedFrom, settingsOf, treeSettingsOf, forestSettingsOf, scaleOf, treeNumbers, forestNumbers, errorNumbers, nodeNumbers};
 ghost use Rattle.c_types.specs.Plain.{noNode};
 ghost use Rattle.c_types.specs.Nodes.{trueChildOf, childOf};
 use rules::Depth;
@@ -11,6 +11,7 @@ use rules::ErrorTold;
 use rules::ForestAnswer;
 use rules::ForestSettings;
 use rules::ForestTold;
+use rules::Height;
 use rules::Kind;
 use rules::Node;
 use rules::NodeReply;
@@ -44,6 +45,15 @@ pub fn splitter_of(random: bool) -> Splitter
     Splitter::Best
 }
 
+pub fn height_of(lower: bool) -> Height
+    ensures { λ r. ⌜ r ≡ heightOf lower ⌝ }
+{
+    if lower {
+        return Height::Lower;
+    }
+    Height::Midpoint
+}
+
 pub fn tried_from(said: bool, tried: u32) -> Tried
     ensures { λ r. ⌜ r ≡ triedFrom said tried ⌝ }
 {
@@ -53,16 +63,25 @@ pub fn tried_from(said: bool, tried: u32) -> Tried
     Tried::Unsaid
 }
 
-fn settings_of(limited: bool, limit: u16, leaf: u32, split: u32, random: bool) -> Settings
-    ensures { λ r. ⌜ r ≡ settingsOf limited limit leaf split random ⌝ }
+fn settings_of(
+    limited: bool,
+    limit: u16,
+    leaf: u32,
+    split: u32,
+    random: bool,
+    lower: bool,
+) -> Settings
+    ensures { λ r. ⌜ r ≡ settingsOf limited limit leaf split random lower ⌝ }
 {
     let depth = depth_of(limited, limit);
     let splitter = splitter_of(random);
+    let height = height_of(lower);
     Settings {
         depth,
         leaf,
         split,
         splitter,
+        height,
     }
 }
 
@@ -75,6 +94,7 @@ pub fn tree_settings_of(plain: TreeSettings) -> Settings
         plain.leaf,
         plain.split,
         plain.random,
+        plain.lower,
     )
 }
 
@@ -87,6 +107,7 @@ pub fn forest_settings_of(plain: ForestSettings) -> Settings
         plain.leaf,
         plain.split,
         plain.random,
+        plain.lower,
     )
 }
 

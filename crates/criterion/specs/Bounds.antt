@@ -6,10 +6,12 @@ use lib.ListN.{length}
 use lib.Dec.{T}
 use lib.Ieee.{Float, lt, le}
 use lib.Ieee.Scale.{finite}
+use Rattle.rules.specs.declared.Height.{Height}
 use Rattle.rules.specs.Threshold.{thresholdBetween}
 
-pub record Between (p x r : Float) : Type 0 where
-  pub exact : r ≡ thresholdBetween p x
+-- for either choice, exact and at least the lower and below the upper
+pub record Between (h : Height) (p x r : Float) : Type 0 where
+  pub exact : r ≡ thresholdBetween h p x
   pub inside : T (finite p) → T (finite x) → T (lt p x) → T (le p r) × T (lt r x)
 
 -- row i has a count, and a weight if there are weights

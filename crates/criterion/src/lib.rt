@@ -10,6 +10,7 @@ ghost use Rattle.rules.specs.Forest.{triedOf};
 ghost use Rattle.rules.specs.declared.Tried.the-variants.{Unsaid};
 ghost use Rattle.criterion.specs.Bounds.{Between, Weighed};
 ghost use Rattle.criterion.specs.Sides.{sideOn, joined};
+use rules::Height;
 use rules::Totals;
 use rules::Tried;
 
@@ -98,12 +99,17 @@ pub fn score_of(t: Totals, f: Totals, m: f64) -> f64
     d * d / (t.mass * f.mass * m)
 }
 
-// On every p and x the definition's; for finite p below x it is at least p and below x.
-pub fn threshold_of(p: f64, x: f64) -> f64
-    ensures { λ r. ⌜ Between p x r ⌝ }
+// On every p and x the definition's; for either choice, for finite p below x, it is at least p and below x.
+pub fn threshold_of(height: Height, p: f64, x: f64) -> f64
+    ensures { λ r. ⌜ Between height p x r ⌝ }
 {
-    let mid = p + (x - p) / 2.0;
-    if mid < x { mid } else { p }
+    match height {
+        Height::Midpoint => {
+            let mid = p + (x - p) / 2.0;
+            if mid < x { mid } else { p }
+        }
+        Height::Lower => p,
+    }
 }
 
 // Neither a NaN nor infinite: of those alone the difference from itself is a NaN.

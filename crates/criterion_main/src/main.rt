@@ -1,4 +1,5 @@
 // Totals and scores, thresholds and features tried on small vectors. Written out and compared with the file `stdout`.
+use rules::Height;
 use rules::Totals;
 use rules::Tried;
 
@@ -56,17 +57,23 @@ fn no_number() {
     tell(b"-1 is a weight", criterion::weight_good(-1.0));
 }
 
+fn midway(p: f64, x: f64) -> f64 {
+    criterion::threshold_of(Height::Midpoint, p, x)
+}
+
 // Halfway; between neighbours, where halfway rounds up to the higher; and across all of the format, where the gap is infinite.
+// Then the lower of two values, with its sign.
 fn thresholds() {
-    tell(b"between 1 and 2", criterion::threshold_of(1.0, 2.0) == 1.5);
+    tell(b"between 1 and 2", midway(1.0, 2.0) == 1.5);
     let p = 1.0000000000000002;
     let x = 1.0000000000000004;
-    tell(b"between neighbours", criterion::threshold_of(p, x) == p);
+    tell(b"between neighbours", midway(p, x) == p);
     let low = -1.7e308;
-    tell(
-        b"across the format",
-        criterion::threshold_of(low, 1.7e308) == low,
-    );
+    tell(b"across the format", midway(low, 1.7e308) == low);
+    let lower = criterion::threshold_of(Height::Lower, 1.0, 2.0);
+    tell(b"the lower of 1 and 2", lower == 1.0);
+    let zero = criterion::threshold_of(Height::Lower, -0.0, 2.0);
+    tell(b"the lower of -0 and 2 is -0", 1.0 / zero < 0.0);
 }
 
 fn tried() {

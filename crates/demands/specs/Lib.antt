@@ -23,6 +23,7 @@ pub mod ForestDraws
 pub mod Splitters
 -- growth
 pub mod Sides
+pub mod Heights
 pub mod Filled
 pub mod Limits
 pub mod Tried

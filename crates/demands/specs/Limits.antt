@@ -37,7 +37,7 @@ use Rattle.demands.specs.Refusals.{Unrefused, tree-passes}
 -- ---- the statements
 
 abbrev pub limited : Depth → Settings → Settings
-limited d G = record { depth = d; leaf = G .leaf; split = G .split; splitter = G .splitter }
+limited d G = record { depth = d; leaf = G .leaf; split = G .split; splitter = G .splitter; height = G .height }
 
 -- the same call under another limit
 abbrev pub treeUnder : Depth → TreeCall → TreeCall

@@ -1,39 +1,37 @@
 -- What a search that finds a cut has seen to: the cut leaves rows on both sides, and the least leaf on both; and the two sides are good nodes again.
 -- Assumes nothing.
 use Prim.Native.Nat.{ℕ, _+_, _-_, _<_, _≤_, min}
-use native.Mathlib.Nat.{add-zero}
 use native.Mathlib.Omega.{arith}
 use mathlib.Core.Path.{_≡_, refl, sym, ap, _∙_, subst}
 use mathlib.Core.Bool.{Bool, true, false, not, _&&_, cond, false≢true}
-use mathlib.Core.List.{List, [], _∷_, _++_, append-assoc, append-nil}
+use mathlib.Core.List.{List, [], _∷_, _++_, append-nil}
 use lib.ListN.{getD, take}
-use lib.Dec.{T, ltb, nltb→le, lit<}
-use lib.Ieee.{Float, lt, le, eq}
+use lib.Dec.{T, ltb, nltb→le}
+use lib.Ieee.{Float, lt, le}
 use lib.Ieee.Fits.{and-l, and-r}
 use Rattle.floats.specs.Order.{le-trans64}
 use Rattle.rules.specs.declared.Totals.{Totals}
 use Rattle.rules.specs.declared.Params.{Params}
 use Rattle.rules.specs.declared.Splitter.{Splitter}
 use Rattle.rules.specs.declared.Splitter.the-variants.{Best, Random}
+use Rattle.rules.specs.declared.Height.{Height}
 use Rattle.rules.specs.declared.Cut.{Cut}
 use Rattle.rules.specs.declared.Held.{Held}
 use Rattle.rules.specs.declared.Held.the-variants.{Nothing, Holds}
-use Rattle.rules.specs.declared.Sweep.{Sweep}
 use Rattle.rules.specs.Words.{putIf, keep, total, eachOnce}
-use Rattle.rules.specs.Totals.{empty, takeIn, less, proxy}
+use Rattle.rules.specs.Totals.{empty, less, proxy}
 use Rattle.rules.specs.Threshold.{thresholdBetween}
 use Rattle.rules.specs.Draws.{Source, Tapes, takeWords, takeThreshold, nextThreshold, tape}
-use Rattle.rules.specs.Search.{Element, Column, at, totalsOf, tally, NodeRows, goesTrue, trueSide, falseSide, better, judge, candidateAt, step, sweep, bestIn, final, drawn, Tries, drawIn, randomIn, tryOne, tryAll, Found, noCut, cutFound, found, search}
+use Rattle.rules.specs.Search.{Element, Column, at, totalsOf, tally, NodeRows, goesTrue, trueSide, falseSide, better, judge, bestIn}
+use Rattle.rules.specs.Search.{final, drawn, Tries, drawIn, randomIn, tryOne, tryAll, Found, noCut, cutFound, found, search}
 use Rattle.rules.specs.Growth.{Waiting, child}
-use Rattle.lemmas.specs.Lists.{is-true, Every, every-imp, every-append, every-take, every-keep, keep-all, keep-none, keep-append, keep-keep, getD-keep, total-append, total-sides, Ordered, ordered-keep}
+use Rattle.lemmas.specs.Lists.{is-true, Every, every-imp, every-take, every-keep, keep-all, keep-none, keep-append, keep-keep, getD-keep, total-append, total-sides, ordered-keep}
 use Rattle.lemmas.specs.Once.{once-below}
 use Rattle.lemmas.specs.Outs.{Then, then-then}
-use Rattle.lemmas.specs.Values.{Value, le-refl, eq-refl, le-eq, past, between}
+use Rattle.lemmas.specs.Values.{Value, le-refl, past, between}
+use Rattle.lemmas.specs.Heights.{reheight, Rising, cutAt, Place, HeldBoth, best-both}
 
 -- ---- good nodes and fine cuts
-
-abbrev pub Rising : ℕ → Column → Type 0
-Rising j es = Ordered (λ x y. T (le (at j x) (at j y))) es
 
 -- what is known of a column of a node that is searched
 pub record Sound (P : Params) (node : NodeRows) (j : ℕ) : Type 0 where
@@ -99,109 +97,77 @@ judge-fine P node h t k c g f = go (ltb k (P .leaf)) (ltb (node .count - k) (P .
 
 -- ---- the best splitter
 
+-- what stands before a place goes to the true side of the cut there, for either height, and the rest to the false side
+pub place-sends : (M : Element → Type 0) (g : Height) (j : ℕ) → ((x : Element) → M x → Value (at j x)) → (col pre : Column) (low high : Element) (after : Column)
+    → Place M j col pre low high after → Every (λ x. goesTrue (cutAt g j low high) x ≡ true) pre × Every (λ x. goesTrue (cutAt g j low high) x ≡ false) (high ∷ after)
+unfolding goesTrue
+place-sends M g j values col pre low high after p = (
+  every-imp _ _ (λ x h. is-true _ (le-trans64 (at j x) (at j low) t h (mid .0))) pre (p .below),
+  (past t (at j high) (at j high) (mid .1) (le-refl (at j high) vh), every-imp _ _ (λ x h. past t (at j high) (at j x) (mid .1) h) after (p .rising .0)),
+)
+  where
+    t : Float
+    t = thresholdBetween g (at j low) (at j high)
+
+    vh : Value (at j high)
+    vh = values high (p .highIn)
+
+    mid : T (le (at j low) t) × T (lt t (at j high))
+    mid = between g (at j low) (at j high) (values low (p .lowIn)) vh (p .up) (p .new)
+
 module _ (P : Params) (node : NodeRows) (j : ℕ) (known : j < P .features) (counted : node .count ≡ tally (getD (node .columns) j [])) where
-  -- a place in the column, pre before it and p the value of the run before it
-  cut-here : (pre : Column) (e : Element) (es : Column) (p : Float)
-      → pre ++ (e ∷ es) ≡ getD (node .columns) j [] → 0 < total (λ x. 1) pre → Value p → Value (at j e)
-      → Every (λ x. T (le (at j x) p)) pre → T (le p (at j e)) → Rising j (e ∷ es) → eq (at j e) p ≡ false
-      → P .leaf ≤ tally pre → P .leaf ≤ node .count - tally pre → Fine P node (record { feature = j; threshold = thresholdBetween p (at j e) })
-  unfolding goesTrue total
-  cut-here pre e es p hc some vp ve below step rise new l₁ l₂ =
+  abbrev Valued : Element → Type 0
+  Valued x = Value (at j x)
+
+  cut-here : (pre : Column) (low high : Element) (after : Column) → Place Valued j (getD (node .columns) j []) pre low high after
+      → P .leaf ≤ tally pre → P .leaf ≤ node .count - tally pre → Fine P node (cutAt (P .height) j low high)
+  unfolding total
+  cut-here pre low high after p l₁ l₂ =
       record {
         known = known;
-        someTrue = subst (λ r. 0 < total (λ x. 1) r) (sym ts) some;
+        someTrue = subst (λ r. 0 < total (λ x. 1) r) (sym ts) (p .some);
         someFalse = subst (λ r. 0 < total (λ x. 1) r) (sym fs) one-more;
         leafTrue = subst (λ r. P .leaf ≤ tally r) (sym ts) l₁;
         leafFalse = subst (λ r. P .leaf ≤ tally r) (sym fs) rest-leaf;
       }
     where
       c : Cut
-      c = record { feature = j; threshold = thresholdBetween p (at j e) }
+      c = cutAt (P .height) j low high
 
-      mid : T (le p (thresholdBetween p (at j e))) × T (lt (thresholdBetween p (at j e)) (at j e))
-      mid = between p (at j e) vp ve step new
-
-      before : Every (λ x. goesTrue c x ≡ true) pre
-      before = every-imp _ _ (λ x h. is-true _ (le-trans64 (at j x) p (thresholdBetween p (at j e)) h (mid .0))) pre below
-
-      after : Every (λ x. goesTrue c x ≡ false) (e ∷ es)
-      after = (past _ (at j e) (at j e) (mid .1) (le-refl (at j e) ve), every-imp _ _ (λ x h. past _ (at j e) (at j x) (mid .1) h) es (rise .0))
+      sent : Every (λ x. goesTrue c x ≡ true) pre × Every (λ x. goesTrue c x ≡ false) (high ∷ after)
+      sent = place-sends Valued (P .height) j (λ x v. v) _ pre low high after p
 
       ts : trueSide c (getD (node .columns) j []) ≡ pre
-      ts = ap (trueSide c) (sym hc) ∙ keep-append _ pre (e ∷ es) ∙ (λ i. keep-all _ pre before i ++ keep-none _ (e ∷ es) after i) ∙ append-nil pre
+      ts = ap (trueSide c) (sym (p .whole)) ∙ keep-append _ pre (high ∷ after) ∙ (λ i. keep-all _ pre (sent .0) i ++ keep-none _ (high ∷ after) (sent .1) i) ∙ append-nil pre
 
-      fs : falseSide c (getD (node .columns) j []) ≡ e ∷ es
-      fs = ap (falseSide c) (sym hc) ∙ keep-append _ pre (e ∷ es)
-          ∙ (λ i. keep-none _ pre (every-imp _ _ (λ x h. ap not h) pre before) i ++ keep-all _ (e ∷ es) (every-imp _ _ (λ x h. ap not h) (e ∷ es) after) i)
+      fs : falseSide c (getD (node .columns) j []) ≡ high ∷ after
+      fs = ap (falseSide c) (sym (p .whole)) ∙ keep-append _ pre (high ∷ after)
+          ∙ (λ i. keep-none _ pre (every-imp _ _ (λ x h. ap not h) pre (sent .0)) i ++ keep-all _ (high ∷ after) (every-imp _ _ (λ x h. ap not h) (high ∷ after) (sent .1)) i)
 
-      one-more : 0 < 1 + total (λ x. 1) es
+      one-more : 0 < 1 + total (λ x. 1) after
       one-more = omega arith
 
-      rest-leaf : P .leaf ≤ tally (e ∷ es)
-      rest-leaf = omega (arith, l₂, counted, ap tally hc, total-append (λ x. x .count) pre (e ∷ es))
+      rest-leaf : P .leaf ≤ tally (high ∷ after)
+      rest-leaf = omega (arith, l₂, counted, ap tally (p .whole), total-append (λ x. x .count) pre (high ∷ after))
 
-  -- the sweep, from a place that is not the first
-  sweep-fine : (pre rest : Column) (w : Sweep) → pre ++ rest ≡ getD (node .columns) j []
-      → w .count ≡ tally pre → 0 < total (λ x. 1) pre → Value (w .last) → Every (λ x. Value (at j x)) rest
-      → Every (λ x. T (le (at j x) (w .last))) pre → Every (λ x. T (le (w .last) (at j x))) rest → Rising j rest
-      → HeldFine P node (w .best) → HeldFine P node (sweep P node j w rest .best)
-  unfolding sweep step candidateAt total
-  sweep-fine pre [] w hc hk some vl vs below above rise g = g
-  sweep-fine pre (e ∷ es) w hc hk some vl vs below above rise g =
-      go (eq (at j e) (w .last)) refl (λ w′ k v b a h. sweep-fine (pre ++ (e ∷ [])) es w′ (append-assoc pre (e ∷ []) es ∙ hc) k longer v (vs .1) b a (rise .1) h)
-    where
-      next : Bool → Sweep
-      next b =
-          record {
-            before = takeIn (w .before) (e .target) (e .mass);
-            count = w .count + e .count;
-            last = cond b (w .last) (at j e);
-            best = candidateAt (not b) P node j (at j e) w;
-          }
+  abbrev FineFirst : Cut → Cut → Type 0
+  FineFirst c c′ = Fine P node c
 
-      more : w .count + e .count ≡ tally (pre ++ (e ∷ []))
-      more = omega (arith, hk, total-append (λ x. x .count) pre (e ∷ []), add-zero (e .count))
+  twice : (h : Held) → HeldFine P node h → HeldBoth FineFirst h h
+  twice Nothing g = tt
+  twice (Holds c q) g = (g, refl)
 
-      longer : 0 < total (λ x. 1) (pre ++ (e ∷ []))
-      longer = omega (arith, some, total-append (λ x. 1) pre (e ∷ []))
-
-      go : (b : Bool) → eq (at j e) (w .last) ≡ b
-          → ((w′ : Sweep) → w′ .count ≡ tally (pre ++ (e ∷ [])) → Value (w′ .last) → Every (λ x. T (le (at j x) (w′ .last))) (pre ++ (e ∷ []))
-          → Every (λ x. T (le (w′ .last) (at j x))) es → HeldFine P node (w′ .best) → HeldFine P node (sweep P node j w′ es .best))
-          → HeldFine P node (sweep P node j (next b) es .best)
-      go true q ih =
-          ih (next true) more vl (every-append _ pre (e ∷ []) below (le-eq (at j e) (w .last) q, tt)) (above .1) g
-      go false q ih =
-          ih (next false) more (vs .0)
-          (every-append _ pre (e ∷ []) (every-imp _ _ (λ x h. le-trans64 (at j x) (w .last) (at j e) h (above .0)) pre below) (le-refl (at j e) (vs .0), tt))
-          (rise .0)
-          (judge-fine P node (w .best) (w .before) (w .count) _ g
-          (λ l₁ l₂. cut-here pre e es (w .last) hc some vl (vs .0) below (above .0) rise q
-          (subst (λ n. P .leaf ≤ n) hk l₁) (subst (λ n. P .leaf ≤ node .count - n) hk l₂)))
+  first : (h h′ : Held) → HeldBoth FineFirst h h′ → HeldFine P node h
+  first Nothing h′ b = tt
+  first (Holds c q) Nothing b = absurd b
+  first (Holds c q) (Holds c′ q′) b = b .0
 
   -- along the whole column
   pub best-fine : (h : Held) → Every (λ x. Value (at j x)) (getD (node .columns) j []) → Rising j (getD (node .columns) j [])
       → HeldFine P node h → HeldFine P node (bestIn P node j h (getD (node .columns) j []))
-  unfolding bestIn sweep step candidateAt total
-  best-fine h vs rise g = go (getD (node .columns) j []) refl vs rise
-    where
-      next : Element → Bool → Sweep
-      next e b =
-          record {
-            before = takeIn empty (e .target) (e .mass);
-            count = 0 + e .count;
-            last = cond b (at j e) (at j e);
-            best = candidateAt (not b) P node j (at j e) (record { before = empty; count = 0; last = at j e; best = h });
-          }
-
-      one : (e : Element) → 0 + e .count ≡ e .count + 0
-      one e = omega arith
-
-      go : (col : Column) → col ≡ getD (node .columns) j [] → Every (λ x. Value (at j x)) col → Rising j col → HeldFine P node (bestIn P node j h col)
-      go [] hc vs rise = g
-      go (e ∷ es) hc vs rise =
-          subst (λ b. HeldFine P node (sweep P node j (next e b) es .best)) (sym (eq-refl (at j e) (vs .0)))
-          (sweep-fine (e ∷ []) es (next e true) hc (one e) (lit< tt) (vs .0) (vs .1) (le-refl (at j e) (vs .0), tt) (rise .0) (rise .1) g)
+  best-fine h vs rise g =
+      first (bestIn P node j h (getD (node .columns) j [])) (bestIn (reheight (P .height) P) node j h (getD (node .columns) j []))
+      (best-both P (P .height) FineFirst Valued node j (λ x v. v) cut-here h h vs rise (twice h g))
 
   -- ---- the random splitter
 

@@ -12,8 +12,12 @@ pub mod Lifted
 pub mod Unmet
 -- values that a fit accepts, and the threshold between two of them
 pub mod Values
+-- a search at two heights: one law of what it holds
+pub mod Heights
 -- a cut that is found leaves rows on both sides, and both are good nodes again
 pub mod Cuts
+-- two growths alike but for the height: the same rows go the same way
+pub mod Twins
 -- how many nodes a growth makes at most
 pub mod Room
 -- what a growth draws from the tapes
@@ -25,6 +29,8 @@ pub mod Tapes
 pub mod Splits
 -- the root of a fit that passes its checks is good
 pub mod Root
+-- one fit at two heights
+pub mod TwinFits
 -- what a fit knows once its checks have passed
 pub mod Passed
 -- good tables: a walk ends at a leaf, and what a fit grows is one

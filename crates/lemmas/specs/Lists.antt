@@ -65,6 +65,11 @@ module _ {ℓ} {A : Type ℓ} where
   every-at Q (x ∷ l) d zero e h = e .0
   every-at Q (x ∷ l) d (suc i) e h = every-at Q l d i (e .1) (le-of-suc-le-suc h)
 
+  -- and by their places
+  pub at-every : (Q : A → Type 0) (l : List A) (d : A) → ((i : ℕ) → i < length l → Q (getD l i d)) → Every Q l
+  at-every Q [] d h = tt
+  at-every Q (x ∷ l) d h = (h 0 (omega arith), at-every Q l d (λ i b. h (suc i) (omega (arith, b))))
+
   -- where it holds of the default too, any place will do
   pub every-or : (Q : A → Type 0) (l : List A) (d : A) (i : ℕ) → Every Q l → Q d → Q (getD l i d)
   every-or Q [] d i e h = h
@@ -126,6 +131,11 @@ module _ {ℓ} {A : Type ℓ} where
   unfolding keep putIf
   keep-none p [] h = refl
   keep-none p (x ∷ l) h = ap (λ b. putIf b x (keep p l)) (h .0) ∙ keep-none p l (h .1)
+
+  pub keep-same : (p q : A → Bool) (l : List A) → Every (λ x. p x ≡ q x) l → keep p l ≡ keep q l
+  unfolding keep
+  keep-same p q [] h = refl
+  keep-same p q (x ∷ l) h = λ i. putIf (h .0 i) x (keep-same p q l (h .1) i)
 
   put-append : (b : Bool) (x : A) (k l : List A) → putIf b x k ++ l ≡ putIf b x (k ++ l)
   unfolding putIf
@@ -216,6 +226,16 @@ module _ {ℓ} {A : Type ℓ} where
       go true = refl
       go false = sym (zero-add (total f (keep p l)))
 
+  -- where nothing is kept, nothing passes
+  pub none-kept : (p : A → Bool) (l : List A) → total (λ x. 1) (keep p l) ≡ 0 → Every (λ x. p x ≡ false) l
+  unfolding keep putIf total
+  none-kept p [] h = tt
+  none-kept p (x ∷ l) h = go (p x) refl h (λ z. none-kept p l z)
+    where
+      go : (b : Bool) → p x ≡ b → total (λ x. 1) (putIf b x (keep p l)) ≡ 0 → (total (λ x. 1) (keep p l) ≡ 0 → Every (λ x. p x ≡ false) l) → Every (λ x. p x ≡ false) (x ∷ l)
+      go true e z rest = absurd (omega (arith, z))
+      go false e z rest = (e, rest z)
+
   pub length-total : (l : List A) → total (λ x. 1) l ≡ length l
   unfolding total
   length-total [] = refl
@@ -305,3 +325,38 @@ module _ {ℓ} {A : Type ℓ} (R : A → A → Type 0) where
 pub ordered-map {ℓ κ} : {A : Type ℓ} {B : Type κ} (R : B → B → Type 0) (f : A → B) (l : List A) → Ordered (λ x y. R (f x) (f y)) l → Ordered R (map f l)
 ordered-map R f [] r = tt
 ordered-map R f (x ∷ l) r = (every-map (R (f x)) f l (r .0), ordered-map R f l (r .1))
+
+-- ---- two lists side by side
+
+abbrev pub Pairs : {A B : Type 0} → (A → B → Type 0) → List A → List B → Type 0
+Pairs R [] [] = Unit {0}
+Pairs R [] (y ∷ ys) = ⊥
+Pairs R (x ∷ xs) [] = ⊥
+Pairs R (x ∷ xs) (y ∷ ys) = R x y × Pairs R xs ys
+
+module _ {A B : Type 0} (R : A → B → Type 0) where
+  pub pairs-append : (xs : List A) (ys : List B) (us : List A) (vs : List B) → Pairs R xs ys → Pairs R us vs → Pairs R (xs ++ us) (ys ++ vs)
+  pairs-append [] [] us vs h k = k
+  pairs-append [] (y ∷ ys) us vs h k = absurd h
+  pairs-append (x ∷ xs) [] us vs h k = absurd h
+  pairs-append (x ∷ xs) (y ∷ ys) us vs h k = (h .0, pairs-append xs ys us vs (h .1) k)
+
+  pub pairs-set : (xs : List A) (ys : List B) (i : ℕ) (x : A) (y : B) → Pairs R xs ys → R x y → Pairs R (set xs i x) (set ys i y)
+  pairs-set [] [] i x y h r = tt
+  pairs-set [] (v ∷ ys) i x y h r = absurd h
+  pairs-set (u ∷ xs) [] i x y h r = absurd h
+  pairs-set (u ∷ xs) (v ∷ ys) zero x y h r = (r, h .1)
+  pairs-set (u ∷ xs) (v ∷ ys) (suc i) x y h r = (h .0, pairs-set xs ys i x y (h .1) r)
+
+  -- what each two agree in, the lists agree in
+  pub pairs-map : {C : Type 0} (f : A → C) (g : B → C) → ((x : A) (y : B) → R x y → f x ≡ g y) → (xs : List A) (ys : List B) → Pairs R xs ys → map f xs ≡ map g ys
+  pairs-map f g same [] [] h = refl
+  pairs-map f g same [] (y ∷ ys) h = absurd h
+  pairs-map f g same (x ∷ xs) [] h = absurd h
+  pairs-map f g same (x ∷ xs) (y ∷ ys) h = λ i. same x y (h .0) i ∷ pairs-map f g same xs ys (h .1) i
+
+  pub pairs-length : (xs : List A) (ys : List B) → Pairs R xs ys → length xs ≡ length ys
+  pairs-length [] [] h = refl
+  pairs-length [] (y ∷ ys) h = absurd h
+  pairs-length (x ∷ xs) [] h = absurd h
+  pairs-length (x ∷ xs) (y ∷ ys) h = ap suc (pairs-length xs ys (h .1))

@@ -79,3 +79,51 @@ pub bind-same {ℓ κ} : {A : Type ℓ} {B : Type κ} (m : Out A) (f g : A → O
 unfolding bind
 bind-same (bad n) f g Q h e = refl
 bind-same (ok a) f g Q h e = e a h
+
+-- ---- two answers side by side: bad at the same search, or two that R holds of
+
+abbrev pub Both {ℓ κ} : {A : Type ℓ} {B : Type κ} → (A → B → Type 0) → Out A → Out B → Type 0
+Both R (bad m) (bad n) = m ≡ n
+Both R (bad m) (ok b) = ⊥
+Both R (ok a) (bad n) = ⊥
+Both R (ok a) (ok b) = R a b
+
+pub both-then {ℓ κ μ ν} : {A : Type ℓ} {B : Type κ} {C : Type μ} {D : Type ν} (Q : A → B → Type 0) (R : C → D → Type 0) (m : Out A) (n : Out B) (f : A → Out C) (g : B → Out D)
+    → Both Q m n → ((a : A) (b : B) → Q a b → Both R (f a) (g b)) → Both R (bind m f) (bind n g)
+unfolding bind
+both-then Q R (bad m) (bad n) f g h k = h
+both-then Q R (bad m) (ok b) f g h k = absurd h
+both-then Q R (ok a) (bad n) f g h k = absurd h
+both-then Q R (ok a) (ok b) f g h k = k a b h
+
+-- after one and the same answer
+pub both-same {ℓ μ ν} : {A : Type ℓ} {C : Type μ} {D : Type ν} (Q : A → Type 0) (R : C → D → Type 0) (m : Out A) (f : A → Out C) (g : A → Out D)
+    → Then m Q → ((a : A) → Q a → Both R (f a) (g a)) → Both R (bind m f) (bind m g)
+unfolding bind
+both-same Q R (bad n) f g h k = refl
+both-same Q R (ok a) f g h k = k a h
+
+pub both-any {ℓ μ ν} : {A : Type ℓ} {C : Type μ} {D : Type ν} (R : C → D → Type 0) (m : Out A) (f : A → Out C) (g : A → Out D)
+    → ((a : A) → Both R (f a) (g a)) → Both R (bind m f) (bind m g)
+unfolding bind
+both-any R (bad n) f g k = refl
+both-any R (ok a) f g k = k a
+
+-- with what is known of the first
+pub both-with {ℓ κ} : {A : Type ℓ} {B : Type κ} (R : A → B → Type 0) (Q : A → Type 0) (m : Out A) (n : Out B) → Both R m n → Then m Q → Both (λ a b. R a b × Q a) m n
+both-with R Q (bad m) (bad n) h k = h
+both-with R Q (bad m) (ok b) h k = absurd h
+both-with R Q (ok a) (bad n) h k = absurd h
+both-with R Q (ok a) (ok b) h k = (h, k)
+
+pub both-after {ℓ κ} : {A : Type ℓ} {B : Type κ} (Q R : A → B → Type 0) (m : Out A) (n : Out B) → Both Q m n → ((a : A) (b : B) → Q a b → R a b) → Both R m n
+both-after Q R (bad m) (bad n) h k = h
+both-after Q R (bad m) (ok b) h k = absurd h
+both-after Q R (ok a) (bad n) h k = absurd h
+both-after Q R (ok a) (ok b) h k = k a b h
+
+-- of the first alone
+pub both-first {ℓ κ} : {A : Type ℓ} {B : Type κ} (Q : A → B → Type 0) (R : A → Type 0) (m : Out A) (n : Out B) → Both Q m n → ((a : A) (b : B) → Q a b → R a) → Then m R
+both-first Q R (bad m) n h k = tt
+both-first Q R (ok a) (bad n) h k = absurd h
+both-first Q R (ok a) (ok b) h k = k a b h

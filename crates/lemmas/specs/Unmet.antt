@@ -24,7 +24,7 @@ use Rattle.lemmas.specs.WaitingOrder.{AtLevel, searchIf-joins, joins-lev
 
 -- the same parameters under another limit
 abbrev pub relimit : ℕ → Params → Params
-relimit n P = record { limit = n; leaf = P .leaf; split = P .split; tried = P .tried; features = P .features; splitter = P .splitter }
+relimit n P = record { limit = n; leaf = P .leaf; split = P .split; tried = P .tried; features = P .features; splitter = P .splitter; height = P .height }
 
 -- ---- no search reads the limit
 

@@ -7,6 +7,8 @@ use lib.Ieee.{Float, nan, inf, fin, binary64, fits, isNan, lt, le, eq, ofBits}
 use lib.Ieee.Scale.{finite}
 use Rattle.floats.specs.Order.{le-refl64, le-of-eq64, lt-not-le, le-or-gt, trichotomy, eq-sym, differs-lt, cut-out}
 use Rattle.floats.specs.Between as Mid
+use Rattle.rules.specs.declared.Height.{Height}
+use Rattle.rules.specs.declared.Height.the-variants.{Midpoint, Lower}
 use Rattle.rules.specs.Threshold.{midpoint, thresholdBetween}
 use Rattle.lemmas.specs.Lists.{is-true, is-false}
 
@@ -45,10 +47,14 @@ not-falls x y a b n = go (le-or-gt x y (no-nan x a) (no-nan y b))
 pub past : (t x y : Float) → T (lt t x) → T (le x y) → le y t ≡ false
 past t x y h k = is-false (le y t) (cut-out t x y h k)
 
--- p <= threshold < x
-pub between : (p x : Float) → Value p → Value x → T (le p x) → eq x p ≡ false → T (le p (thresholdBetween p x)) × T (lt (thresholdBetween p x) x)
+-- p <= threshold < x, for either choice
+pub inside : (h : Height) (p x : Float) → Value p → T (finite x) → T (lt p x) → T (le p (thresholdBetween h p x)) × T (lt (thresholdBetween h p x) x)
 unfolding thresholdBetween midpoint ofBits
-between p x v w h n = Mid.between binary64 p x (v .0) (v .1) (w .1) (differs-lt p x h (apart (eq p x) (λ t. subst T n (eq-sym p x t)))) (thresholdBetween p x) refl
+inside Midpoint p x v w l = Mid.between binary64 p x (v .0) (v .1) w l (thresholdBetween Midpoint p x) refl
+inside Lower p x v w l = (le-refl p v, l)
+
+pub between : (h : Height) (p x : Float) → Value p → Value x → T (le p x) → eq x p ≡ false → T (le p (thresholdBetween h p x)) × T (lt (thresholdBetween h p x) x)
+between h p x v w l n = inside h p x v (w .1) (differs-lt p x l (apart (eq p x) (λ t. subst T n (eq-sym p x t))))
   where
     apart : (b : Bool) → (T b → ⊥) → T (not b)
     apart true f = f tt

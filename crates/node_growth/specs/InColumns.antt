@@ -19,7 +19,8 @@ use Rattle.rules.specs.Growth.{child}
 use Rattle.rules.specs.Words.{keep, putIf, total, from}
 use Rattle.rules.specs.Totals.{empty}
 use Rattle.lemmas.specs.Lists.{is-false, Every, every-at, every-imp, map-same, keep-none, keep-map, keep-short, getD-from, from-below}
-use Rattle.lemmas.specs.Cuts.{Rising, Good}
+use Rattle.lemmas.specs.Heights.{Rising}
+use Rattle.lemmas.specs.Cuts.{Good}
 use Rattle.lemmas.specs.Work.{part, columnsAt}
 use Rattle.work_columns.specs.Columns.{Cleft}
 use Rattle.work_columns.specs.Split.{Alike, goes}

@@ -11,7 +11,7 @@ pub record ParamsMade (S : Settings) (tried features : ℕ) (p : Params) : Type 
   pub deep : p .limit ≤ 65535
 
 pub params-made : (S : Settings) (tried features : ℕ) {l : ℕ} → (l ≡ limitOf (S .depth)) × (l ≤ 65535)
-    → ParamsMade S tried features (record { limit = l; leaf = S .leaf; split = S .split; tried = tried; features = features; splitter = S .splitter })
+    → ParamsMade S tried features (record { limit = l; leaf = S .leaf; split = S .split; tried = tried; features = features; splitter = S .splitter; height = S .height })
 unfolding paramsOf
 params-made S tried features el =
-    record { same = λ i. record { limit = el .0 i; leaf = S .leaf; split = S .split; tried = tried; features = features; splitter = S .splitter }; deep = el .1 }
+    record { same = λ i. record { limit = el .0 i; leaf = S .leaf; split = S .split; tried = tried; features = features; splitter = S .splitter; height = S .height }; deep = el .1 }

@@ -23,6 +23,7 @@ pub fn params_of(settings: Settings, tried: u32, features: usize) -> Params
 {
     let depth = settings.depth;
     let splitter = settings.splitter;
+    let height = settings.height;
     let limit = limit_of(depth);
     let wide = features as u32;
     Params {
@@ -32,5 +33,6 @@ pub fn params_of(settings: Settings, tried: u32, features: usize) -> Params
         tried,
         features: wide,
         splitter,
+        height,
     }
 }

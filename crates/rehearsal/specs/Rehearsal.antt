@@ -8,6 +8,8 @@ use lib.ListN.{length, replicate}
 use lib.IntN.{pos, negsuc}
 use lib.Ieee.{Float, nan, fin, binary64, add, sub, mul, div, lt, le, eq, isNan, ofInt, ofBits}
 use Rattle.rules.specs.declared.Splitter.the-variants.{Best}
+use Rattle.rules.specs.declared.Height.{Height}
+use Rattle.rules.specs.declared.Height.the-variants.{Midpoint, Lower}
 use Rattle.rules.specs.declared.Depth.{Depth}
 use Rattle.rules.specs.declared.Depth.the-variants.{Unlimited, AtMost}
 use Rattle.rules.specs.declared.Tried.the-variants.{Unsaid}
@@ -86,6 +88,11 @@ sorted = 0 ∷ 1 ∷ 2 ∷ 3 ∷ []
 abbrev plain : Given
 plain = given rise flats ones sorted
 
+-- -0 and +0, in the order of the listing, then 1 and 2
+abbrev zeros : List ℕ → Given
+zeros listing =
+    record { inputs = record { values = ofBits binary64 0x8000_0000_0000_0000 ∷ floats (0 ∷ 1 ∷ 2 ∷ []); targets = flats; listings = listing }; weights = []; counts = ones }
+
 -- P8's: the second row is left out
 abbrev sampled : List Float → Given
 sampled ys = given rise ys (2 ∷ 0 ∷ 1 ∷ 1 ∷ []) sorted
@@ -97,23 +104,26 @@ deep = float 0 ∷ ofInt binary64 (negsuc 999) ∷ float 10 ∷ float 10 ∷ []
 abbrev words : List ℕ
 words = replicate 7 0
 
-abbrev tree : Depth → ℕ → ℕ → Given → TreeCall
-tree depth leaf split G =
+abbrev treeBy : Height → Depth → ℕ → ℕ → Given → TreeCall
+treeBy height depth leaf split G =
     record {
       shape = record { rows = 4; features = 1 };
-      settings = record { depth = depth; leaf = leaf; split = split; splitter = Best };
+      settings = record { depth = depth; leaf = leaf; split = split; splitter = Best; height = height };
       tried = 1;
       given = G;
       words = words;
       thresholds = [];
     }
 
+abbrev tree : Depth → ℕ → ℕ → Given → TreeCall
+tree depth leaf split G = treeBy Midpoint depth leaf split G
+
 abbrev forest : Given → ForestCall
 forest G =
     record {
       shape = record { rows = 4; features = 1 };
       trees = 1;
-      settings = record { depth = Unlimited; leaf = 1; split = 2; splitter = Best };
+      settings = record { depth = Unlimited; leaf = 1; split = 2; splitter = Best; height = Midpoint };
       tried = Unsaid;
       given = G;
       words = words;
@@ -190,16 +200,22 @@ nodes vs ts ss trues falses k =
       falseChild = falses ++ nines k;
     }
 
--- P1's seven nodes
-abbrev seven : ℕ → Columns
-seven k =
-    nodes (f5 ∷ f0 ∷ f10 ∷ f10 ∷ f10 ∷ f0 ∷ f0 ∷ []) (half 5 ∷ half 3 ∷ half 7 ∷ f0 ∷ f0 ∷ f0 ∷ f0 ∷ [])
+-- P1's seven nodes, with the thresholds of the first three
+abbrev sevenAt : List Float → ℕ → Columns
+sevenAt ts k =
+    nodes (f5 ∷ f0 ∷ f10 ∷ f10 ∷ f10 ∷ f0 ∷ f0 ∷ []) (ts ++ replicate 4 f0)
     (f100 ∷ f0 ∷ f0 ∷ f0 ∷ f0 ∷ f0 ∷ f0 ∷ []) (1 ∷ 5 ∷ 3 ∷ 0 ∷ 0 ∷ 0 ∷ 0 ∷ []) (2 ∷ 6 ∷ 4 ∷ 0 ∷ 0 ∷ 0 ∷ 0 ∷ []) k
 
--- P8's five, and no place more
+abbrev seven : ℕ → Columns
+seven k = sevenAt (half 5 ∷ half 3 ∷ half 7 ∷ []) k
+
+-- P8's five, with the thresholds of the first and the third, then k places as they were
+abbrev fiveAt : Float → Float → ℕ → Columns
+fiveAt first third k =
+    nodes (f5 ∷ f0 ∷ f10 ∷ f10 ∷ f10 ∷ []) (first ∷ f0 ∷ third ∷ f0 ∷ f0 ∷ []) (f100 ∷ f0 ∷ f0 ∷ f0 ∷ f0 ∷ []) (1 ∷ 0 ∷ 3 ∷ 0 ∷ 0 ∷ []) (2 ∷ 0 ∷ 4 ∷ 0 ∷ 0 ∷ []) k
+
 abbrev five : Columns
-five =
-    nodes (f5 ∷ f0 ∷ f10 ∷ f10 ∷ f10 ∷ []) (times 1 1 ∷ f0 ∷ half 7 ∷ f0 ∷ f0 ∷ []) (f100 ∷ f0 ∷ f0 ∷ f0 ∷ f0 ∷ []) (1 ∷ 0 ∷ 3 ∷ 0 ∷ 0 ∷ []) (2 ∷ 0 ∷ 4 ∷ 0 ∷ 0 ∷ []) 0
+five = fiveAt (times 1 1) (half 7) 0
 
 abbrev three : Columns
 three = nodes (f5 ∷ f0 ∷ f10 ∷ []) (half 5 ∷ f0 ∷ f0 ∷ []) (f100 ∷ f0 ∷ f0 ∷ []) (1 ∷ 0 ∷ 0 ∷ []) (2 ∷ 0 ∷ 0 ∷ []) 4
@@ -284,6 +300,11 @@ cases =
     -- node room 6 for P1, and 7
     ∷ case (fits (tree Unlimited 1 2 plain) (lent 6)) (no 6 (lent 6))
     ∷ case (fits (tree Unlimited 1 2 plain) (lent 7)) (says 7 3 f4 3 (seven 0))
+    -- P1 at the lower of two values: 2, then 3 and 1
+    ∷ case (fits (treeBy Lower Unlimited 1 2 plain) (lent 7)) (says 7 3 f4 3 (sevenAt (times 1 1 ∷ times 1 0 ∷ times 3 0 ∷ []) 0))
+    -- of a run of both zeros it is the first, with its sign
+    ∷ case (fits (treeBy Lower Unlimited 1 2 (zeros (0 ∷ 1 ∷ 2 ∷ 3 ∷ []))) (lent 7)) (says 5 3 f4 3 (fiveAt (fin true 0 (pos 0)) (times 1 0) 2))
+    ∷ case (fits (treeBy Lower Unlimited 1 2 (zeros (1 ∷ 0 ∷ 2 ∷ 3 ∷ []))) (lent 7)) (says 5 3 f4 3 (fiveAt f0 (times 1 0) 2))
     ∷ []
 
 abbrev pub Holds : List Case → Type 0
@@ -292,16 +313,16 @@ Holds (c ∷ cs) = (run (c .call) ≡ c .leaves) × Holds cs
 
 pub rehearsal : Holds cases
 unfolding cases run
-rehearsal = (refl, (refl, (refl, (refl, (refl, (refl, (refl, (refl, (refl, (refl, (refl, (refl, (refl, (refl, (refl, (refl, (refl, (refl, (refl, tt)))))))))))))))))))
+rehearsal = (refl, (refl, (refl, (refl, (refl, (refl, (refl, (refl, (refl, (refl, (refl, (refl, (refl, (refl, (refl, (refl, (refl, (refl, (refl, (refl, (refl, (refl, tt))))))))))))))))))))))
 
 -- ---- the corners of the threshold
 
 -- p = 1 + 2^-52, x = 1 + 2^-51: the middle rounds to x
-pub rounds-up : thresholdBetween (ofBits binary64 0x3ff0_0000_0000_0001) (ofBits binary64 0x3ff0_0000_0000_0002) ≡ ofBits binary64 0x3ff0_0000_0000_0001
+pub rounds-up : thresholdBetween Midpoint (ofBits binary64 0x3ff0_0000_0000_0001) (ofBits binary64 0x3ff0_0000_0000_0002) ≡ ofBits binary64 0x3ff0_0000_0000_0001
 unfolding thresholdBetween midpoint add sub div lt ofBits
 rounds-up = refl
 
 -- p = -1.7e308, x = 1.7e308: the difference is infinite
-pub wide-gap : thresholdBetween (ofBits binary64 0xffee_42d1_3077_3b76) (ofBits binary64 0x7fee_42d1_3077_3b76) ≡ ofBits binary64 0xffee_42d1_3077_3b76
+pub wide-gap : thresholdBetween Midpoint (ofBits binary64 0xffee_42d1_3077_3b76) (ofBits binary64 0x7fee_42d1_3077_3b76) ≡ ofBits binary64 0xffee_42d1_3077_3b76
 unfolding thresholdBetween midpoint add sub div lt ofBits
 wide-gap = refl

@@ -202,15 +202,18 @@ pub fn lists_at(call: &[usize], at: usize) -> Lists {
 
 // ---- what a fit is told of its trees
 
-// Depth, least leaf, least split, the number tried, and the splitter. How many features may be tried is for the call to say.
+// Depth, least leaf, least split, the number tried, the splitter, and where it cuts. How many features may be tried is for the call to say.
 pub fn settings_good(told: &[usize]) -> bool {
-    if told.len() < 5 {
+    if told.len() < 6 {
         return false;
     }
     if 65536 < told[0] {
         return false;
     }
     if 1 < told[4] {
+        return false;
+    }
+    if 1 < told[5] {
         return false;
     }
     words_fit(&told[1..3])
@@ -229,5 +232,6 @@ pub fn settings_of(told: &[usize]) -> Settings {
         split: word(number(told, 2)),
         tried: word(number(told, 3)),
         random: number(told, 4) == 1,
+        lower: number(told, 5) == 1,
     })
 }

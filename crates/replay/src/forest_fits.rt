@@ -193,7 +193,7 @@ fn with_lists(
     settings: Settings,
     tried: Tried,
 ) -> Verdict {
-    let l = calls::lists_at(call, 8);
+    let l = calls::lists_at(call, 9);
     let thresholdstarts = calls::after(call, l.end);
     let end = calls::after(call, thresholdstarts);
     let lengths = calls::rest(call, end);

@@ -133,7 +133,7 @@ fn with_lists(
     settings: Settings,
     tried: u32,
 ) -> Verdict {
-    let l = calls::lists_at(call, 7);
+    let l = calls::lists_at(call, 8);
     let lengths = calls::rest(call, l.end);
     if lengths.len() != 10 {
         return Verdict::Malformed;

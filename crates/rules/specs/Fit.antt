@@ -111,7 +111,7 @@ limitOf (AtMost d) = d
 -- R10.7
 unfoldable pub paramsOf : Settings → ℕ → ℕ → Params
 paramsOf G tried features =
-    record { limit = limitOf (G .depth); leaf = G .leaf; split = G .split; tried = tried; features = features; splitter = G .splitter }
+    record { limit = limitOf (G .depth); leaf = G .leaf; split = G .split; tried = tried; features = features; splitter = G .splitter; height = G .height }
 
 -- R10.8
 pub record TreeCall : Type 0 where

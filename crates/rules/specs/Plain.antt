@@ -4,6 +4,7 @@ use mathlib.Core.Bool.{Bool, cond}
 use lib.Ieee.{Float}
 use Rattle.rules.specs.declared.Depth.{Depth}
 use Rattle.rules.specs.declared.Splitter.{Splitter}
+use Rattle.rules.specs.declared.Height.{Height}
 use Rattle.rules.specs.declared.Settings.{Settings}
 use Rattle.rules.specs.declared.Tried.{Tried}
 use Rattle.rules.specs.declared.Scale.{Scale}
@@ -26,20 +27,25 @@ abbrev pub splitterOf : Bool → Splitter
 splitterOf random = cond random Splitter.Random Splitter.Best
 
 -- R16.1
+abbrev pub heightOf : Bool → Height
+heightOf lower = cond lower Height.Lower Height.Midpoint
+
+-- R16.1
 abbrev pub triedFrom : Bool → ℕ → Tried
 triedFrom said tried = cond said (Tried.Number tried) Tried.Unsaid
 
 -- R16.1
-unfoldable pub settingsOf : Bool → ℕ → ℕ → ℕ → Bool → Settings
-settingsOf limited limit leaf split random = record { depth = depthOf limited limit; leaf = leaf; split = split; splitter = splitterOf random }
+unfoldable pub settingsOf : Bool → ℕ → ℕ → ℕ → Bool → Bool → Settings
+settingsOf limited limit leaf split random lower =
+    record { depth = depthOf limited limit; leaf = leaf; split = split; splitter = splitterOf random; height = heightOf lower }
 
 -- R16.1
 abbrev pub treeSettingsOf : TreeSettings → Settings
-treeSettingsOf s = settingsOf (s .limited) (s .limit) (s .leaf) (s .split) (s .random)
+treeSettingsOf s = settingsOf (s .limited) (s .limit) (s .leaf) (s .split) (s .random) (s .lower)
 
 -- R16.1
 abbrev pub forestSettingsOf : ForestSettings → Settings
-forestSettingsOf s = settingsOf (s .limited) (s .limit) (s .leaf) (s .split) (s .random)
+forestSettingsOf s = settingsOf (s .limited) (s .limit) (s .leaf) (s .split) (s .random) (s .lower)
 
 -- R16.1
 abbrev pub scaleOf : Bool → Float → Scale

@@ -96,7 +96,7 @@ judge P node h t k c =
 unfoldable pub candidateAt : Bool → Params → NodeRows → ℕ → Float → Sweep → Held
 candidateAt false P node j x w = w .best
 candidateAt true P node j x w =
-    judge P node (w .best) (w .before) (w .count) (record { feature = j; threshold = thresholdBetween (w .last) x })
+    judge P node (w .best) (w .before) (w .count) (record { feature = j; threshold = thresholdBetween (P .height) (w .last) x })
 
 -- R8.9: a run of equals keeps its first value
 unfoldable pub step : Params → NodeRows → ℕ → Sweep → Element → Sweep

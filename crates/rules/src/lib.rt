@@ -18,12 +18,19 @@ pub enum Depth {
     AtMost(u16),
 }
 
-// R0.8: What a fit is told of its trees: greatest depth, least leaf, least split, splitter.
+// R0.8: Where the best splitter cuts between two measured values: in the middle, or at the lower of them.
+pub enum Height {
+    Midpoint,
+    Lower,
+}
+
+// R0.8: What a fit is told of its trees: greatest depth, least leaf, least split, splitter, and where the best splitter cuts.
 pub struct Settings {
     pub depth: Depth,
     pub leaf: u32,
     pub split: u32,
     pub splitter: Splitter,
+    pub height: Height,
 }
 
 // R0.9: How many features a search of a forest tries: where nothing is said, the floor of the root of their number.
@@ -40,6 +47,7 @@ pub struct Params {
     pub tried: u32,
     pub features: u32,
     pub splitter: Splitter,
+    pub height: Height,
 }
 
 // R0.11
@@ -150,7 +158,8 @@ pub enum NodeReply {
 
 // ---- settings and answers, as they cross over
 
-// R0.22: The settings of one tree. The limit is heeded where the depth is limited; the splitter is random, or else best.
+// R0.22: The settings of one tree. The limit is heeded where the depth is limited; the splitter is random, or else best; the best cuts at
+// the lower of two values, or else in their middle.
 #[repr(C)]
 pub struct TreeSettings {
     pub limited: bool,
@@ -159,6 +168,7 @@ pub struct TreeSettings {
     pub split: u32,
     pub tried: u32,
     pub random: bool,
+    pub lower: bool,
 }
 
 // R0.22: The settings of a forest. How many features a search tries is heeded where it is said.
@@ -171,6 +181,7 @@ pub struct ForestSettings {
     pub said: bool,
     pub tried: u32,
     pub random: bool,
+    pub lower: bool,
 }
 
 // R0.23: What the fit of one tree tells: 0 or the number of a refusal, the place of a bad draw, the report of a grown tree.

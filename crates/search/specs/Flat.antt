@@ -8,6 +8,7 @@ use lib.ListN.{length, getD, drop}
 use lib.Dec.{ltb}
 use lib.Ieee.{Float, le, eq}
 use Rattle.rules.specs.declared.Params.{Params}
+use Rattle.rules.specs.declared.Height.{Height}
 use Rattle.rules.specs.declared.Cut.{Cut}
 use Rattle.rules.specs.declared.Held.{Held}
 use Rattle.rules.specs.declared.Held.the-variants.{Nothing, Holds}
@@ -20,7 +21,7 @@ use Rattle.rules.specs.Lent.{cell}
 use Rattle.rules.specs.Fit.{elementIn}
 use Rattle.lemmas.specs.Lists.{Every}
 use Rattle.lemmas.specs.Values.{Value}
-use Rattle.lemmas.specs.Cuts.{Rising}
+use Rattle.lemmas.specs.Heights.{Rising}
 use Rattle.lemmas.specs.Work.{part, columnsAt}
 use Rattle.criterion.specs.declared.Side.{Side}
 use Rattle.criterion.specs.Sides.{sideOn, joined}
@@ -80,8 +81,8 @@ step-cell P a j w e = refl
 unfoldable pub tooFew : Params → Side → ℕ → Bool
 tooFew P a k = ltb k (P .leaf) || ltb (a .count - k) (P .leaf)
 
-abbrev pub cutBetween : ℕ → Float → Float → Cut
-cutBetween j low high = record { feature = j; threshold = thresholdBetween low high }
+abbrev pub cutBetween : Height → ℕ → Float → Float → Cut
+cutBetween g j low high = record { feature = j; threshold = thresholdBetween g low high }
 
 -- the sweep that a run stands for, by the cuts at each place
 abbrev pub sweepOf : (ℕ → Cut) → Run → Sweep
@@ -93,9 +94,9 @@ runAt v l zero = v (getD l 0 0)
 runAt v l (suc i) = cond (eq (v (getD l i 0)) (runAt v l i)) (runAt v l i) (v (getD l i 0))
 
 -- the cuts by their places: an earlier one, then those before each row of the column
-unfoldable pub cutsIn : ℕ → List Float → ℕ → List ℕ → Cut → ℕ → Cut
-cutsIn f x j l b zero = b
-cutsIn f x j l b (suc i) = cutBetween j (runAt (cell f x j) l i) (cell f x j (getD l i 0))
+unfoldable pub cutsIn : Height → ℕ → List Float → ℕ → List ℕ → Cut → ℕ → Cut
+cutsIn g f x j l b zero = b
+cutsIn g f x j l b (suc i) = cutBetween g j (runAt (cell f x j) l i) (cell f x j (getD l i 0))
 
 -- after one turn: what is held stays, or a run of equals ended and it is at the place now
 abbrev pub Stepped : Run → Cell → ℕ → Run → Type 0

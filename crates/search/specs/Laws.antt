@@ -56,7 +56,7 @@ step-same P a j w e eg eb t = λ i.
     }
 
 pub step-new : (P : Params) (a : Side) (j : ℕ) (w : Sweep) (e : Cell) {g : Held} {b : Totals} {h : Held} → g ≡ w .best → b ≡ takeIn (w .before) (e .target) (e .mass) → eq (e .value) (w .last) ≡ false
-    → h ≡ judge P (bare a) g (w .before) (w .count) (cutBetween j (w .last) (e .value))
+    → h ≡ judge P (bare a) g (w .before) (w .count) (cutBetween (P .height) j (w .last) (e .value))
     → _≡_ {A = Sweep} (record { before = b; count = w .count + e .count; last = e .value; best = h }) (stepIn P a j w e)
 unfolding stepIn candidateAt
 step-new P a j w e eg eb n eh = λ i.
@@ -64,7 +64,7 @@ step-new P a j w e eg eb n eh = λ i.
       before = eb i;
       count = w .count + e .count;
       last = sym (ap (λ z. cond z (w .last) (e .value)) n) i;
-      best = (eh ∙ ap (λ z. judge P (bare a) z (w .before) (w .count) (cutBetween j (w .last) (e .value))) eg ∙ sym (ap (λ z. candidateAt (not z) P (bare a) j (e .value) w) n)) i;
+      best = (eh ∙ ap (λ z. judge P (bare a) z (w .before) (w .count) (cutBetween (P .height) j (w .last) (e .value))) eg ∙ sym (ap (λ z. candidateAt (not z) P (bare a) j (e .value) w) n)) i;
     }
 
 pub cell-is : (f : ℕ) (t : Tables) (j i : ℕ) {m v : Float} → m ≡ massIn (t .weights) (t .counts) i → v ≡ cell f (t .values) j i

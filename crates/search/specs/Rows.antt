@@ -14,6 +14,7 @@ use lib.Ieee.{Float, le, lt, eq}
 use Rattle.floats.specs.Order.{le-trans64}
 use Rattle.rules.specs.declared.Totals.{Totals}
 use Rattle.rules.specs.declared.Params.{Params}
+use Rattle.rules.specs.declared.Height.{Height}
 use Rattle.rules.specs.declared.Cut.{Cut}
 use Rattle.rules.specs.declared.Held.the-variants.{Holds}
 use Rattle.rules.specs.Words.{keep}
@@ -92,8 +93,8 @@ module _ (v : ℕ → Float) (l : List ℕ) (vs : Every (λ r. Value (v r)) l) (
           }
 
   -- where a run ends before place i, the rows before i are those up to the threshold between the two values
-  rows-before : (i : ℕ) → i < length l → eq (v (getD l i 0)) (runAt v l i) ≡ false → length (keep (λ r. le (v r) (thresholdBetween (runAt v l i) (v (getD l i 0)))) l) ≡ i
-  rows-before i h new =
+  rows-before : (g : Height) (i : ℕ) → i < length l → eq (v (getD l i 0)) (runAt v l i) ≡ false → length (keep (λ r. le (v r) (thresholdBetween g (runAt v l i) (v (getD l i 0)))) l) ≡ i
+  rows-before g i h new =
       ap length (ap (keep p) (sym (take-append-drop i l)) ∙ keep-append p (take i l) (drop i l) ∙ (λ k. keep-all p (take i l) yes k ++ keep-none p (drop i l) no k) ∙ append-nil (take i l))
       ∙ length-take i l ∙ omega (arith, h)
     where
@@ -106,14 +107,14 @@ module _ (v : ℕ → Float) (l : List ℕ) (vs : Every (λ r. Value (v r)) l) (
       there : Every (λ r. T (le (runAt v l i) (v r))) (getD l i 0 ∷ drop (suc i) l)
       there = subst (Every (λ r. T (le (runAt v l i) (v r)))) (drop-cons l i 0 h) (s .above)
 
-      mid : T (le (runAt v l i) (thresholdBetween (runAt v l i) x)) × T (lt (thresholdBetween (runAt v l i) x) x)
-      mid = between (runAt v l i) x (s .value) (every-at _ l 0 i vs h) (there .0) new
+      mid : T (le (runAt v l i) (thresholdBetween g (runAt v l i) x)) × T (lt (thresholdBetween g (runAt v l i) x) x)
+      mid = between g (runAt v l i) x (s .value) (every-at _ l 0 i vs h) (there .0) new
 
       p : ℕ → Bool
-      p r = le (v r) (thresholdBetween (runAt v l i) x)
+      p r = le (v r) (thresholdBetween g (runAt v l i) x)
 
       yes : Every (λ r. p r ≡ true) (take i l)
-      yes = every-imp _ _ (λ r t. is-true _ (le-trans64 (v r) (runAt v l i) (thresholdBetween (runAt v l i) x) t (mid .0))) (take i l) (s .below)
+      yes = every-imp _ _ (λ r t. is-true _ (le-trans64 (v r) (runAt v l i) (thresholdBetween g (runAt v l i) x) t (mid .0))) (take i l) (s .below)
 
       no : Every (λ r. p r ≡ false) (drop i l)
       no = subst (Every (λ r. p r ≡ false)) (sym (drop-cons l i 0 h))
@@ -122,26 +123,26 @@ module _ (v : ℕ → Float) (l : List ℕ) (vs : Every (λ r. Value (v r)) l) (
 -- ---- the best splitter
 
 module _ (f : ℕ) (t : Tables) (j : ℕ) (l : List ℕ) where
-  place-rows : Sorted j (map (elementOf f t) l) → (i : ℕ) → i < length l → eq (cell f (t .values) j (getD l i 0)) (runAt (cell f (t .values) j) l i) ≡ false
-      → i ≡ length (trueSide (cutBetween j (runAt (cell f (t .values) j) l i) (cell f (t .values) j (getD l i 0))) (map (elementOf f t) l))
+  place-rows : (g : Height) → Sorted j (map (elementOf f t) l) → (i : ℕ) → i < length l → eq (cell f (t .values) j (getD l i 0)) (runAt (cell f (t .values) j) l i) ≡ false
+      → i ≡ length (trueSide (cutBetween g j (runAt (cell f (t .values) j) l i) (cell f (t .values) j (getD l i 0))) (map (elementOf f t) l))
   unfolding goesTrue at elementIn cell
-  place-rows s i h new =
-      sym (rows-before (cell f (t .values) j) l (every-rows (elementOf f t) _ l (s .0)) (ordered-rows (elementOf f t) _ l (s .1)) i h new)
+  place-rows g s i h new =
+      sym (rows-before (cell f (t .values) j) l (every-rows (elementOf f t) _ l (s .0)) (ordered-rows (elementOf f t) _ l (s .1)) g i h new)
       ∙ sym (length-map (keep (λ r. goesTrue c (elementOf f t r)) l) (elementOf f t)) ∙ ap length (sym (keep-map (goesTrue c) (elementOf f t) l))
     where
       c : Cut
-      c = cutBetween j (runAt (cell f (t .values) j) l i) (cell f (t .values) j (getD l i 0))
+      c = cutBetween g j (runAt (cell f (t .values) j) l i) (cell f (t .values) j (getD l i 0))
 
-  module _ (s : Sorted j (map (elementOf f t) l)) (b : Cut) (h r : Candidate) (sp : Spot) (d : HeldAt h sp (cutsIn f (t .values) j l b (sp .place)) r) where
+  module _ (s : Sorted j (map (elementOf f t) l)) (b : Cut) (h r : Candidate) (sp : Spot) (g : Height) (d : HeldAt h sp (cutsIn g f (t .values) j l b (sp .place)) r) where
     abbrev cuts : ℕ → Cut
-    cuts = cutsIn f (t .values) j l b
+    cuts = cutsIn g f (t .values) j l b
 
     pub best-found : (s₀ : Spot) → s₀ .place ≡ 0 → heldOf cuts s₀ ≡ h .held → Stood (cell f (t .values) j) l s₀ sp → (r .held ≡ heldOf cuts sp) × TriedOn j (map (elementOf f t) l) h r
     best-found s₀ z e (inl m) = let w = held-stays cuts h r sp _ d m z e in (w .1, inl (w .0))
     best-found s₀ z e (inr m) =
         let w = held-moves cuts h r sp _ d (m .0) (m .1) (m .2) (ap cuts (sym (m .2))) in
-        let same = ap cuts (m .2) ∙ cut-next f (t .values) j l b (m .0) in
-        (w .1, inr (_, sp .proxy, w .0 ∙ (λ k. record { held = Holds (same k) (sp .proxy); rows = place-rows s (m .0) (m .3) (m .4) k })))
+        let same = ap cuts (m .2) ∙ cut-next g f (t .values) j l b (m .0) in
+        (w .1, inr (_, sp .proxy, w .0 ∙ (λ k. record { held = Holds (same k) (sp .proxy); rows = place-rows g s (m .0) (m .3) (m .4) k })))
 
 pub stood-within : (v : ℕ → Float) (l : List ℕ) (s r : Spot) → s .place ≡ 0 → Stood v l s r → r .place ≤ length l
 stood-within v l s r z (inl e) = omega (arith, ap (λ (y : Spot). y .place) e, z)

@@ -10,6 +10,7 @@ use lib.ListN.{length, getD}
 use lib.Dec.{T}
 use lib.Ieee.{Float, binary64, ofBits, fits, eq}
 use Rattle.floats.specs.Zero.{eq-same}
+use Rattle.rules.specs.declared.Height.{Height}
 use Rattle.rules.specs.declared.Cut.{Cut}
 use Rattle.rules.specs.Lent.{cell}
 use Rattle.rules.specs.Threshold.{thresholdBetween}
@@ -48,9 +49,10 @@ module _ (v : ℕ → Float) (l : List ℕ) where
         go : (k : ℕ) → eq (v (getD l k 0)) nought ≡ false → v (getD l k 0) ≡ runAt v l (suc k)
         go k z = pick k z (eq (v (getD l k 0)) (runAt v l k)) refl
 
-pub cut-next : (f : ℕ) (x : List Float) (j : ℕ) (l : List ℕ) (b : Cut) (i : ℕ) → cutsIn f x j l b (i + 1) ≡ cutBetween j (runAt (cell f x j) l i) (cell f x j (getD l i 0))
+pub cut-next : (g : Height) (f : ℕ) (x : List Float) (j : ℕ) (l : List ℕ) (b : Cut) (i : ℕ)
+    → cutsIn g f x j l b (i + 1) ≡ cutBetween g j (runAt (cell f x j) l i) (cell f x j (getD l i 0))
 unfolding cutsIn
-cut-next f x j l b i = ap (cutsIn f x j l b) (add-one i)
+cut-next g f x j l b i = ap (cutsIn g f x j l b) (add-one i)
 
 -- one turn at place i
 module _ (f : ℕ) (t : Tables) (j : ℕ) (l : List ℕ) (i : ℕ) {e : Cell} (ee : e ≡ cellOf j (elementOf f t (getD l i 0))) {z : Float} (ez : z ≡ runAt (cell f (t .values) j) l i) where
@@ -58,8 +60,8 @@ module _ (f : ℕ) (t : Tables) (j : ℕ) (l : List ℕ) (i : ℕ) {e : Cell} (e
   unfolding cellOf
   turn-value = ap (λ (d : Cell). d .value) ee ∙ sym (value-is f t j (getD l i 0) refl)
 
-  pub turn-cut : (b : Cut) → cutsIn f (t .values) j l b (i + 1) ≡ cutBetween j z (e .value)
-  turn-cut b = cut-next f (t .values) j l b i ∙ sym (λ k. cutBetween j (ez k) (turn-value k))
+  pub turn-cut : (g : Height) (b : Cut) → cutsIn g f (t .values) j l b (i + 1) ≡ cutBetween g j z (e .value)
+  turn-cut g b = cut-next g f (t .values) j l b i ∙ sym (λ k. cutBetween g j (ez k) (turn-value k))
 
   pub turn-run : {u : Float} → u ≡ cond (eq (e .value) z) z (e .value) → u ≡ runAt (cell f (t .values) j) l (i + 1)
   turn-run eu = eu ∙ (λ k. cond (eq (turn-value k) (ez k)) (ez k) (turn-value k)) ∙ sym (run-next (cell f (t .values) j) l i)
@@ -81,8 +83,8 @@ turn-stood f t j l i h s w r e ee ez (inr m) g =
 -- ---- what is held once the column is swept
 
 -- the cut at a place, by the values read again there
-pub cut-again : (f : ℕ) (x : List Float) (j : ℕ) (l : List ℕ) (b : Cut) (n : ℕ) → (n ≡ 0 → ⊥) → {low high t : Float}
-    → low ≡ runAt (cell f x j) l (n - 1) → high ≡ cell f x j (getD l (n - 1) 0) → t ≡ thresholdBetween low high → record { feature = j; threshold = t } ≡ cutsIn f x j l b n
-cut-again f x j l b n h el eh et =
-    ap (λ z. record { feature = j; threshold = z }) (et ∙ (λ k. thresholdBetween (el k) (eh k)))
-    ∙ sym (cut-next f x j l b (n - 1)) ∙ ap (cutsIn f x j l b) (let q : n - 1 + 1 ≡ n = omega (arith, h) in q)
+pub cut-again : (g : Height) (f : ℕ) (x : List Float) (j : ℕ) (l : List ℕ) (b : Cut) (n : ℕ) → (n ≡ 0 → ⊥) → {low high t : Float}
+    → low ≡ runAt (cell f x j) l (n - 1) → high ≡ cell f x j (getD l (n - 1) 0) → t ≡ thresholdBetween g low high → record { feature = j; threshold = t } ≡ cutsIn g f x j l b n
+cut-again g f x j l b n h el eh et =
+    ap (λ z. record { feature = j; threshold = z }) (et ∙ (λ k. thresholdBetween g (el k) (eh k)))
+    ∙ sym (cut-next g f x j l b (n - 1)) ∙ ap (cutsIn g f x j l b) (let q : n - 1 + 1 ≡ n = omega (arith, h) in q)

@@ -16,6 +16,7 @@ use criterion::Side;
 use criterion::take_in;
 use criterion::threshold_of;
 use rules::Cut;
+use rules::Height;
 use rules::Params;
 use rules::Totals;
 
@@ -29,7 +30,7 @@ pub struct Run {
 
 pub fn step_of(p: Params, a: Side, w: Run, e: Cell, place: usize) -> Run
     requires { ⌜ w .count + e .count ≤ a .count ⌝ }
-    ensures { λ r. ⌜ Stepped w e place r × ((j : ℕ) (c : ℕ → Cut) → c place ≡ cutBetween j (w .last) (e .value) → sweepOf c r ≡ stepIn p a j (sweepOf c w) e) ⌝ }
+    ensures { λ r. ⌜ Stepped w e place r × ((j : ℕ) (c : ℕ → Cut) → c place ≡ cutBetween (p .height) j (w .last) (e .value) → sweepOf c r ≡ stepIn p a j (sweepOf c w) e) ⌝ }
 {
     let before = w.before;
     let spot = candidates::anew(w.spot);
@@ -72,7 +73,7 @@ pub fn sweep_column(
     requires start { ⌜ w .last ≡ runAt (cell features (now values) j) (now col) 0 ⌝ }
     ensures { λ r. ⌜
         Stood (cell features (now (values .entry)) j) (now (col .entry)) (w .spot) (r .spot) ×
-        ((b : Cut) → let c = cutsIn features (now (values .entry)) j (now (col .entry)) b in sweepOf c r ≡ sweep p (bare a) j (sweepOf c w) (map (elementOf features
+        ((b : Cut) → let c = cutsIn (p .height) features (now (values .entry)) j (now (col .entry)) b in sweepOf c r ≡ sweep p (bare a) j (sweepOf c w) (map (elementOf features
         (tablesOf (now (values .entry)) (now (targets .entry)) (now (weights .entry)) (now (counts .entry)))) (now (col .entry)))) ⌝ }
 {
     let mut v = w;
@@ -141,11 +142,12 @@ pub fn held_of(
     rows: usize,
     features: usize,
     j: u32,
+    height: Height,
     h: Candidate,
     s: Spot,
 ) -> Candidate
     requires { ⌜ Readable rows features (now values) j (now col) × (s .place ≤ length (now col)) ⌝ }
-    ensures { λ r. ⌜ ((b : Cut) → HeldAt h s (cutsIn features (now (values .entry)) j (now (col .entry)) b (s .place)) r) ⌝ }
+    ensures { λ r. ⌜ ((b : Cut) → HeldAt h s (cutsIn height features (now (values .entry)) j (now (col .entry)) b (s .place)) r) ⌝ }
 {
     if s.place == 0 {
         return h;
@@ -153,7 +155,7 @@ pub fn held_of(
     let i = s.place - 1;
     let low = run_before(values, col, rows, features, j, i);
     let high = crate::value_here(values, col, rows, features, j, i);
-    let t = threshold_of(low, high);
+    let t = threshold_of(height, low, high);
     candidates::held_at(
         h,
         s,
@@ -192,6 +194,7 @@ pub fn best_in(
     }
     let first = crate::value_here(values, col, rows, features, j, 0);
     let g = h.held;
+    let height = p.height;
     let spot = candidates::spot_of(g);
     let w = Run {
         before: Totals {
@@ -215,5 +218,5 @@ pub fn best_in(
         a,
         w,
     );
-    held_of(values, col, rows, features, j, h, v.spot)
+    held_of(values, col, rows, features, j, height, h, v.spot)
 }

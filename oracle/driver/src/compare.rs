@@ -6,6 +6,7 @@ use crate::damage::fit as damage_fit;
 use crate::damage::read as damage_read;
 use crate::differences;
 use crate::judge::case::{self, Case};
+use crate::left_out;
 use crate::limits::fit as limits_fit;
 use crate::limits::read as limits_read;
 use crate::make::chance::Chance;
@@ -13,6 +14,7 @@ use crate::make::crafted;
 use crate::make::exhaustive;
 use crate::make::fit as make_fit;
 use crate::make::fit::{SMALL, Size};
+use crate::make::lower;
 use crate::make::read as make_read;
 use crate::make::rehearsal;
 use crate::own;
@@ -72,6 +74,7 @@ fn make_growing(chance: &mut Chance, size: Size) -> Case {
 pub fn fixed() -> Vec<Case> {
     let mut cases = rehearsal::cases();
     cases.extend(crafted::cases());
+    cases.extend(lower::cases());
     cases.extend(faults::cases());
     cases
 }
@@ -84,7 +87,8 @@ fn random(tally: &mut Tally, chance: &mut Chance, count: usize) {
     }
 }
 
-/// Compares generated cases, `count` of them random, what docs/DIFFERENCES.md says, and smartcore's own `fit`s.
+/// Compares generated cases, `count` of them random, what docs/DIFFERENCES.md says, smartcore's own `fit`s, and trees with others that
+/// differ in rows left out.
 pub fn compare(mut tally: Tally, count: usize, least: &Counts) -> ExitCode {
     let mut chance = Chance::new(1);
     fixed().iter().for_each(|case| tally.hold(case));
@@ -99,6 +103,7 @@ pub fn compare(mut tally: Tally, count: usize, least: &Counts) -> ExitCode {
     random(&mut tally, &mut chance, count);
     differences::hold(&mut tally);
     own::hold(&mut tally, &mut chance, count / 100);
+    left_out::hold(&mut tally, &mut Chance::new(6), count / 100);
     tally.end("compare", least)
 }
 
@@ -115,7 +120,8 @@ pub fn longest(mut tally: Tally) -> ExitCode {
     tally.end("longest", &Counts::each(0))
 }
 
-/// Who answers the list: the library of the tally, or the copy, which answers the cases marked as smartcore's.
+/// Who answers the list: the library of the tally, or the copy, which answers the cases marked as smartcore's and those that follow
+/// from its answers.
 #[derive(Clone, Copy)]
 pub enum By {
     Library,
@@ -131,7 +137,7 @@ pub fn replay(mut tally: Tally, by: &[By], file: &str, each: bool, least: &Count
         for by in by {
             let answer = match by {
                 By::Library => caught(|| listed.case.answer(library)),
-                By::Copy if listed.judge == 1 => caught(|| listed.case.expected()),
+                By::Copy if listed.copied() => caught(|| listed.case.expected()),
                 _ => continue,
             };
             if each && answer != listed.answer {

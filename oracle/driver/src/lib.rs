@@ -5,6 +5,7 @@ pub mod compare;
 mod damage;
 mod differences;
 pub mod judge;
+mod left_out;
 mod limits;
 pub mod list;
 pub mod make;

@@ -22,9 +22,10 @@ pub fn hold(tally: &mut Tally, chance: &mut Chance, count: usize) {
     }
 }
 
-/// A valid fit with smartcore's own listings, and weights that smartcore accepts.
+/// A valid fit with cuts halfway, as smartcore makes them, with its own listings, and with weights that it accepts.
 fn base(chance: &mut Chance, forest: bool) -> Fit {
     let mut fit = make_fit::fit(chance, forest, make_fit::SMALL);
+    fit.lower = false;
     fit.listings = harness::argsorted(fit.rows, fit.features, &fit.x);
     if !fit.weights.is_empty() {
         fit.weights = floats::weights(chance, fit.rows);

@@ -22,6 +22,8 @@ pub struct Counts {
     pub bad_draws: usize,
     /// 1 to 6, then 8 to 10, then 18.
     pub refusals: [usize; REFUSALS.len()],
+    /// Among the trees and forests, those with measured thresholds: all, those with ties, and those with both zeros in a column.
+    pub measured: [usize; 3],
 }
 
 impl Counts {
@@ -35,10 +37,19 @@ impl Counts {
             checks: count,
             bad_draws: count,
             refusals: [count; REFUSALS.len()],
+            measured: [count; 3],
         }
     }
 
     fn add(&mut self, call: &Call, refusal: u64) {
+        if let (0, Call::Fit(fit)) = (refusal, call)
+            && fit.measured()
+        {
+            let found = [true, fit.ties(), fit.both_zeros()];
+            for (count, found) in self.measured.iter_mut().zip(found) {
+                *count += usize::from(found);
+            }
+        }
         let count = match (refusal, call) {
             (0, Call::Fit(fit)) if fit.forest => &mut self.forests,
             (0, Call::Fit(_)) => &mut self.trees,
@@ -56,7 +67,8 @@ impl Counts {
         *count += 1;
     }
 
-    fn list(&self) -> impl Iterator<Item = usize> {
+    /// Every call once, by its kind.
+    fn kinds(&self) -> impl Iterator<Item = usize> {
         let answered = [self.trees, self.forests, self.readers];
         let others = [self.nodes, self.checks, self.bad_draws];
         let all = answered.into_iter().chain(others);
@@ -64,14 +76,14 @@ impl Counts {
     }
 
     fn reach(&self, least: &Counts) -> bool {
-        self.list()
-            .zip(least.list())
-            .all(|(count, least)| count >= least)
+        let counts = self.kinds().chain(self.measured);
+        let least = least.kinds().chain(least.measured);
+        counts.zip(least).all(|(count, least)| count >= least)
     }
 
     /// Forests, readers and refusals: all but the trees grown.
     fn beside_trees(&self) -> usize {
-        self.list().skip(1).sum()
+        self.kinds().skip(1).sum()
     }
 }
 
@@ -85,6 +97,7 @@ impl fmt::Display for Counts {
             checks,
             bad_draws,
             refusals,
+            measured: [measured, ties, zeros],
         } = self;
         let (beside, (first, rest)) = (self.beside_trees(), refusals.split_at(6));
         let (next, last) = rest.split_at(3);
@@ -96,7 +109,11 @@ impl fmt::Display for Counts {
         write!(to, "{checks} checks passed, {bad_draws} bad draws, ")?;
         write!(
             to,
-            "refusals 1 to 6 {first:?}, 8 to 10 {next:?}, 18 {last:?}"
+            "refusals 1 to 6 {first:?}, 8 to 10 {next:?}, 18 {last:?}; "
+        )?;
+        write!(
+            to,
+            "with measured thresholds {measured} of those grown, {ties} of these with ties, {zeros} with both zeros"
         )
     }
 }

@@ -6,6 +6,13 @@ pub enum Splitter {
     Random,
 }
 
+/// Where the best splitter cuts between a value and the next one above it: halfway, or at the lower of the two, which was measured.
+#[derive(Clone, Copy, Debug, PartialEq)]
+pub enum CutAt {
+    Midpoint,
+    Lower,
+}
+
 #[derive(Clone, Copy, Debug)]
 pub struct Settings {
     /// The maximum depth; `None` counts as 65,535.
@@ -13,6 +20,8 @@ pub struct Settings {
     pub least_leaf: u32,
     pub least_split: u32,
     pub splitter: Splitter,
+    /// Ignored by the random splitter, whose thresholds are drawn.
+    pub cut_at: CutAt,
 }
 
 /// What both fits are given: feature values row by row, counts tree by tree, listings feature by feature.

@@ -236,7 +236,8 @@ impl<'a> Growth<'a> {
         for row in column {
             let value = self.seed.value(*row, feature);
             if value != before {
-                let cut = || threshold(before, value);
+                // the first of its run of equals: of zeros with both signs, it is the first one's sign that a cut takes over
+                let cut = || threshold(self.seed.settings.cut_at, before, value);
                 self.judge(stand, feature, count, on_true, cut, held);
                 before = value;
             }

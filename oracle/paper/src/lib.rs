@@ -14,7 +14,8 @@ mod tables;
 mod totals;
 
 pub use calls::{
-    Cuts, Draws, ForestAnswer, ForestCall, Given, Numbers, Settings, Splitter, TreeAnswer, TreeCall,
+    CutAt, Cuts, Draws, ForestAnswer, ForestCall, Given, Numbers, Settings, Splitter, TreeAnswer,
+    TreeCall,
 };
 pub use checks::check_listings;
 pub use fits::{fit_forest, fit_tree};

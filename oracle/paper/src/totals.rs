@@ -1,4 +1,6 @@
-//! Totals of rows, and what is computed from them.
+//! Totals of rows, what is computed from them, and where a cut lies.
+
+use crate::calls::CutAt;
 
 #[derive(Clone, Copy, Debug)]
 pub struct Totals {
@@ -62,8 +64,16 @@ pub fn score(whole: Totals, on_true: Totals, on_false: Totals) -> f64 {
     d * d / (on_true.mass * on_false.mass * whole.mass)
 }
 
-/// The cut between a value and the next one above it.
-pub fn threshold(before: f64, after: f64) -> f64 {
+/// Halfway from a value to the next one above it, or the value itself if that is not below the next one.
+fn midpoint(before: f64, after: f64) -> f64 {
     let mid = before + (after - before) / 2.0;
     if mid < after { mid } else { before }
+}
+
+/// The cut between a value and the next one above it: at least the first, and below the second.
+pub fn threshold(at: CutAt, before: f64, after: f64) -> f64 {
+    match at {
+        CutAt::Midpoint => midpoint(before, after),
+        CutAt::Lower => before,
+    }
 }

@@ -10,8 +10,8 @@ mod waiting;
 use driver::call::outcome::bits;
 use driver::judge::library::Library;
 use paper::{
-    Divisor, ForestAnswer, ForestCall, ForestRooms, Given, Numbers, Splitter, Table, TreeAnswer,
-    TreeCall, TreeRooms,
+    CutAt, Divisor, ForestAnswer, ForestCall, ForestRooms, Given, Numbers, Splitter, Table,
+    TreeAnswer, TreeCall, TreeRooms,
 };
 pub use served::named as served;
 use tailboardy_sys::{ForestSettings, TreeSettings};
@@ -238,6 +238,7 @@ fn tree_settings(call: &TreeCall) -> TreeSettings {
         split: call.settings.least_split,
         tried: call.tried,
         random: call.settings.splitter == Splitter::Random,
+        lower: call.settings.cut_at == CutAt::Lower,
     }
 }
 
@@ -250,5 +251,6 @@ fn forest_settings(call: &ForestCall) -> ForestSettings {
         said: call.tried.is_some(),
         tried: call.tried.unwrap_or(0),
         random: call.settings.splitter == Splitter::Random,
+        lower: call.settings.cut_at == CutAt::Lower,
     }
 }

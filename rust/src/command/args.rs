@@ -9,7 +9,7 @@ use crate::replace::{place_for, same_file};
 use crate::stop::Stop;
 use crate::{csv, record};
 use std::fmt::Write;
-use tailboardy::{MAX_ROWS, MAX_TREES, RandomForestRegressorParameters, Splitter};
+use tailboardy::{Cuts, MAX_ROWS, MAX_TREES, RandomForestRegressorParameters, Splitter};
 
 /// Digits beyond these mean nothing, unless a number is very small.
 const MAX_DIGITS: u64 = 17;
@@ -55,7 +55,7 @@ impl Command {
         let mut text = format!("{}\n\n{}.\n{}\n\n", self.usage(), self.about, self.more);
         for choice in self.groups.iter().copied().flatten() {
             let said = format!("{} {}", choice.name, choice.value);
-            let _ = writeln!(text, "  {said:<24}{}", choice.help);
+            let _ = writeln!(text, "  {said:<26}{}", choice.help);
         }
         text += &format!(
             "\n`-` in place of a file that is read means standard input. A table has at most {MAX_ROWS} rows and {} MiB.\n",
@@ -230,18 +230,29 @@ impl Args {
         }
     }
 
+    fn splitter(&self) -> Result<Splitter, Stop> {
+        match self.get("--splitter") {
+            None | Some("best") => Ok(Splitter::Best),
+            Some("random") => Ok(Splitter::Random),
+            Some(other) => Err(Stop::Usage(format!(
+                "--splitter {other}: the splitter is best or random"
+            ))),
+        }
+    }
+
+    fn cuts(&self) -> Result<Cuts, Stop> {
+        match self.get("--cuts") {
+            None | Some("midpoint") => Ok(Cuts::Midpoint),
+            Some("measured") => Ok(Cuts::Measured),
+            Some(other) => Err(Stop::Usage(format!(
+                "--cuts {other}: the cuts are midpoint or measured"
+            ))),
+        }
+    }
+
     /// The parameters of the forest.
     pub fn parameters(&self) -> Result<RandomForestRegressorParameters, Stop> {
         let plain = RandomForestRegressorParameters::default();
-        let splitter = match self.get("--splitter") {
-            None | Some("best") => Splitter::Best,
-            Some("random") => Splitter::Random,
-            Some(other) => {
-                return Err(Stop::Usage(format!(
-                    "--splitter {other}: the splitter is best or random"
-                )));
-            }
-        };
         let count = u64::from(u32::MAX);
         Ok(RandomForestRegressorParameters {
             n_trees: self.trees()?.unwrap_or(plain.n_trees),
@@ -255,7 +266,8 @@ impl Args {
                 .unwrap_or(plain.min_samples_split),
             bootstrap: !self.has("--no-bootstrap"),
             keep_samples: true,
-            splitter,
+            splitter: self.splitter()?,
+            cuts: self.cuts()?,
             seed: self.number("--seed", u64::MAX)?.unwrap_or(plain.seed),
             n_threads: self.number("--n-threads", count)?,
         })

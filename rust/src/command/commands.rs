@@ -79,6 +79,11 @@ const GROWTH: &[Choice] = &[
         "how cuts are chosen; default: best",
     ),
     choice(
+        "--cuts",
+        "midpoint|measured",
+        "where the best splitter cuts between two values: at their midpoint, or at the lower, a measured one; default: midpoint",
+    ),
+    choice(
         "--no-bootstrap",
         "",
         "grow every tree on all fixtures, with their weights; there is no out-of-bag error then",

@@ -9,7 +9,7 @@ use crate::number::Decimal;
 use crate::output::Output;
 use crate::page::data::{Fixture, Focused, Forest, Measurement, Outside, Page, Source};
 use crate::stop::Stop;
-use crate::summary::{few, out_of_bag};
+use crate::summary::{out_of_bag, warnings};
 use crate::{outside, page, spread};
 use tailboardy::{RandomForestRegressor, Refusal};
 
@@ -102,7 +102,7 @@ fn filled(
         focused: focused.collect(),
         notes: notes(both)
             .into_iter()
-            .chain(few(&means, &task.parameters))
+            .chain(warnings(&means, &task.parameters))
             .collect(),
     })
 }

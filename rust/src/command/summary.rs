@@ -7,8 +7,8 @@ use crate::output::Output;
 use crate::show::Show;
 use crate::stop::Stop;
 use tailboardy::{
-    Cause, OutOfBagError, OutOfBagMeans, RandomForestRegressor, RandomForestRegressorParameters,
-    Refusal,
+    Cause, Cuts, OutOfBagError, OutOfBagMeans, RandomForestRegressor,
+    RandomForestRegressorParameters, Refusal, Splitter,
 };
 
 /// What `--json` writes if the input is refused: each line that is also on standard error.
@@ -127,12 +127,11 @@ impl Summary {
         self.trees(forest, parameters.seed);
         let means = forest.predict_oob(&show.x).map_err(failed)?;
         self.error(out_of_bag(&means, &show.y).map_err(failed)?, means.len());
-        if let Some(warning) = few(&means, parameters) {
-            self.add(
-                "warnings",
-                Json::list([&warning]),
-                format!("warning: {warning}"),
-            );
+        let warnings = warnings(&means, parameters);
+        if !warnings.is_empty() {
+            let text = warnings.iter().map(|it| format!("warning: {it}"));
+            let text = text.collect::<Vec<_>>().join("\n");
+            self.add("warnings", Json::list(&warnings), text);
         }
         let importances = forest.compute_feature_importances().map_err(failed)?;
         let ranked = importances.ranked();
@@ -195,9 +194,21 @@ pub fn out_of_bag(means: &OutOfBagMeans, y: &[f64]) -> Result<Option<OutOfBagErr
     }
 }
 
+/// What is warned of in a forest.
+pub fn warnings(
+    means: &OutOfBagMeans,
+    parameters: &RandomForestRegressorParameters,
+) -> Vec<String> {
+    let unheeded = parameters.splitter == Splitter::Random && parameters.cuts == Cuts::Measured;
+    let unheeded = unheeded.then(|| {
+        "--cuts measured has no effect: --splitter random draws its thresholds".to_owned()
+    });
+    few(means, parameters).into_iter().chain(unheeded).collect()
+}
+
 /// A warning if fewer than nine tenths of the fixtures have a mean: the error says nothing of the rest, and may
 /// mislead. Without bootstrap none has one, which was asked for.
-pub fn few(means: &OutOfBagMeans, parameters: &RandomForestRegressorParameters) -> Option<String> {
+fn few(means: &OutOfBagMeans, parameters: &RandomForestRegressorParameters) -> Option<String> {
     let (told, all) = (means.count(), means.len());
     if !parameters.bootstrap || 10 * told >= 9 * all {
         return None;

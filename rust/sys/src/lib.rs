@@ -9,7 +9,8 @@ pub mod linked;
 #[cfg(target_os = "linux")]
 pub mod signals;
 
-/// The parameters of one tree. `limit` applies only if `limited` is true; the splitter is the best unless `random` is true.
+/// The parameters of one tree. `limit` applies only if `limited` is true; the splitter is the best unless `random` is true. The best
+/// splitter cuts at the midpoint of two values, or at the lower of them if `lower` is true; the random splitter ignores `lower`.
 #[repr(C)]
 #[derive(Debug, Clone, Copy)]
 #[allow(missing_docs)]
@@ -20,6 +21,7 @@ pub struct TreeSettings {
     pub split: u32,
     pub tried: u32,
     pub random: bool,
+    pub lower: bool,
 }
 
 /// The same for the trees of a forest. `tried` applies only if `said` is true; otherwise it is the square root of the number of
@@ -35,6 +37,7 @@ pub struct ForestSettings {
     pub said: bool,
     pub tried: u32,
     pub random: bool,
+    pub lower: bool,
 }
 
 /// 0 or the number of a refusal, the place of a bad draw, and the report on a grown tree.

@@ -3,6 +3,7 @@
 mod bad_input;
 mod bags;
 mod columns;
+mod cuts;
 mod faults;
 mod habits;
 mod json;

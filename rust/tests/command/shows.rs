@@ -106,6 +106,7 @@ fn seeds_decide_and_threads_do_not() {
         ["--min-samples-leaf", "5"],
         ["--min-samples-split", "9"],
         ["--splitter", "random"],
+        ["--cuts", "measured"],
     ];
     for said in all {
         let other = correct(&said);

@@ -17,7 +17,7 @@ const COMMANDS: &[[&str; 3]] = &[
     [
         "correct",
         "OLD.csv NEW.csv",
-        "--min-samples-split --splitter --no-bootstrap --n-threads --out",
+        "--min-samples-split --splitter --cuts --no-bootstrap --n-threads --out",
     ],
 ];
 
@@ -85,6 +85,10 @@ const SENSELESS: &[[&str; 2]] = &[
     [
         "fit a --target p --splitter worst",
         "--splitter worst: the splitter is best or random",
+    ],
+    [
+        "correct a b --target p --cuts upper",
+        "--cuts upper: the cuts are midpoint or measured",
     ],
     [
         "fit a --target p --weight p",

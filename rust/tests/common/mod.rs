@@ -3,8 +3,8 @@
 #![allow(dead_code)]
 
 use tailboardy::{
-    Counts, DenseMatrix, Nodes, RandomForestRegressor, RandomForestRegressorParameters, SplitMix64,
-    Splitter,
+    Counts, Cuts, DenseMatrix, Nodes, RandomForestRegressor, RandomForestRegressorParameters,
+    SplitMix64, Splitter,
 };
 
 /// A maker of inputs.
@@ -101,6 +101,7 @@ impl Maker {
             bootstrap: !self.chance(4),
             keep_samples: true,
             splitter: self.one_of(&[Splitter::Best, Splitter::Random]),
+            cuts: self.one_of(&[Cuts::Midpoint, Cuts::Measured]),
             seed: self.0.word(),
             n_threads: self.one_of(&[None, Some(0), Some(1), Some(3)]),
         }

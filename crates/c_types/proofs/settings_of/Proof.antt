@@ -10,8 +10,11 @@ depth-of-requires c κs = search needs
 splitter-of-requires : tie.Need-splitter-of-requires
 splitter-of-requires c κs = search needs
 
+height-of-requires : tie.Need-height-of-requires
+height-of-requires c κs = search needs
+
 returns : tie.Need-returns
-returns c = settings-made _ _ _ _ _ (c .before .depth-of .ensures) (c .splitter-of .ensures)
+returns c = settings-made _ _ _ _ _ _ (c .before .before .depth-of .ensures) (c .before .splitter-of .ensures) (c .height-of .ensures)
 
 pub settings-of-spec : {M : Type 1} → statement M
-settings-of-spec = tie.close (tie.spec depth-of-requires splitter-of-requires returns)
+settings-of-spec = tie.close (tie.spec depth-of-requires splitter-of-requires height-of-requires returns)

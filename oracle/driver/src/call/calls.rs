@@ -13,6 +13,8 @@ pub struct Fit {
     /// `None` only in a forest.
     pub tried: Option<u32>,
     pub random: bool,
+    /// Whether the best splitter cuts at the lower of two neighbouring values, and not halfway between them.
+    pub lower: bool,
     pub x: Vec<f64>,
     pub y: Vec<f64>,
     pub weights: Vec<f64>,
@@ -37,9 +39,42 @@ pub struct Lengths {
 }
 
 impl Fit {
+    /// Whether its thresholds are measured values, as smartcore's are not. The random splitter ignores the choice.
+    pub fn measured(&self) -> bool {
+        self.lower && !self.random
+    }
+
     pub fn kept(&self, tree: usize, row: usize) -> bool {
         let weight = self.weights.get(row).copied().unwrap_or(1.0);
         self.counts[tree * self.rows + row] > 0 && weight > 0.0
+    }
+
+    /// The values of a feature in the rows that a tree keeps, in the order of the listing.
+    fn column(&self, tree: usize, feature: usize) -> Vec<f64> {
+        let listing = &self.listings[feature * self.rows..(feature + 1) * self.rows];
+        let rows = listing.iter().map(|row| *row as usize);
+        let kept = rows.filter(|row| self.kept(tree, *row));
+        kept.map(|row| self.x[row * self.features + feature])
+            .collect()
+    }
+
+    fn some_column(&self, has: impl Fn(&[f64]) -> bool) -> bool {
+        let one = |tree: usize| (0..self.features).any(|feature| has(&self.column(tree, feature)));
+        (0..self.trees).any(one)
+    }
+
+    /// Whether a tree keeps two rows with equal values of a feature.
+    pub fn ties(&self) -> bool {
+        self.some_column(|column| column.windows(2).any(|pair| pair[0] == pair[1]))
+    }
+
+    /// Whether a tree keeps a row with -0 and another with +0 in the same feature.
+    pub fn both_zeros(&self) -> bool {
+        let has = |column: &[f64], zero: f64| {
+            let mut bits = column.iter().map(|value| value.to_bits());
+            bits.any(|value| value == zero.to_bits())
+        };
+        self.some_column(|column| has(column, -0.0) && has(column, 0.0))
     }
 
     /// The number of nodes that a tree requires room for.

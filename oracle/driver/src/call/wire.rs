@@ -81,6 +81,7 @@ fn fit_fields(fit: &mut Fit, w: &mut Wire) {
         |n| u32::try_from(n).ok(),
     );
     w.flag(&mut fit.random);
+    w.flag(&mut fit.lower);
     w.floats(&mut fit.x);
     w.floats(&mut fit.y);
     w.floats(&mut fit.weights);

@@ -56,6 +56,7 @@ pub fn cases() -> Vec<Case> {
     lengths(&mut faults);
     numbers(&mut faults);
     rooms(&mut faults);
+    lower(&mut faults);
     faults.0
 }
 
@@ -129,5 +130,22 @@ fn rooms(faults: &mut Faults) {
     for column in 0..6 {
         faults.add(&base, 6, |fit| fit.rooms.reports[column] -= 1);
         faults.add(&base, 6, |fit| fit.rooms.reports[column] += 1);
+    }
+}
+
+/// The choice of the threshold brings no refusal and takes none away.
+fn lower(faults: &mut Faults) {
+    for forest in [false, true] {
+        let base = Fit {
+            lower: true,
+            ..good(forest, true)
+        };
+        faults.add(&base, 0, |_| ());
+        faults.add(&base, 1, |fit| fit.features = 0);
+        faults.add(&base, 2, |fit| off(&mut fit.y, true));
+        faults.add(&base, 3, |fit| fit.x[5] = f64::NAN);
+        faults.add(&base, 4, |fit| fit.counts[1] = 65_536);
+        faults.add(&base, 5, |fit| fit.listings.swap(2, 3));
+        faults.add(&base, 6, |fit| fit.rooms.nodes[2] -= 1);
     }
 }

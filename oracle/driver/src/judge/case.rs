@@ -46,7 +46,7 @@ impl Case {
         let (call, answer) = (wire::down(&self.call), self.expected());
         let head = [
             wire::kind(&self.call),
-            expect::judge(&self.call, self.refusal),
+            expect::judge(&self.call, self.refusal, &answer),
             call.len() as u64,
         ];
         let length = [answer.len() as u64];
@@ -61,6 +61,17 @@ pub struct Listed {
     /// 1 for smartcore, 2 for the rules.
     pub judge: u64,
     pub answer: Vec<u64>,
+}
+
+impl Listed {
+    pub fn measures(&self) -> bool {
+        expect::measures(&self.case.call, &self.answer)
+    }
+
+    /// Whether the copy answers it, alone or with thresholds put in the place of its own.
+    pub fn copied(&self) -> bool {
+        self.judge == 1 || self.measures()
+    }
 }
 
 pub fn parse(line: &str) -> Listed {

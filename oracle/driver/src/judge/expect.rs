@@ -1,9 +1,10 @@
-//! The expected answer: that of the copy if smartcore has one; otherwise the refusal for the fault in the input, with every room
-//! unchanged.
+//! The expected answer: that of the copy if smartcore has one, with other thresholds if they are to be measured values; otherwise the
+//! refusal for the fault in the input, with every room unchanged.
 
 use crate::call::calls::{Call, Fit, Read, Reader};
 use crate::call::outcome::{FILL, FILL_FLOAT, Outcome, Room, bits};
 use crate::judge::copied::{data, params, tree_counts};
+use crate::judge::measured;
 use copy::harness::{self, Grown, NodeRecord, Readable, Tape};
 
 /// `refusal` is the one for the fault in the input: 0 for none, although a draw may be bad, or every mean NaN.
@@ -14,8 +15,8 @@ pub fn expect(call: &Call, refusal: u32) -> Outcome {
     }
 }
 
-/// Which judge an answer comes from: 1 for smartcore, 2 for the rules.
-pub fn judge(call: &Call, refusal: u32) -> u64 {
+/// Which judge an answer comes from: 1 for smartcore, 2 for the rules. `refusal` is the one for a fault.
+pub fn judge(call: &Call, refusal: u32, answer: &[u64]) -> u64 {
     let has = |read: &Read| {
         !matches!(
             read.reader,
@@ -27,10 +28,15 @@ pub fn judge(call: &Call, refusal: u32) -> u64 {
         )
     };
     match call {
-        Call::Fit(_) if refusal == 0 => 1,
+        Call::Fit(_) if refusal == 0 && !measures(call, answer) => 1,
         Call::Read(read) if refusal == 0 && has(read) => 1,
         _ => 2,
     }
+}
+
+/// Whether the answer has measured thresholds, which are not smartcore's. Even then, smartcore decides which draw is bad.
+pub fn measures(call: &Call, answer: &[u64]) -> bool {
+    matches!(call, Call::Fit(fit) if fit.measured() && answer[0] == 0)
 }
 
 fn part<T: Clone>(tape: &[T], cuts: &[u64], tree: usize) -> Vec<T> {
@@ -40,19 +46,18 @@ fn part<T: Clone>(tape: &[T], cuts: &[u64], tree: usize) -> Vec<T> {
     }
 }
 
-/// One tree of an accepted fit, grown by the copy from its part of the tapes.
-pub fn grow(fit: &Fit, tree: usize) -> Result<Grown, usize> {
-    let tape = Tape {
+/// A tree's part of the tapes.
+pub fn tape(fit: &Fit, tree: usize) -> Tape {
+    Tape {
         words: part(&fit.words, &fit.word_starts, tree),
         thresholds: part(&fit.thresholds, &fit.threshold_starts, tree),
-    };
-    harness::grow(
-        &data(fit),
-        tree_counts(fit, tree),
-        &params(fit),
-        Some(tape),
-        0,
-    )
+    }
+}
+
+/// One tree of an accepted fit, grown by the copy from its part of the tapes.
+pub fn grow(fit: &Fit, tree: usize) -> Result<Grown, usize> {
+    let tape = Some(tape(fit, tree));
+    harness::grow(&data(fit), tree_counts(fit, tree), &params(fit), tape, 0)
 }
 
 /// The six columns of nodes.
@@ -138,7 +143,12 @@ fn expect_fit(fit: &Fit, refusal: u32) -> Outcome {
 }
 
 fn answered(fit: &Fit, trees: &[Grown], told: &mut [u64], rooms: &mut [Room]) {
-    let tables: Vec<Vec<NodeRecord>> = trees.iter().map(Grown::nodes).collect();
+    let mut tables: Vec<Vec<NodeRecord>> = trees.iter().map(Grown::nodes).collect();
+    if fit.measured() {
+        for (tree, nodes) in tables.iter_mut().enumerate() {
+            measured::thresholds(fit, tree, nodes);
+        }
+    }
     for (room, column) in rooms.iter_mut().zip(columns(&tables.concat())) {
         put(room, &column);
     }

@@ -4,8 +4,8 @@ use crate::call::calls::{Call, Fit, Lengths, Read, Reader, Table};
 use crate::call::outcome::{FILL, FILL_FLOAT, Outcome, Room, bits};
 use crate::judge::library::Library;
 use paper::{
-    Columns, Cuts, Divisor, Draws, ForestCall, ForestRooms, Given, Reports, Settings, Splitter,
-    TreeCall, TreeRooms, Waiting, Work,
+    Columns, CutAt, Cuts, Divisor, Draws, ForestCall, ForestRooms, Given, Reports, Settings,
+    Splitter, TreeCall, TreeRooms, Waiting, Work,
 };
 
 pub fn run(library: &dyn Library, call: &Call) -> Outcome {
@@ -142,6 +142,10 @@ fn settings(fit: &Fit) -> Settings {
         splitter: match fit.random {
             true => Splitter::Random,
             false => Splitter::Best,
+        },
+        cut_at: match fit.lower {
+            true => CutAt::Lower,
+            false => CutAt::Midpoint,
         },
     }
 }

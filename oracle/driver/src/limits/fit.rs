@@ -6,27 +6,35 @@ use crate::make::chance::Chance;
 use crate::make::crafted;
 use crate::make::fit as make_fit;
 
-fn finished(chance: &mut Chance, mut fit: Fit) -> Case {
+fn finished(chance: &mut Chance, mut fit: Fit) -> Fit {
     fit.listings = make_fit::listings(chance, fit.rows, fit.features, &fit.x);
     let seed = chance.word();
     make_fit::draws(chance, &mut fit, seed);
     make_fit::rooms(chance, &mut fit);
-    Case::fit(fit, 0)
+    fit
+}
+
+/// With cuts halfway, and at the lower value.
+fn both(mut fit: Fit, hold: &mut impl FnMut(Case)) {
+    hold(Case::fit(fit.clone(), 0));
+    fit.lower = true;
+    hold(Case::fit(fit, 0));
 }
 
 pub fn each(chance: &mut Chance, mut hold: impl FnMut(Case)) {
     for random in [false, true] {
         for counts in [1, 65_535] {
-            hold(many_rows(chance, random, counts, 2));
+            both(many_rows(chance, random, counts, 2), &mut hold);
         }
     }
     // the largest sum of kept counts, and one more than that
     for least_split in [4_294_836_225, 4_294_836_226] {
-        hold(many_rows(chance, false, 65_535, least_split));
+        let fit = many_rows(chance, false, 65_535, least_split);
+        both(fit, &mut hold);
     }
     for _ in 0..20 {
-        hold(many_features(chance));
-        hold(many_trees(chance));
+        both(many_features(chance), &mut hold);
+        both(many_trees(chance), &mut hold);
         hold(chain(chance));
     }
     for features in 1..=1_024 {
@@ -36,7 +44,7 @@ pub fn each(chance: &mut Chance, mut hold: impl FnMut(Case)) {
     }
 }
 
-fn many_rows(chance: &mut Chance, random: bool, count: u32, least_split: u32) -> Case {
+fn many_rows(chance: &mut Chance, random: bool, count: u32, least_split: u32) -> Fit {
     let rows = 65_535;
     let x: Vec<f64> = (0..rows).map(|_| chance.below(40_000) as f64).collect();
     let y: Vec<f64> = (0..rows).map(|_| chance.unit()).collect();
@@ -57,7 +65,7 @@ fn many_rows(chance: &mut Chance, random: bool, count: u32, least_split: u32) ->
     finished(chance, fit)
 }
 
-fn many_features(chance: &mut Chance) -> Case {
+fn many_features(chance: &mut Chance) -> Fit {
     let (rows, features) = (chance.within(1, 4), 1_024);
     let fit = Fit {
         forest: chance.one_in(2),
@@ -78,7 +86,7 @@ fn many_features(chance: &mut Chance) -> Case {
     finished(chance, fit)
 }
 
-fn many_trees(chance: &mut Chance) -> Case {
+fn many_trees(chance: &mut Chance) -> Fit {
     let (rows, features, trees) = (chance.within(1, 3), chance.within(1, 2), 1_024);
     let fit = Fit {
         forest: true,

@@ -1,4 +1,4 @@
-//! Picks the fixed list from a pool: cases that detect each edit, and some of each kind and refusal.
+//! Picks the fixed list from a pool: cases that detect each edit, and some of each kind and refusal, with and without measured thresholds.
 
 use crate::call::calls::Call;
 use crate::call::wire;
@@ -8,15 +8,25 @@ use std::collections::BTreeMap;
 
 /// How many cases should detect an edit, if the pool has that many.
 const FINDERS: usize = 3;
-/// The least number of cases of a kind with a refusal: the most for those that are not refused.
-fn of_a_kind(kind: u64, refusal: usize) -> usize {
-    match (kind, refusal) {
-        (1, 0) => 190,
-        (2, 0) => 60,
-        (1 | 2, 7) => 25,
-        (3..=9 | 13, 0) => 15,
+/// A kind, the refusal, and whether the answer has measured thresholds.
+type Sort = (u64, usize, bool);
+
+/// The least number of cases of a sort: the most for those that are not refused.
+fn of_a_sort(sort: Sort) -> usize {
+    match sort {
+        (1, 0, false) => 190,
+        (2, 0, false) => 60,
+        (1, 0, true) => 90,
+        (2, 0, true) => 30,
+        (1 | 2, 7, _) => 25,
+        (3..=9 | 13, 0, _) => 15,
         _ => 6,
     }
+}
+
+fn sort(listed: &case::Listed) -> Sort {
+    let refusal = listed.answer[0] as usize;
+    (wire::kind(&listed.case.call), refusal, listed.measures())
 }
 
 /// A tree without a split shows little.
@@ -55,24 +65,20 @@ pub fn pick(pool: &[&str], found: &[Vec<usize>]) -> Vec<usize> {
             None => break,
         }
     }
-    of_each_kind(pool, &mut taken);
+    of_each_sort(pool, &mut taken);
     (0..pool.len()).filter(|place| taken[*place]).collect()
 }
 
-fn of_each_kind(pool: &[&str], taken: &mut [bool]) {
+fn of_each_sort(pool: &[&str], taken: &mut [bool]) {
     let pool: Vec<case::Listed> = pool.iter().map(|line| case::parse(line)).collect();
-    let mut have: BTreeMap<(u64, usize), usize> = BTreeMap::new();
-    let kind = |listed: &case::Listed| {
-        let refusal = listed.answer[0] as usize;
-        (wire::kind(&listed.case.call), refusal)
-    };
+    let mut have: BTreeMap<Sort, usize> = BTreeMap::new();
     for (place, listed) in pool.iter().enumerate() {
-        *have.entry(kind(listed)).or_default() += usize::from(taken[place]);
+        *have.entry(sort(listed)).or_default() += usize::from(taken[place]);
     }
     for (place, listed) in pool.iter().enumerate() {
-        let (kind, refusal) = kind(listed);
-        let count = have.entry((kind, refusal)).or_default();
-        if !taken[place] && !bare(listed) && *count < of_a_kind(kind, refusal) {
+        let sort = sort(listed);
+        let count = have.entry(sort).or_default();
+        if !taken[place] && !bare(listed) && *count < of_a_sort(sort) {
             *count += 1;
             taken[place] = true;
         }

@@ -65,21 +65,25 @@ fn columns(mut each: impl FnMut(Fit)) {
     }
 }
 
-fn with_rooms(mut fit: Fit) -> Case {
+/// A fit in both choices: with cuts halfway, and at the lower value.
+fn both(mut fit: Fit, each: &mut impl FnMut(Case)) {
     make_fit::rooms(&mut Chance::new(0), &mut fit);
-    Case::fit(fit, 0)
+    each(Case::fit(fit.clone(), 0));
+    fit.lower = true;
+    each(Case::fit(fit, 0));
 }
 
 pub fn best(mut each: impl FnMut(Case)) {
     columns(|fit| {
         for limit in [None, Some(2)] {
             for (least_leaf, least_split) in [(0, 0), (1, 2), (2, 2), (1, 3), (2, 0), (3, 1)] {
-                each(with_rooms(Fit {
+                let fit = Fit {
                     limit,
                     least_leaf,
                     least_split,
                     ..fit.clone()
-                }));
+                };
+                both(fit, &mut each);
             }
         }
     });
@@ -90,13 +94,14 @@ pub fn random(mut each: impl FnMut(Case)) {
     let tapes = lists(&[-0.0, 0.5, 0.0], 2);
     columns(|fit| {
         for thresholds in &tapes {
-            each(with_rooms(Fit {
+            let fit = Fit {
                 random: true,
                 least_leaf: 1,
                 least_split: 2,
                 thresholds: thresholds.clone(),
                 ..fit.clone()
-            }));
+            };
+            both(fit, &mut each);
         }
     });
 }
@@ -110,7 +115,7 @@ pub fn words(mut each: impl FnMut(Case)) {
             for second in listings(&column(1)) {
                 for words in &tapes {
                     for tried in 0..=3 {
-                        each(with_rooms(Fit {
+                        let fit = Fit {
                             rows: 2,
                             features: 2,
                             trees: 1,
@@ -121,7 +126,8 @@ pub fn words(mut each: impl FnMut(Case)) {
                             listings: [first.clone(), second.clone()].concat(),
                             words: words.clone(),
                             ..Fit::default()
-                        }));
+                        };
+                        both(fit, &mut each);
                     }
                 }
             }

@@ -37,6 +37,11 @@ pub fn fit(chance: &mut Chance, forest: bool, size: Size) -> Fit {
     values(chance, &mut fit);
     fit.listings = listings(chance, fit.rows, fit.features, &fit.x);
     let seed = chance.word();
+    // half of the fits, by a bit of what is drawn anyway
+    fit.lower = seed >> 63 == 1;
+    if fit.measured() {
+        zeros(&mut Chance::new(seed), &mut fit);
+    }
     draws(chance, &mut fit, seed);
     rooms(chance, &mut fit);
     fit
@@ -126,6 +131,32 @@ pub fn listings(chance: &mut Chance, rows: usize, features: usize, x: &[f64]) ->
         all.extend(listing);
     }
     all
+}
+
+/// More zeros of both signs, which only measured thresholds show: in two of three fits the middle value of each column becomes zero, and
+/// every zero gets a sign of its own. The order of the values stays the same, so the listings stay valid.
+fn zeros(chance: &mut Chance, fit: &mut Fit) {
+    if !chance.one_in(3) {
+        (0..fit.features).for_each(|feature| around_zero(fit, feature));
+    }
+    for value in fit.x.iter_mut().filter(|value| **value == 0.0) {
+        *value = chance.pick(&[0.0, -0.0]);
+    }
+}
+
+/// Replaces the values of a column by whole numbers in the same order, equal ones by equal ones, with 0 in the middle of the listing.
+fn around_zero(fit: &mut Fit, feature: usize) {
+    let (rows, features) = (fit.rows, fit.features);
+    let listing = &fit.listings[feature * rows..(feature + 1) * rows];
+    let at = |row: u32| row as usize * features + feature;
+    let mut steps = vec![0.0; rows];
+    for place in 1..rows {
+        let rises = fit.x[at(listing[place - 1])] < fit.x[at(listing[place])];
+        steps[place] = steps[place - 1] + if rises { 1.0 } else { 0.0 };
+    }
+    for (row, step) in listing.iter().zip(&steps) {
+        fit.x[at(*row)] = step - steps[rows / 2];
+    }
 }
 
 /// Lets the copy make the draws of each tree and joins them, sometimes with extra draws after those of a tree.

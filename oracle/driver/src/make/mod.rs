@@ -5,5 +5,6 @@ pub mod crafted;
 pub mod exhaustive;
 pub mod fit;
 pub mod floats;
+pub mod lower;
 pub mod read;
 pub mod rehearsal;

@@ -23,7 +23,7 @@ fn first() -> Fit {
 }
 
 /// P1 with one thing changed, in rooms that are just long enough.
-fn with(change: impl Fn(&mut Fit)) -> Fit {
+pub fn with(change: impl Fn(&mut Fit)) -> Fit {
     let mut fit = first();
     change(&mut fit);
     make_fit::rooms(&mut Chance::new(0), &mut fit);

@@ -65,9 +65,9 @@ returns-2 c =
     let first = value-is (a .features) t (a .j) (getD (a .col .now) 0 0) (c .before .before .before .value-here .ensures) in
     let b = earlierOf (a .h .held) in
     let g = c .before .before .spot-of .ensures in
-    let same = g .1 (cutsIn (a .features) (a .values .now) (a .j) (a .col .now) b) refl in
+    let same = g .1 (cutsIn (a .p .height) (a .features) (a .values .now) (a .j) (a .col .now) b) refl in
     let w =
-    best-found (a .features) t (a .j) (a .col .now) (start-of-held-of c .pre .1 .1 .1) b (a .h) (c .held-of .result) (c .before .sweep-column .result .spot)
+    best-found (a .features) t (a .j) (a .col .now) (start-of-held-of c .pre .1 .1 .1) b (a .h) (c .held-of .result) (c .before .sweep-column .result .spot) (a .p .height)
     (c .held-of .ensures b) _ (g .0) same (c .before .sweep-column .ensures .0) in (
       w .0 ∙ best-sweep (elementOf (a .features) t) (a .col .now) (at-else1 c .if1 .left) (a .p) (a .a) (a .j) (a .h .held) first same (c .before .sweep-column .ensures .1 b),
       w .1,

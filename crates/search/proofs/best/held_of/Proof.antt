@@ -39,7 +39,7 @@ returns-2 c =
     λ b.
     let a = start-of-held-at c .args in
     subst (λ z. HeldAt (a .h) (a .s) z (c .held-at .result))
-    (cut-again (a .features) (a .values .now) (a .j) (a .col .now) b (a .s .place) (known-of-held-at c .before .if1 .left) (c .before .before .before .run-before .ensures)
+    (cut-again (a .height) (a .features) (a .values .now) (a .j) (a .col .now) b (a .s .place) (known-of-held-at c .before .if1 .left) (c .before .before .before .run-before .ensures)
     (c .before .before .value-here .ensures) (c .before .threshold-of .ensures .exact))
     (c .held-at .ensures)
 

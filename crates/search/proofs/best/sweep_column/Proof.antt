@@ -24,8 +24,8 @@ Inv-loop values targets weights counts col rows features p j a v₀ i₀ v i =
     × (v .count + tally (map (elementOf features (tablesOf values targets weights counts)) (drop i col)) ≤ a .count)
     × Stood (cell features values j) col (v₀ .spot) (v .spot)
     × (v .last ≡ runAt (cell features values j) col i)
-    × ((b : Cut) → sweep p (bare a) j (sweepOf (cutsIn features values j col b) v) (map (elementOf features (tablesOf values targets weights counts)) (drop i
-    col)) ≡ sweep p (bare a) j (sweepOf (cutsIn features values j col b) v₀) (map (elementOf features (tablesOf values targets weights counts)) col))
+    × ((b : Cut) → sweep p (bare a) j (sweepOf (cutsIn (p .height) features values j col b) v) (map (elementOf features (tablesOf values targets weights counts)) (drop i
+    col)) ≡ sweep p (bare a) j (sweepOf (cutsIn (p .height) features values j col b) v₀) (map (elementOf features (tablesOf values targets weights counts)) col))
 
 abbrev μ-loop : tie.MeasureT-loop
 μ-loop values targets weights counts col rows features p j a v₀ i₀ v i = length col - i
@@ -105,9 +105,9 @@ loop-again c =
     let e =
     cell-here (a .features) (tables (start-of-step-of c)) (a .j) (getD (a .col .now) (l .i) 0) (c .before .cell-of .ensures)
     (c .before .before .before .before .wide .ensures) (c .before .before .wide2 .ensures) in
-    let k : Cut → ℕ → Cut = cutsIn (a .features) (a .values .now) (a .j) (a .col .now) in
+    let k : Cut → ℕ → Cut = cutsIn (a .p .height) (a .features) (a .values .now) (a .j) (a .col .now) in
     let s : (b : Cut) → sweepOf (k b) (c .step-of .result) ≡ stepIn (a .p) (a .a) (a .j) (sweepOf (k b) (l .v)) (c .before .cell-of .result) = λ b.
-    c .step-of .ensures .1 (a .j) (k b) (turn-cut (a .features) (tables (start-of-step-of c)) (a .j) (a .col .now) (l .i) e (l .inv .3) b) in (
+    c .step-of .ensures .1 (a .j) (k b) (turn-cut (a .features) (tables (start-of-step-of c)) (a .j) (a .col .now) (l .i) e (l .inv .3) (a .p .height) b) in (
       omega (arith, at-in-loop c .loop-test .taken),
       turn-room (elementOf (a .features) (tables (start-of-step-of c))) (a .col .now) (l .i) (at-in-loop c .loop-test .taken) (a .p) (a .a) (a .j)
           (sweepOf (k (earlierOf Nothing)) (l .v)) (a .a .count) e (s (earlierOf Nothing)) (l .inv .1),
@@ -125,7 +125,7 @@ returns c =
     let l = c .before .loop in (
       l .inv .2,
       λ b. sym (turn-end (elementOf (a .features) (tables (start-of-loop c))) (a .col .now) (l .i) (c .loop-test .left)
-          (a .p) (a .a) (a .j) (sweepOf (cutsIn (a .features) (a .values .now) (a .j) (a .col .now) b) (l .v))) ∙ l .inv .4 b,
+          (a .p) (a .a) (a .j) (sweepOf (cutsIn (a .p .height) (a .features) (a .values .now) (a .j) (a .col .now) b) (l .v))) ∙ l .inv .4 b,
     )
 
 pub sweep-column-spec : {M : Type 1} → statement M

@@ -1,0 +1,331 @@
+-- Where the best splitter cuts. For either choice each of its splits stands between two values that were measured on kept rows, at least the lower and below the upper;
+-- at the lower it is that value itself. The choice moves nothing but thresholds: the same rows go the same way, so the answer, every other column and every room are
+-- what they are under the other choice. And it moves nothing at all for the random splitter. Plain settings that say nothing of it mean the middle. Assumes nothing.
+use Prim.Native.Nat.{ℕ, zero, suc, _+_, _-_, _<_}
+use mathlib.Core.Path.{_≡_, refl, sym, ap, subst, _∙_}
+use mathlib.Core.Logic.{_⊎_, inl, inr}
+use mathlib.Core.Bool.{true, false, _&&_}
+use mathlib.Core.List.{List, [], _∷_, _++_, map, map-map, map-append}
+use lib.ListN.{length}
+use lib.Dec.{T, leb}
+use lib.Ieee.{Float, lt, le}
+use Rattle.rules.specs.declared.Settings.{Settings}
+use Rattle.rules.specs.declared.Height.{Height}
+use Rattle.rules.specs.declared.Height.the-variants.{Midpoint, Lower}
+use Rattle.rules.specs.declared.TreeSettings.{TreeSettings}
+use Rattle.rules.specs.declared.ForestSettings.{ForestSettings}
+use Rattle.rules.specs.declared.Splitter.the-variants.{Best, Random}
+use Rattle.rules.specs.declared.Kind.{Kind}
+use Rattle.rules.specs.declared.Kind.the-variants.{Leaf, Split}
+use Rattle.rules.specs.declared.Report.{Report}
+use Rattle.rules.specs.declared.TreeAnswer.{TreeAnswer}
+use Rattle.rules.specs.declared.ForestAnswer.{ForestAnswer}
+use Rattle.rules.specs.Words.{from, front, total}
+use Rattle.rules.specs.Totals.{valueOf}
+use Rattle.rules.specs.Threshold.{thresholdBetween}
+use Rattle.rules.specs.Lent.{Data, OneTree, Columns, Entry, WaitingForm, TreeRooms, ForestRooms, Outcome, cell, kept, keptRows, entriesAt, shortest, writeEntries, writeReports}
+use Rattle.rules.specs.Checks.{test, firstFailed, shapeIn, treesIn, lengths, numbersGood, countsGood, countsOne, roomFor}
+use Rattle.rules.specs.Listing.{listingsGood}
+use Rattle.rules.specs.Draws.{Out, bad, ok}
+use Rattle.rules.specs.Search.{Element, at, search}
+use Rattle.rules.specs.Growth.{TreeNode}
+use Rattle.rules.specs.Fit.{element, elementIn, column, Tree, fit, entryOf, entries, paramsOf, TreeCall, oneTreeOf, grownTree, treeTests, treeDone, treeEnds, fitTree}
+use Rattle.rules.specs.Forest.{ForestCall, oneTreeAt, eachTree, Forest, stopped, grownAll, withTree, nextTree, growTrees}
+use Rattle.rules.specs.Forest.{grownForest, startsFrom, forestEntries, tapesGood, roomsGood, forestTests, forestDone, forestEnds, fitForest}
+use Rattle.rules.specs.Table.{isLeaf}
+use Rattle.rules.specs.Plain.{heightOf, settingsOf, treeSettingsOf, forestSettingsOf}
+use Rattle.lemmas.specs.Lists.{Every, total-map, Pairs, pairs-map}
+use Rattle.lemmas.specs.Outs.{Then, then-of, Both, both-first}
+use Rattle.lemmas.specs.Twins.{Placed, Told, KindBoth}
+use Rattle.lemmas.specs.Root.{Listed}
+use Rattle.lemmas.specs.TwinFits.{Row, row-values, Nodes, Trees, oneTreeCut, fit-both, bareEntry, Alike, fit-alike, fit-same}
+use Rattle.lemmas.specs.Passed.{Binary64, forest-passed, forest-framed, listed-right}
+use Rattle.lemmas.specs.Answered.{TreeAnswered, tree-answered, tree-listed}
+use Rattle.demands.specs.Walks.{tree-left}
+
+-- ---- the statements
+
+abbrev pub atHeight : Height → Settings → Settings
+atHeight g G = record { depth = G .depth; leaf = G .leaf; split = G .split; splitter = G .splitter; height = g }
+
+-- the same call with the other choice
+abbrev pub treeCut : Height → TreeCall → TreeCall
+treeCut g C = record { shape = C .shape; settings = atHeight g (C .settings); tried = C .tried; given = C .given; words = C .words; thresholds = C .thresholds }
+
+abbrev pub forestCut : Height → ForestCall → ForestCall
+forestCut g C =
+    record {
+      shape = C .shape;
+      trees = C .trees;
+      settings = atHeight g (C .settings);
+      tried = C .tried;
+      given = C .given;
+      words = C .words;
+      thresholds = C .thresholds;
+      wordStarts = C .wordStarts;
+      thresholdStarts = C .thresholdStarts;
+    }
+
+-- of a table's entry: a split between the values of two kept rows
+pub record Between (F : OneTree) (D : Data) (e : Entry) : Type 0 where
+  pub low : ℕ
+  pub high : ℕ
+  pub lowKept : (low < F .rows) × (kept F low ≡ true)
+  pub highKept : (high < F .rows) × (kept F high ≡ true)
+  pub exact : e .threshold ≡ thresholdBetween (F .params .height) (cell (F .params .features) (D .values) (e .feature) low) (cell (F .params .features) (D .values) (e .feature) high)
+  pub atLeast : T (le (cell (F .params .features) (D .values) (e .feature) low) (e .threshold))
+  pub below : T (lt (e .threshold) (cell (F .params .features) (D .values) (e .feature) high))
+
+abbrev pub LeafOrBetween : OneTree → Data → Entry → Type 0
+LeafOrBetween F D e = (isLeaf e ≡ true) ⊎ Between F D e
+
+abbrev pub BetweenMeasured : Type 1
+BetweenMeasured =
+    (W : Type 0) (K : WaitingForm W) (C : TreeCall) (R : TreeRooms W) (r : Report) → Binary64 (C .given .inputs .values) → C .settings .splitter ≡ Best
+    → fitTree K C R .answer ≡ TreeAnswer.Grown r
+    → Every (LeafOrBetween (oneTreeOf C) (C .given .inputs)) (entriesAt (fitTree K C R .rooms .nodes) 0 (r .nodes))
+
+-- at the lower, the threshold is the value of a kept row
+abbrev pub AtMeasured : Type 0
+AtMeasured =
+    (F : OneTree) (D : Data) (e : Entry) → F .params .height ≡ Lower → Between F D e
+    → (i : ℕ) × (i < F .rows) × (kept F i ≡ true) × (e .threshold ≡ cell (F .params .features) (D .values) (e .feature) i)
+
+-- an outcome, but for the thresholds
+abbrev pub bare : Columns → Columns
+bare c = record { value = c .value; feature = c .feature; threshold = []; score = c .score; trueChild = c .trueChild; falseChild = c .falseChild }
+
+abbrev pub treeBare : {W : Type 0} → Outcome TreeAnswer (TreeRooms W) → Outcome TreeAnswer (TreeRooms W)
+treeBare o = record { answer = o .answer; rooms = record { nodes = bare (o .rooms .nodes); work = o .rooms .work } }
+
+abbrev pub forestBare : {W : Type 0} → Outcome ForestAnswer (ForestRooms W) → Outcome ForestAnswer (ForestRooms W)
+forestBare o = record { answer = o .answer; rooms = record { nodes = bare (o .rooms .nodes); starts = o .rooms .starts; reports = o .rooms .reports; work = o .rooms .work } }
+
+abbrev pub ThresholdsAlone : Type 1
+ThresholdsAlone =
+    (W : Type 0) (K : WaitingForm W) (g : Height)
+    → ((C : TreeCall) (R : TreeRooms W) → Binary64 (C .given .inputs .values) → treeBare (fitTree K (treeCut g C) R) ≡ treeBare (fitTree K C R))
+    × ((C : ForestCall) (R : ForestRooms W) → Binary64 (C .given .inputs .values) → forestBare (fitForest K (forestCut g C) R) ≡ forestBare (fitForest K C R))
+
+abbrev pub RandomUnmoved : Type 1
+RandomUnmoved =
+    (W : Type 0) (K : WaitingForm W) (g : Height)
+    → ((C : TreeCall) (R : TreeRooms W) → Binary64 (C .given .inputs .values) → C .settings .splitter ≡ Random → fitTree K (treeCut g C) R ≡ fitTree K C R)
+    × ((C : ForestCall) (R : ForestRooms W) → Binary64 (C .given .inputs .values) → C .settings .splitter ≡ Random → fitForest K (forestCut g C) R ≡ fitForest K C R)
+
+abbrev pub Unsaid : Type 0
+Unsaid =
+    ((s : TreeSettings) → (s .lower ≡ false → treeSettingsOf s .height ≡ Midpoint) × (s .lower ≡ true → treeSettingsOf s .height ≡ Lower))
+    × ((s : ForestSettings) → (s .lower ≡ false → forestSettingsOf s .height ≡ Midpoint) × (s .lower ≡ true → forestSettingsOf s .height ≡ Lower))
+
+-- ---- where a split stands
+
+module _ (F : OneTree) (D : Data) (right : Listed F D) (best : F .params .splitter ≡ Best) where
+  abbrev height : Height
+  height = F .params .height
+
+  abbrev KeptRow : Element → Type 0
+  KeptRow e = Row F D right height e
+
+  kind-between : (v : Float) (k k′ : Kind) → KindBoth (F .params) height KeptRow (row-values F D right height) k k′ → LeafOrBetween F D (entryOf v k)
+  unfolding isLeaf entryOf at element elementIn cell
+  kind-between v Leaf Leaf b = inl refl
+  kind-between v Leaf (Split f′) b = absurd b
+  kind-between v (Split f) Leaf b = absurd b
+  kind-between v (Split f) (Split f′) b =
+      let p : Placed (F .params) height KeptRow (row-values F D right height) (f .cut) (f′ .cut) =
+      subst (λ z. Told (F .params) height KeptRow (row-values F D right height) z (f .cut) (f′ .cut)) best (b .1) in
+      inr (record {
+        low = p .lowIn .0;
+        high = p .highIn .0;
+        lowKept = (p .lowIn .1, p .lowIn .2);
+        highKept = (p .highIn .1, p .highIn .2);
+        exact = p .here ∙ (λ i. thresholdBetween height (at (f .cut .feature) (p .lowIn .3 i)) (at (f .cut .feature) (p .highIn .3 i)));
+        atLeast = subst (λ e. T (le (at (f .cut .feature) e) (f .cut .threshold))) (p .lowIn .3) (p .atLeast);
+        below = subst (λ e. T (lt (f .cut .threshold) (at (f .cut .feature) e))) (p .highIn .3) (p .below);
+      })
+
+  nodes-between : (ns ns′ : List TreeNode) → Pairs (Nodes F D right height) ns ns′ → Every (LeafOrBetween F D) (entries ns)
+  unfolding entries
+  nodes-between [] [] h = tt
+  nodes-between [] (n′ ∷ ns′) h = absurd h
+  nodes-between (n ∷ ns) [] h = absurd h
+  nodes-between (n ∷ ns) (n′ ∷ ns′) h = (kind-between (valueOf (n .totals)) (n .kind) (n′ .kind) (h .0 .2), nodes-between ns ns′ (h .1))
+
+  fit-between : Then (fit F D) (λ t. Every (LeafOrBetween F D) (entries (t .nodes)))
+  fit-between =
+      both-first (Trees F D right height) _ (fit F D) (fit (oneTreeCut F D right height) D) (fit-both F D right height) (λ t t′ h. nodes-between (t .nodes) (t′ .nodes) (h .0))
+
+-- ---- of one tree
+
+pub between-measured : BetweenMeasured
+unfolding oneTreeOf paramsOf
+between-measured W K C R r held best h =
+    let a : TreeAnswered K C R r = tree-answered K C R r h in
+    subst (Every (LeafOrBetween (oneTreeOf C) (C .given .inputs))) (sym (tree-left K C R r a))
+    (then-of (λ (t : Tree). Every (LeafOrBetween (oneTreeOf C) (C .given .inputs)) (entries (t .nodes))) (fit (oneTreeOf C) (C .given .inputs)) (a .tree) (a .grew)
+    (fit-between (oneTreeOf C) (C .given .inputs) (tree-listed K C R held (a .passed) .0) best))
+
+pub at-measured : AtMeasured
+unfolding thresholdBetween
+at-measured F D e lower b = (
+  b .low,
+  b .lowKept .0,
+  b .lowKept .1,
+  b .exact ∙ ap (λ g. thresholdBetween g (cell (F .params .features) (D .values) (e .feature) (b .low)) (cell (F .params .features) (D .values) (e .feature) (b .high))) lower,
+)
+
+-- what is written of entries that are the same but for their thresholds
+written-bare : (es es′ : List Entry) (c : Columns) → map bareEntry es ≡ map bareEntry es′ → bare (writeEntries es c) ≡ bare (writeEntries es′ c)
+written-bare es es′ c h = λ i.
+    record {
+      value = front (column (λ (e : Entry). e .value) (λ e. refl) i) (c .value);
+      feature = front (column (λ (e : Entry). e .feature) (λ e. refl) i) (c .feature);
+      threshold = [];
+      score = front (column (λ (e : Entry). e .score) (λ e. refl) i) (c .score);
+      trueChild = front (column (λ (e : Entry). e .trueChild) (λ e. refl) i) (c .trueChild);
+      falseChild = front (column (λ (e : Entry). e .falseChild) (λ e. refl) i) (c .falseChild);
+    }
+  where
+    column : {A : Type 0} (f : Entry → A) → ((e : Entry) → f (bareEntry e) ≡ f e) → map f es ≡ map f es′
+    column f same = sym (through es) ∙ ap (map f) h ∙ through es′
+      where
+        through : (l : List Entry) → map f (map bareEntry l) ≡ map f l
+        through l = map-map f bareEntry l ∙ ap (λ k. map k l) (λ i e. same e i)
+
+tree-alone : (W : Type 0) (K : WaitingForm W) (g : Height) (C : TreeCall) (R : TreeRooms W) → Binary64 (C .given .inputs .values)
+    → treeBare (fitTree K (treeCut g C) R) ≡ treeBare (fitTree K C R)
+unfolding fitTree treeTests treeEnds treeDone roomFor keptRows kept oneTreeOf paramsOf grownTree
+tree-alone W K g C R held = go (firstFailed (treeTests K C R)) refl
+  where
+    done : (o o′ : Out Tree) → Both Alike o o′ → treeBare (treeDone K o′ R) ≡ treeBare (treeDone K o R)
+    done (bad m) (bad n) h = ap (λ k. treeBare (treeDone K (bad k) R)) (sym h)
+    done (bad m) (ok t′) h = absurd h
+    done (ok t) (bad n) h = absurd h
+    done (ok t) (ok t′) h =
+        λ i.
+        record {
+          answer = TreeAnswer.Grown (sym (h .2) i);
+          rooms = record { nodes = sym (written-bare (entries (t .nodes)) (entries (t′ .nodes)) (R .nodes) (h .0)) i; work = treeDone K (ok t) R .rooms .work };
+        }
+
+    go : (n : ℕ) → firstFailed (treeTests K C R) ≡ n → treeBare (treeEnds K n (grownTree (treeCut g C)) R) ≡ treeBare (treeEnds K n (grownTree C) R)
+    go zero q = done (grownTree C) (grownTree (treeCut g C)) (fit-alike (oneTreeOf C) (C .given .inputs) (tree-listed K C R held q .0) g)
+    go (suc n) q = refl
+
+tree-unmoved : (W : Type 0) (K : WaitingForm W) (g : Height) (C : TreeCall) (R : TreeRooms W) → Binary64 (C .given .inputs .values) → C .settings .splitter ≡ Random
+    → fitTree K (treeCut g C) R ≡ fitTree K C R
+unfolding fitTree treeTests treeEnds roomFor keptRows kept oneTreeOf paramsOf grownTree
+tree-unmoved W K g C R held random = go (firstFailed (treeTests K C R)) refl
+  where
+    go : (n : ℕ) → firstFailed (treeTests K C R) ≡ n → treeEnds K n (grownTree (treeCut g C)) R ≡ treeEnds K n (grownTree C) R
+    go zero q = ap (λ o. treeDone K o R) (sym (fit-same (oneTreeOf C) (C .given .inputs) (tree-listed K C R held q .0) g random))
+    go (suc n) q = refl
+
+-- ---- of a forest, tree by tree
+
+abbrev Forests : Forest → Forest → Type 0
+Forests (stopped d) (stopped d′) = d ≡ d′
+Forests (stopped d) (grownAll ts′) = ⊥
+Forests (grownAll ts) (stopped d′) = ⊥
+Forests (grownAll ts) (grownAll ts′) = Pairs Alike ts ts′
+
+next-alike : (k : ℕ) (o o′ : Out Tree) → Both Alike o o′ → (f f′ : Forest) → Forests f f′ → Forests (nextTree k o f) (nextTree k o′ f′)
+unfolding nextTree withTree
+next-alike k (bad m) (bad n) h f f′ q = ap (λ s. record { tree = k; search = s }) h
+next-alike k (bad m) (ok t′) h f f′ q = absurd h
+next-alike k (ok t) (bad n) h f f′ q = absurd h
+next-alike k (ok t) (ok t′) h (stopped d) (stopped d′) q = q
+next-alike k (ok t) (ok t′) h (stopped d) (grownAll ts′) q = absurd q
+next-alike k (ok t) (ok t′) h (grownAll ts) (stopped d′) q = absurd q
+next-alike k (ok t) (ok t′) h (grownAll ts) (grownAll ts′) q = (h, q)
+
+entries-bare : (ts ts′ : List Tree) → Pairs Alike ts ts′ → map bareEntry (forestEntries ts) ≡ map bareEntry (forestEntries ts′)
+unfolding forestEntries
+entries-bare [] [] h = refl
+entries-bare [] (t′ ∷ ts′) h = absurd h
+entries-bare (t ∷ ts) [] h = absurd h
+entries-bare (t ∷ ts) (t′ ∷ ts′) h =
+    map-append bareEntry (entries (t .nodes)) (forestEntries ts) ∙ (λ i. h .0 .0 i ++ entries-bare ts ts′ (h .1) i) ∙ sym (map-append bareEntry (entries (t′ .nodes)) (forestEntries ts′))
+
+starts-same : (a : ℕ) (ts ts′ : List Tree) → Pairs Alike ts ts′ → startsFrom a ts ≡ startsFrom a ts′
+unfolding startsFrom
+starts-same a [] [] h = refl
+starts-same a [] (t′ ∷ ts′) h = absurd h
+starts-same a (t ∷ ts) [] h = absurd h
+starts-same a (t ∷ ts) (t′ ∷ ts′) h = ap (λ l. a ∷ l) (ap (λ n. startsFrom (a + n) ts) (h .0 .1) ∙ starts-same (a + length (t′ .nodes)) ts ts′ (h .1))
+
+module _ {W : Type 0} (K : WaitingForm W) (g : Height) (C : ForestCall) (R : ForestRooms W) (held : Binary64 (C .given .inputs .values)) where
+  forest-listed : firstFailed (forestTests K C R) ≡ 0 → (t : ℕ) → Listed (oneTreeAt C t) (C .given .inputs)
+  forest-listed q t = let p = forest-passed K C R q .passed in listed-right (C .shape) (C .trees) (C .given) p (oneTreeAt C t) (forest-framed C p t) held
+
+  trees-alike : firstFailed (forestTests K C R) ≡ 0 → (k : ℕ) (l : List ℕ)
+      → Forests (growTrees k (map (oneTreeAt C) l) (C .given .inputs)) (growTrees k (map (oneTreeAt (forestCut g C)) l) (C .given .inputs))
+  unfolding growTrees oneTreeAt paramsOf
+  trees-alike q k [] = tt
+  trees-alike q k (t ∷ l) =
+      next-alike k (fit (oneTreeAt C t) (C .given .inputs)) (fit (oneTreeAt (forestCut g C) t) (C .given .inputs)) (fit-alike (oneTreeAt C t) (C .given .inputs) (forest-listed q t) g) _ _
+      (trees-alike q (suc k) l)
+
+  trees-same : firstFailed (forestTests K C R) ≡ 0 → C .settings .splitter ≡ Random → (k : ℕ) (l : List ℕ)
+      → growTrees k (map (oneTreeAt C) l) (C .given .inputs) ≡ growTrees k (map (oneTreeAt (forestCut g C)) l) (C .given .inputs)
+  unfolding growTrees oneTreeAt paramsOf
+  trees-same q random k [] = refl
+  trees-same q random k (t ∷ l) = λ i. nextTree k (fit-same (oneTreeAt C t) (C .given .inputs) (forest-listed q t) g random i) (trees-same q random (suc k) l i)
+
+  tests-same : forestTests K (forestCut g C) R ≡ forestTests K C R
+  unfolding forestTests roomsGood tapesGood eachTree oneTreeAt roomFor keptRows kept
+  tests-same = λ i.
+      test 1 (shapeIn (C .shape) && treesIn (C .trees))
+      ∷ test 2 (lengths (C .shape) (C .trees) (C .given) && tapesGood C)
+      ∷ test 3 (numbersGood (C .given))
+      ∷ test 4 (countsGood (C .given) && countsOne (C .given))
+      ∷ test 5 (listingsGood (C .shape) (C .given .inputs .values) (C .given .inputs .listings))
+      ∷ test 6 (leb (rooms i) (shortest (R .nodes)) && roomsGood K C R)
+      ∷ []
+    where
+      rooms : total roomFor (eachTree (forestCut g C)) ≡ total roomFor (eachTree C)
+      rooms = total-map roomFor (oneTreeAt (forestCut g C)) (from 0 (C .trees)) ∙ sym (total-map roomFor (oneTreeAt C) (from 0 (C .trees)))
+
+  done-alike : (f f′ : Forest) → Forests f f′ → forestBare (forestDone K f′ R) ≡ forestBare (forestDone K f R)
+  unfolding forestDone
+  done-alike (stopped d) (stopped d′) h = ap (λ x. forestBare (forestDone K (stopped x) R)) (sym h)
+  done-alike (stopped d) (grownAll ts′) h = absurd h
+  done-alike (grownAll ts) (stopped d′) h = absurd h
+  done-alike (grownAll ts) (grownAll ts′) h =
+      sym (λ i.
+      record {
+        answer = ForestAnswer.Grown;
+        rooms = record {
+          nodes = written-bare (forestEntries ts) (forestEntries ts′) (R .nodes) (entries-bare ts ts′ h) i;
+          starts = front (starts-same 0 ts ts′ h i) (R .starts);
+          reports = writeReports (pairs-map Alike (λ (t : Tree). t .report) (λ (t : Tree). t .report) (λ t t′ a. a .2) ts ts′ h i) (R .reports);
+          work = forestDone K (grownAll ts) R .rooms .work;
+        };
+      })
+
+  forest-alone : forestBare (fitForest K (forestCut g C) R) ≡ forestBare (fitForest K C R)
+  unfolding fitForest forestEnds grownForest eachTree
+  forest-alone = ap (λ l. forestBare (forestEnds K (firstFailed l) (grownForest (forestCut g C)) R)) tests-same ∙ go (firstFailed (forestTests K C R)) refl
+    where
+      go : (n : ℕ) → firstFailed (forestTests K C R) ≡ n → forestBare (forestEnds K n (grownForest (forestCut g C)) R) ≡ forestBare (forestEnds K n (grownForest C) R)
+      go zero q = done-alike (grownForest C) (grownForest (forestCut g C)) (trees-alike q 0 (from 0 (C .trees)))
+      go (suc n) q = refl
+
+  forest-unmoved : C .settings .splitter ≡ Random → fitForest K (forestCut g C) R ≡ fitForest K C R
+  unfolding fitForest forestEnds grownForest eachTree
+  forest-unmoved random = ap (λ l. forestEnds K (firstFailed l) (grownForest (forestCut g C)) R) tests-same ∙ go (firstFailed (forestTests K C R)) refl
+    where
+      go : (n : ℕ) → firstFailed (forestTests K C R) ≡ n → forestEnds K n (grownForest (forestCut g C)) R ≡ forestEnds K n (grownForest C) R
+      go zero q = ap (λ f. forestDone K f R) (sym (trees-same q random 0 (from 0 (C .trees))))
+      go (suc n) q = refl
+
+pub thresholds-alone : ThresholdsAlone
+thresholds-alone W K g = ((λ C R held. tree-alone W K g C R held), (λ C R held. forest-alone K g C R held))
+
+pub random-unmoved : RandomUnmoved
+random-unmoved W K g = ((λ C R held random. tree-unmoved W K g C R held random), (λ C R held random. forest-unmoved K g C R held random))
+
+pub unsaid : Unsaid
+unfolding settingsOf
+unsaid = ((λ s. ((λ e. ap heightOf e), (λ e. ap heightOf e))), (λ s. ((λ e. ap heightOf e), (λ e. ap heightOf e))))
