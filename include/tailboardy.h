@@ -68,8 +68,9 @@ extern "C" {
 
 /* The parameters of one tree: the maximum depth, which is `limit` if `limited` is true and unlimited otherwise; the least leaf; the
  * least split; how many features each search tries; whether the splitter is random or the best; and where the best splitter cuts
- * between two values of a feature: at the lower of them if `lower` is true, and at their midpoint otherwise. The random splitter
- * ignores `lower`. */
+ * between two values of a feature: at the lower of them if `lower` is true, and at their midpoint otherwise, or at the lower where
+ * the midpoint is not below the upper one. Of equal values the lower is the first in the listing, so a threshold of zero has its
+ * sign. The random splitter ignores `lower`. */
 typedef struct {
     bool limited;
     uint16_t limit;

@@ -1,8 +1,8 @@
-// The small choices of a growth: which node is searched, which threshold counts, and which candidate is held.
+// The small choices of a growth: which node is searched, which threshold counts, which value a run of equals has, and which candidate is held.
 ghost use mathlib.Core.Path.{_≡_};
 ghost use mathlib.Core.Bool.{cond, _&&_, _||_};
 ghost use Prim.Native.Nat.{ℕ};
-ghost use lib.Ieee.{le, lt};
+ghost use lib.Ieee.{le, lt, eq};
 ghost use Rattle.rules.specs.Search.{better};
 ghost use Rattle.rules.specs.Growth.{searchable};
 ghost use Rattle.candidates.specs.Held.{bare, heldOf, earlierOf, Moved, HeldAt};
@@ -57,6 +57,16 @@ pub fn in_reach(lo: f64, t: f64, hi: f64) -> bool
         return t < hi;
     }
     false
+}
+
+// The value of a run of equals after e: v goes on as its first, or e begins a new one.
+pub fn run_on(v: f64, e: f64) -> f64
+    ensures { λ r. ⌜ r ≡ cond (eq e v) v e ⌝ }
+{
+    if e == v {
+        return v;
+    }
+    e
 }
 
 // ---- which candidate is held

@@ -1,14 +1,17 @@
--- Where the best splitter cuts. For either choice each of its splits stands between two values that were measured on kept rows, at least the lower and below the upper;
--- at the lower it is that value itself. The choice moves nothing but thresholds: the same rows go the same way, so the answer, every other column and every room are
--- what they are under the other choice. And it moves nothing at all for the random splitter. Plain settings that say nothing of it mean the middle. Assumes nothing.
+-- Where the best splitter cuts. For either choice a cut that it finds is at least the greatest value of its true side and below the least of its false side, and exactly
+-- where the choice puts it between the first of those greatest and that least. So each split of a tree stands between two values that were measured on kept rows; at the
+-- lower it is the lower of the two. The choice moves nothing but thresholds: the same rows go the same way, so the answer, every other column and every other room are
+-- what they are under the other choice. And it moves nothing at all for the random splitter. In plain settings the flag `lower` alone decides: false, as in settings
+-- of zeros, is the midpoint. Assumes nothing.
 use Prim.Native.Nat.{ℕ, zero, suc, _+_, _-_, _<_}
 use mathlib.Core.Path.{_≡_, refl, sym, ap, subst, _∙_}
 use mathlib.Core.Logic.{_⊎_, inl, inr}
 use mathlib.Core.Bool.{true, false, _&&_}
 use mathlib.Core.List.{List, [], _∷_, _++_, map, map-map, map-append}
-use lib.ListN.{length}
+use lib.ListN.{length, getD}
 use lib.Dec.{T, leb}
 use lib.Ieee.{Float, lt, le}
+use Rattle.rules.specs.declared.Params.{Params}
 use Rattle.rules.specs.declared.Settings.{Settings}
 use Rattle.rules.specs.declared.Height.{Height}
 use Rattle.rules.specs.declared.Height.the-variants.{Midpoint, Lower}
@@ -26,21 +29,24 @@ use Rattle.rules.specs.Threshold.{thresholdBetween}
 use Rattle.rules.specs.Lent.{Data, OneTree, Columns, Entry, WaitingForm, TreeRooms, ForestRooms, Outcome, cell, kept, keptRows, entriesAt, shortest, writeEntries, writeReports}
 use Rattle.rules.specs.Checks.{test, firstFailed, shapeIn, treesIn, lengths, numbersGood, countsGood, countsOne, roomFor}
 use Rattle.rules.specs.Listing.{listingsGood}
-use Rattle.rules.specs.Draws.{Out, bad, ok}
-use Rattle.rules.specs.Search.{Element, at, search}
+use Rattle.rules.specs.Draws.{Out, bad, ok, Source}
+use Rattle.rules.specs.Search.{Element, at, NodeRows, search}
 use Rattle.rules.specs.Growth.{TreeNode}
-use Rattle.rules.specs.Fit.{element, elementIn, column, Tree, fit, entryOf, entries, paramsOf, TreeCall, oneTreeOf, grownTree, treeTests, treeDone, treeEnds, fitTree}
+use Rattle.rules.specs.Fit.{element, elementIn, Tree, fit, entryOf, entries, paramsOf, TreeCall, oneTreeOf, grownTree, treeTests, treeDone, treeEnds, fitTree}
 use Rattle.rules.specs.Forest.{ForestCall, oneTreeAt, eachTree, Forest, stopped, grownAll, withTree, nextTree, growTrees}
 use Rattle.rules.specs.Forest.{grownForest, startsFrom, forestEntries, tapesGood, roomsGood, forestTests, forestDone, forestEnds, fitForest}
 use Rattle.rules.specs.Table.{isLeaf}
 use Rattle.rules.specs.Plain.{heightOf, settingsOf, treeSettingsOf, forestSettingsOf}
 use Rattle.lemmas.specs.Lists.{Every, total-map, Pairs, pairs-map}
 use Rattle.lemmas.specs.Outs.{Then, then-of, Both, both-first}
-use Rattle.lemmas.specs.Twins.{Placed, Told, KindBoth}
+use Rattle.lemmas.specs.Values.{Value}
+use Rattle.lemmas.specs.Heights.{Rising}
+use Rattle.lemmas.specs.Cuts.{FoundIs, StandsIn, Fair, search-stands}
+use Rattle.lemmas.specs.Twins.{Matched, Told, KindBoth}
 use Rattle.lemmas.specs.Root.{Listed}
 use Rattle.lemmas.specs.TwinFits.{Row, row-values, Nodes, Trees, oneTreeCut, fit-both, bareEntry, Alike, fit-alike, fit-same}
-use Rattle.lemmas.specs.Passed.{Binary64, forest-passed, forest-framed, listed-right}
-use Rattle.lemmas.specs.Answered.{TreeAnswered, tree-answered, tree-listed}
+use Rattle.lemmas.specs.Passed.{Binary64, ForestPassed, forest-passed, forest-framed, listed-right}
+use Rattle.lemmas.specs.Answered.{TreeAnswered, tree-answered, tree-listed, ForestAnswered, forest-answered, GrewAt, tree-at}
 use Rattle.demands.specs.Walks.{tree-left}
 
 -- ---- the statements
@@ -48,7 +54,7 @@ use Rattle.demands.specs.Walks.{tree-left}
 abbrev pub atHeight : Height → Settings → Settings
 atHeight g G = record { depth = G .depth; leaf = G .leaf; split = G .split; splitter = G .splitter; height = g }
 
--- the same call with the other choice
+-- the same call with the choice g
 abbrev pub treeCut : Height → TreeCall → TreeCall
 treeCut g C = record { shape = C .shape; settings = atHeight g (C .settings); tried = C .tried; given = C .given; words = C .words; thresholds = C .thresholds }
 
@@ -66,8 +72,15 @@ forestCut g C =
       thresholdStarts = C .thresholdStarts;
     }
 
+-- of a search, in columns of values that never fall; `Standing` in `lemmas`, Cuts, says where
+abbrev pub BestStands : Type 1
+BestStands =
+    (P : Params) (S : Type 0) (src : Source S) (s : S) (node : NodeRows) → P .splitter ≡ Best → Fair P src
+    → ((j : ℕ) → j < P .features → Every (λ x. Value (at j x)) (getD (node .columns) j []) × Rising j (getD (node .columns) j []))
+    → Then (search src P s node) (λ r. FoundIs (StandsIn P node) (r .0))
+
 -- of a table's entry: a split between the values of two kept rows
-pub record Between (F : OneTree) (D : Data) (e : Entry) : Type 0 where
+pub record Measured (F : OneTree) (D : Data) (e : Entry) : Type 0 where
   pub low : ℕ
   pub high : ℕ
   pub lowKept : (low < F .rows) × (kept F low ≡ true)
@@ -76,19 +89,26 @@ pub record Between (F : OneTree) (D : Data) (e : Entry) : Type 0 where
   pub atLeast : T (le (cell (F .params .features) (D .values) (e .feature) low) (e .threshold))
   pub below : T (lt (e .threshold) (cell (F .params .features) (D .values) (e .feature) high))
 
-abbrev pub LeafOrBetween : OneTree → Data → Entry → Type 0
-LeafOrBetween F D e = (isLeaf e ≡ true) ⊎ Between F D e
+abbrev pub LeafOrMeasured : OneTree → Data → Entry → Type 0
+LeafOrMeasured F D e = (isLeaf e ≡ true) ⊎ Measured F D e
 
-abbrev pub BetweenMeasured : Type 1
-BetweenMeasured =
+abbrev pub TreeMeasured : Type 1
+TreeMeasured =
     (W : Type 0) (K : WaitingForm W) (C : TreeCall) (R : TreeRooms W) (r : Report) → Binary64 (C .given .inputs .values) → C .settings .splitter ≡ Best
     → fitTree K C R .answer ≡ TreeAnswer.Grown r
-    → Every (LeafOrBetween (oneTreeOf C) (C .given .inputs)) (entriesAt (fitTree K C R .rooms .nodes) 0 (r .nodes))
+    → Every (LeafOrMeasured (oneTreeOf C) (C .given .inputs)) (entriesAt (fitTree K C R .rooms .nodes) 0 (r .nodes))
 
--- at the lower, the threshold is the value of a kept row
+-- of tree t of a forest
+abbrev pub ForestMeasured : Type 1
+ForestMeasured =
+    (W : Type 0) (K : WaitingForm W) (C : ForestCall) (R : ForestRooms W) (h : fitForest K C R .answer ≡ ForestAnswer.Grown) → Binary64 (C .given .inputs .values)
+    → C .settings .splitter ≡ Best → (t : ℕ) (below : t < C .trees)
+    → Every (LeafOrMeasured (oneTreeAt C t) (C .given .inputs)) (entries (tree-at K C R (forest-answered K C R h) t below .tree .nodes))
+
+-- and of each such split: at the lower, its threshold is the value of a kept row
 abbrev pub AtMeasured : Type 0
 AtMeasured =
-    (F : OneTree) (D : Data) (e : Entry) → F .params .height ≡ Lower → Between F D e
+    (F : OneTree) (D : Data) (e : Entry) → F .params .height ≡ Lower → Measured F D e
     → (i : ℕ) × (i < F .rows) × (kept F i ≡ true) × (e .threshold ≡ cell (F .params .features) (D .values) (e .feature) i)
 
 -- an outcome, but for the thresholds
@@ -127,13 +147,13 @@ module _ (F : OneTree) (D : Data) (right : Listed F D) (best : F .params .splitt
   abbrev KeptRow : Element → Type 0
   KeptRow e = Row F D right height e
 
-  kind-between : (v : Float) (k k′ : Kind) → KindBoth (F .params) height KeptRow (row-values F D right height) k k′ → LeafOrBetween F D (entryOf v k)
+  kind-measured : (v : Float) (k k′ : Kind) → KindBoth (F .params) height KeptRow (row-values F D right height) k k′ → LeafOrMeasured F D (entryOf v k)
   unfolding isLeaf entryOf at element elementIn cell
-  kind-between v Leaf Leaf b = inl refl
-  kind-between v Leaf (Split f′) b = absurd b
-  kind-between v (Split f) Leaf b = absurd b
-  kind-between v (Split f) (Split f′) b =
-      let p : Placed (F .params) height KeptRow (row-values F D right height) (f .cut) (f′ .cut) =
+  kind-measured v Leaf Leaf b = inl refl
+  kind-measured v Leaf (Split f′) b = absurd b
+  kind-measured v (Split f) Leaf b = absurd b
+  kind-measured v (Split f) (Split f′) b =
+      let p : Matched (F .params) height KeptRow (row-values F D right height) (f .cut) (f′ .cut) =
       subst (λ z. Told (F .params) height KeptRow (row-values F D right height) z (f .cut) (f′ .cut)) best (b .1) in
       inr (record {
         low = p .lowIn .0;
@@ -145,26 +165,38 @@ module _ (F : OneTree) (D : Data) (right : Listed F D) (best : F .params .splitt
         below = subst (λ e. T (lt (f .cut .threshold) (at (f .cut .feature) e))) (p .highIn .3) (p .below);
       })
 
-  nodes-between : (ns ns′ : List TreeNode) → Pairs (Nodes F D right height) ns ns′ → Every (LeafOrBetween F D) (entries ns)
+  nodes-measured : (ns ns′ : List TreeNode) → Pairs (Nodes F D right height) ns ns′ → Every (LeafOrMeasured F D) (entries ns)
   unfolding entries
-  nodes-between [] [] h = tt
-  nodes-between [] (n′ ∷ ns′) h = absurd h
-  nodes-between (n ∷ ns) [] h = absurd h
-  nodes-between (n ∷ ns) (n′ ∷ ns′) h = (kind-between (valueOf (n .totals)) (n .kind) (n′ .kind) (h .0 .2), nodes-between ns ns′ (h .1))
+  nodes-measured [] [] h = tt
+  nodes-measured [] (n′ ∷ ns′) h = absurd h
+  nodes-measured (n ∷ ns) [] h = absurd h
+  nodes-measured (n ∷ ns) (n′ ∷ ns′) h = (kind-measured (valueOf (n .totals)) (n .kind) (n′ .kind) (h .0 .2), nodes-measured ns ns′ (h .1))
 
-  fit-between : Then (fit F D) (λ t. Every (LeafOrBetween F D) (entries (t .nodes)))
-  fit-between =
-      both-first (Trees F D right height) _ (fit F D) (fit (oneTreeCut F D right height) D) (fit-both F D right height) (λ t t′ h. nodes-between (t .nodes) (t′ .nodes) (h .0))
+  fit-measured : Then (fit F D) (λ t. Every (LeafOrMeasured F D) (entries (t .nodes)))
+  fit-measured =
+      both-first (Trees F D right height) _ (fit F D) (fit (oneTreeCut F D right height) D) (fit-both F D right height) (λ t t′ h. nodes-measured (t .nodes) (t′ .nodes) (h .0))
+
+pub best-stands : BestStands
+best-stands P S src s node best fair sorted = search-stands P src fair best s node sorted
 
 -- ---- of one tree
 
-pub between-measured : BetweenMeasured
+pub tree-measured : TreeMeasured
 unfolding oneTreeOf paramsOf
-between-measured W K C R r held best h =
+tree-measured W K C R r held best h =
     let a : TreeAnswered K C R r = tree-answered K C R r h in
-    subst (Every (LeafOrBetween (oneTreeOf C) (C .given .inputs))) (sym (tree-left K C R r a))
-    (then-of (λ (t : Tree). Every (LeafOrBetween (oneTreeOf C) (C .given .inputs)) (entries (t .nodes))) (fit (oneTreeOf C) (C .given .inputs)) (a .tree) (a .grew)
-    (fit-between (oneTreeOf C) (C .given .inputs) (tree-listed K C R held (a .passed) .0) best))
+    subst (Every (LeafOrMeasured (oneTreeOf C) (C .given .inputs))) (sym (tree-left K C R r a))
+    (then-of (λ (t : Tree). Every (LeafOrMeasured (oneTreeOf C) (C .given .inputs)) (entries (t .nodes))) (fit (oneTreeOf C) (C .given .inputs)) (a .tree) (a .grew)
+    (fit-measured (oneTreeOf C) (C .given .inputs) (tree-listed K C R held (a .passed) .0) best))
+
+pub forest-measured : ForestMeasured
+unfolding oneTreeAt paramsOf
+forest-measured W K C R h held best t below =
+    let a : ForestAnswered K C R = forest-answered K C R h in
+    let p : ForestPassed K C R = forest-passed K C R (a .passed) in
+    let u : GrewAt (fit (oneTreeAt C t) (C .given .inputs)) (a .trees) t = tree-at K C R a t below in
+    then-of (λ (x : Tree). Every (LeafOrMeasured (oneTreeAt C t) (C .given .inputs)) (entries (x .nodes))) (fit (oneTreeAt C t) (C .given .inputs)) (u .tree) (u .grew)
+    (fit-measured (oneTreeAt C t) (C .given .inputs) (listed-right (C .shape) (C .trees) (C .given) (p .passed) (oneTreeAt C t) (forest-framed C (p .passed) t) held) best)
 
 pub at-measured : AtMeasured
 unfolding thresholdBetween

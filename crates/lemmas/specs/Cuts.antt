@@ -1,16 +1,16 @@
--- What a search that finds a cut has seen to: the cut leaves rows on both sides, and the least leaf on both; and the two sides are good nodes again.
+-- What a search that finds a cut has seen to: the cut leaves rows on both sides, and the least leaf on both; and the two sides are good nodes again. Where a cut of the
+-- best splitter stands: at least the greatest value of its true side, and below the least of its false side.
 -- Assumes nothing.
 use Prim.Native.Nat.{ℕ, _+_, _-_, _<_, _≤_, min}
 use native.Mathlib.Omega.{arith}
 use mathlib.Core.Path.{_≡_, refl, sym, ap, _∙_, subst}
-use mathlib.Core.Bool.{Bool, true, false, not, _&&_, cond, false≢true}
+use mathlib.Core.Bool.{Bool, true, false, not, _&&_, false≢true}
 use mathlib.Core.List.{List, [], _∷_, _++_, append-nil}
 use lib.ListN.{getD, take}
-use lib.Dec.{T, ltb, nltb→le}
-use lib.Ieee.{Float, lt, le}
+use lib.Dec.{T}
+use lib.Ieee.{Float, lt, le, eq}
 use lib.Ieee.Fits.{and-l, and-r}
 use Rattle.floats.specs.Order.{le-trans64}
-use Rattle.rules.specs.declared.Totals.{Totals}
 use Rattle.rules.specs.declared.Params.{Params}
 use Rattle.rules.specs.declared.Splitter.{Splitter}
 use Rattle.rules.specs.declared.Splitter.the-variants.{Best, Random}
@@ -19,17 +19,17 @@ use Rattle.rules.specs.declared.Cut.{Cut}
 use Rattle.rules.specs.declared.Held.{Held}
 use Rattle.rules.specs.declared.Held.the-variants.{Nothing, Holds}
 use Rattle.rules.specs.Words.{putIf, keep, total, eachOnce}
-use Rattle.rules.specs.Totals.{empty, less, proxy}
+use Rattle.rules.specs.Totals.{empty}
 use Rattle.rules.specs.Threshold.{thresholdBetween}
 use Rattle.rules.specs.Draws.{Source, Tapes, takeWords, takeThreshold, nextThreshold, tape}
-use Rattle.rules.specs.Search.{Element, Column, at, totalsOf, tally, NodeRows, goesTrue, trueSide, falseSide, better, judge, bestIn}
+use Rattle.rules.specs.Search.{Element, Column, at, totalsOf, tally, NodeRows, goesTrue, trueSide, falseSide, bestIn}
 use Rattle.rules.specs.Search.{final, drawn, Tries, drawIn, randomIn, tryOne, tryAll, Found, noCut, cutFound, found, search}
 use Rattle.rules.specs.Growth.{Waiting, child}
 use Rattle.lemmas.specs.Lists.{is-true, Every, every-imp, every-take, every-keep, keep-all, keep-none, keep-append, keep-keep, getD-keep, total-append, total-sides, ordered-keep}
 use Rattle.lemmas.specs.Once.{once-below}
 use Rattle.lemmas.specs.Outs.{Then, then-then}
 use Rattle.lemmas.specs.Values.{Value, le-refl, past, between}
-use Rattle.lemmas.specs.Heights.{reheight, Rising, cutAt, Place, HeldBoth, best-both}
+use Rattle.lemmas.specs.Heights.{Rising, cutAt, RunEnds, run-below, HeldIs, judge-held, best-held}
 
 -- ---- good nodes and fine cuts
 
@@ -59,116 +59,132 @@ pub record Fine (P : Params) (node : NodeRows) (c : Cut) : Type 0 where
   pub leafTrue : P .leaf ≤ tally (trueSide c (getD (node .columns) (c .feature) []))
   pub leafFalse : P .leaf ≤ tally (falseSide c (getD (node .columns) (c .feature) []))
 
+abbrev pub FoundIs : (Cut → Type 0) → Found → Type 0
+FoundIs Q noCut = Unit {0}
+FoundIs Q (cutFound c) = Q c
+
 abbrev pub Suits : Params → NodeRows → Found → Type 0
-Suits P node noCut = Unit {0}
-Suits P node (cutFound c) = Fine P node c
+Suits P node f = FoundIs (Fine P node) f
 
 -- what is known of a node that waits
 pub record Ripe (P : Params) (w : Waiting) : Type 0 where
   pub good : Good P (w .node)
   pub fine : Fine P (w .node) (w .cut)
 
--- ---- the candidate held is fine
-
 abbrev pub HeldFine : Params → NodeRows → Held → Type 0
-HeldFine P node Nothing = Unit {0}
-HeldFine P node (Holds c q) = Fine P node c
-
-better-fine : (P : Params) (node : NodeRows) (h : Held) (c : Cut) (q : Float) → HeldFine P node h → Fine P node c → HeldFine P node (better h c q)
-unfolding better
-better-fine P node Nothing c q g f = f
-better-fine P node (Holds b p) c q g f = go (lt p q)
-  where
-    go : (x : Bool) → HeldFine P node (cond x (Holds c q) (Holds b p))
-    go true = f
-    go false = g
-
--- a candidate that is taken has passed both tests of the least leaf
-judge-fine : (P : Params) (node : NodeRows) (h : Held) (t : Totals) (k : ℕ) (c : Cut) → HeldFine P node h
-    → (P .leaf ≤ k → P .leaf ≤ node .count - k → Fine P node c) → HeldFine P node (judge P node h t k c)
-unfolding judge
-judge-fine P node h t k c g f = go (ltb k (P .leaf)) (ltb (node .count - k) (P .leaf)) (λ x. nltb→le k (P .leaf) x) (λ x. nltb→le (node .count - k) (P .leaf) x)
-  where
-    go : (a b : Bool) → (T (not a) → P .leaf ≤ k) → (T (not b) → P .leaf ≤ node .count - k)
-        → HeldFine P node (cond a h (cond b h (better h c (proxy t (less (node .totals) t)))))
-    go true b x y = g
-    go false true x y = g
-    go false false x y = better-fine P node h c _ g (f (x tt) (y tt))
+HeldFine P node h = HeldIs (Fine P node) h
 
 -- ---- the best splitter
 
 -- what stands before a place goes to the true side of the cut there, for either height, and the rest to the false side
-pub place-sends : (M : Element → Type 0) (g : Height) (j : ℕ) → ((x : Element) → M x → Value (at j x)) → (col pre : Column) (low high : Element) (after : Column)
-    → Place M j col pre low high after → Every (λ x. goesTrue (cutAt g j low high) x ≡ true) pre × Every (λ x. goesTrue (cutAt g j low high) x ≡ false) (high ∷ after)
-unfolding goesTrue
-place-sends M g j values col pre low high after p = (
-  every-imp _ _ (λ x h. is-true _ (le-trans64 (at j x) (at j low) t h (mid .0))) pre (p .below),
-  (past t (at j high) (at j high) (mid .1) (le-refl (at j high) vh), every-imp _ _ (λ x h. past t (at j high) (at j x) (mid .1) h) after (p .rising .0)),
-)
-  where
-    t : Float
-    t = thresholdBetween g (at j low) (at j high)
+module _ (M : Element → Type 0) (g : Height) (j : ℕ) (values : (x : Element) → M x → Value (at j x)) (col earlier : Column) (low : Element) (run : Column) (high : Element) (after : Column)
+    (p : RunEnds M j col earlier low run high after) where
+  abbrev pre : Column
+  pre = earlier ++ (low ∷ run)
 
-    vh : Value (at j high)
-    vh = values high (p .highIn)
+  abbrev cut : Cut
+  cut = cutAt g j low high
 
-    mid : T (le (at j low) t) × T (lt t (at j high))
-    mid = between g (at j low) (at j high) (values low (p .lowIn)) vh (p .up) (p .new)
+  pub place-between : T (le (at j low) (cut .threshold)) × T (lt (cut .threshold) (at j high))
+  place-between = between g (at j low) (at j high) (values low (p .lowIn)) (values high (p .highIn)) (p .up) (p .new)
 
-module _ (P : Params) (node : NodeRows) (j : ℕ) (known : j < P .features) (counted : node .count ≡ tally (getD (node .columns) j [])) where
+  pub place-sends : Every (λ x. goesTrue cut x ≡ true) pre × Every (λ x. goesTrue cut x ≡ false) (high ∷ after)
+  unfolding goesTrue
+  place-sends = (
+    every-imp _ _ (λ x h. is-true _ (le-trans64 (at j x) (at j low) (cut .threshold) h (place-between .0))) pre (run-below j earlier low run (values low (p .lowIn)) (p .less) (p .equal)),
+    (
+      past (cut .threshold) (at j high) (at j high) (place-between .1) (le-refl (at j high) (values high (p .highIn))),
+      every-imp _ _ (λ x h. past (cut .threshold) (at j high) (at j x) (place-between .1) h) after (p .rising .0),
+    ),
+  )
+
+  pub place-true : trueSide cut col ≡ pre
+  place-true =
+      ap (trueSide cut) (sym (p .whole)) ∙ keep-append _ pre (high ∷ after)
+      ∙ (λ i. keep-all _ pre (place-sends .0) i ++ keep-none _ (high ∷ after) (place-sends .1) i) ∙ append-nil pre
+
+  pub place-false : falseSide cut col ≡ high ∷ after
+  place-false =
+      ap (falseSide cut) (sym (p .whole)) ∙ keep-append _ pre (high ∷ after)
+      ∙ (λ i. keep-none _ pre (every-imp _ _ (λ x h. ap not h) pre (place-sends .0)) i ++ keep-all _ (high ∷ after) (every-imp _ _ (λ x h. ap not h) (high ∷ after) (place-sends .1)) i)
+
+-- where a cut stands: its true side ends in a run of equals that begins with low, and its false side begins with high, the least there
+pub record Standing (g : Height) (col : Column) (c : Cut) : Type 0 where
+  pub earlier : Column
+  pub low : Element
+  pub run : Column
+  pub high : Element
+  pub after : Column
+  pub trues : trueSide c col ≡ earlier ++ (low ∷ run)
+  pub falses : falseSide c col ≡ high ∷ after
+  pub less : Every (λ x. T (lt (at (c .feature) x) (at (c .feature) low))) earlier
+  pub equal : Every (λ x. T (eq (at (c .feature) x) (at (c .feature) low))) run
+  pub least : Every (λ x. T (le (at (c .feature) high) (at (c .feature) x))) after
+  pub exact : c .threshold ≡ thresholdBetween g (at (c .feature) low) (at (c .feature) high)
+  pub atLeast : T (le (at (c .feature) low) (c .threshold))
+  pub below : T (lt (c .threshold) (at (c .feature) high))
+
+-- in the column of its own feature
+abbrev pub StandsIn : Params → NodeRows → Cut → Type 0
+StandsIn P node c = Standing (P .height) (getD (node .columns) (c .feature) []) c
+
+module _ (P : Params) (node : NodeRows) (j : ℕ) where
   abbrev Valued : Element → Type 0
   Valued x = Value (at j x)
 
-  cut-here : (pre : Column) (low high : Element) (after : Column) → Place Valued j (getD (node .columns) j []) pre low high after
-      → P .leaf ≤ tally pre → P .leaf ≤ node .count - tally pre → Fine P node (cutAt (P .height) j low high)
-  unfolding total
-  cut-here pre low high after p l₁ l₂ =
+  abbrev col : Column
+  col = getD (node .columns) j []
+
+  module _ (known : j < P .features) (counted : node .count ≡ tally col) where
+    cut-here : (earlier : Column) (low : Element) (run : Column) (high : Element) (after : Column) → RunEnds Valued j col earlier low run high after
+        → P .leaf ≤ tally (earlier ++ (low ∷ run)) → P .leaf ≤ node .count - tally (earlier ++ (low ∷ run)) → Fine P node (cutAt (P .height) j low high)
+    unfolding total
+    cut-here earlier low run high after p l₁ l₂ =
+        record {
+          known = known;
+          someTrue = subst (λ r. 0 < total (λ x. 1) r) (sym ts) (omega (arith, total-append (λ x. 1) earlier (low ∷ run)));
+          someFalse = subst (λ r. 0 < total (λ x. 1) r) (sym fs) one-more;
+          leafTrue = subst (λ r. P .leaf ≤ tally r) (sym ts) l₁;
+          leafFalse = subst (λ r. P .leaf ≤ tally r) (sym fs) rest-leaf;
+        }
+      where
+        ts : trueSide (cutAt (P .height) j low high) col ≡ earlier ++ (low ∷ run)
+        ts = place-true Valued (P .height) j (λ x v. v) col earlier low run high after p
+
+        fs : falseSide (cutAt (P .height) j low high) col ≡ high ∷ after
+        fs = place-false Valued (P .height) j (λ x v. v) col earlier low run high after p
+
+        one-more : 0 < 1 + total (λ x. 1) after
+        one-more = omega arith
+
+        rest-leaf : P .leaf ≤ tally (high ∷ after)
+        rest-leaf = omega (arith, l₂, counted, ap tally (p .whole), total-append (λ x. x .count) (earlier ++ (low ∷ run)) (high ∷ after))
+
+    best-fine : (h : Held) → Every Valued col → Rising j col → HeldFine P node h → HeldFine P node (bestIn P node j h col)
+    best-fine h vs rise g = best-held P (Fine P node) node j cut-here h vs rise g
+
+  best-stands : (h : Held) → Every Valued col → Rising j col → HeldIs (StandsIn P node) h → HeldIs (StandsIn P node) (bestIn P node j h col)
+  best-stands h vs rise g =
+      best-held P (StandsIn P node) node j
+      (λ earlier low run high after p l₁ l₂.
       record {
-        known = known;
-        someTrue = subst (λ r. 0 < total (λ x. 1) r) (sym ts) (p .some);
-        someFalse = subst (λ r. 0 < total (λ x. 1) r) (sym fs) one-more;
-        leafTrue = subst (λ r. P .leaf ≤ tally r) (sym ts) l₁;
-        leafFalse = subst (λ r. P .leaf ≤ tally r) (sym fs) rest-leaf;
-      }
-    where
-      c : Cut
-      c = cutAt (P .height) j low high
+        earlier = earlier;
+        low = low;
+        run = run;
+        high = high;
+        after = after;
+        trues = place-true Valued (P .height) j (λ x v. v) col earlier low run high after p;
+        falses = place-false Valued (P .height) j (λ x v. v) col earlier low run high after p;
+        less = p .less;
+        equal = p .equal;
+        least = p .rising .0;
+        exact = refl;
+        atLeast = place-between Valued (P .height) j (λ x v. v) col earlier low run high after p .0;
+        below = place-between Valued (P .height) j (λ x v. v) col earlier low run high after p .1;
+      })
+      h vs rise g
 
-      sent : Every (λ x. goesTrue c x ≡ true) pre × Every (λ x. goesTrue c x ≡ false) (high ∷ after)
-      sent = place-sends Valued (P .height) j (λ x v. v) _ pre low high after p
-
-      ts : trueSide c (getD (node .columns) j []) ≡ pre
-      ts = ap (trueSide c) (sym (p .whole)) ∙ keep-append _ pre (high ∷ after) ∙ (λ i. keep-all _ pre (sent .0) i ++ keep-none _ (high ∷ after) (sent .1) i) ∙ append-nil pre
-
-      fs : falseSide c (getD (node .columns) j []) ≡ high ∷ after
-      fs = ap (falseSide c) (sym (p .whole)) ∙ keep-append _ pre (high ∷ after)
-          ∙ (λ i. keep-none _ pre (every-imp _ _ (λ x h. ap not h) pre (sent .0)) i ++ keep-all _ (high ∷ after) (every-imp _ _ (λ x h. ap not h) (high ∷ after) (sent .1)) i)
-
-      one-more : 0 < 1 + total (λ x. 1) after
-      one-more = omega arith
-
-      rest-leaf : P .leaf ≤ tally (high ∷ after)
-      rest-leaf = omega (arith, l₂, counted, ap tally (p .whole), total-append (λ x. x .count) pre (high ∷ after))
-
-  abbrev FineFirst : Cut → Cut → Type 0
-  FineFirst c c′ = Fine P node c
-
-  twice : (h : Held) → HeldFine P node h → HeldBoth FineFirst h h
-  twice Nothing g = tt
-  twice (Holds c q) g = (g, refl)
-
-  first : (h h′ : Held) → HeldBoth FineFirst h h′ → HeldFine P node h
-  first Nothing h′ b = tt
-  first (Holds c q) Nothing b = absurd b
-  first (Holds c q) (Holds c′ q′) b = b .0
-
-  -- along the whole column
-  pub best-fine : (h : Held) → Every (λ x. Value (at j x)) (getD (node .columns) j []) → Rising j (getD (node .columns) j [])
-      → HeldFine P node h → HeldFine P node (bestIn P node j h (getD (node .columns) j []))
-  best-fine h vs rise g =
-      first (bestIn P node j h (getD (node .columns) j [])) (bestIn (reheight (P .height) P) node j h (getD (node .columns) j []))
-      (best-both P (P .height) FineFirst Valued node j (λ x v. v) cut-here h h vs rise (twice h g))
-
+module _ (P : Params) (node : NodeRows) (j : ℕ) (known : j < P .features) (counted : node .count ≡ tally (getD (node .columns) j [])) where
   -- ---- the random splitter
 
   put-some : (b : Bool) (e : Element) (es : Column) → b ≡ true → 0 < total (λ x. 1) (putIf b e es)
@@ -195,7 +211,7 @@ module _ (P : Params) (node : NodeRows) (j : ℕ) (known : j < P .features) (cou
       → T (le (at j e) t) → T (lt t (at j (final e es))) → HeldFine P node h → HeldFine P node (drawn P node j h (e ∷ es) t)
   unfolding drawn goesTrue keep
   drawn-fine h e es t hc v low high g =
-      judge-fine P node h (totalsOf empty (trueSide c (e ∷ es))) (tally (trueSide c (e ∷ es))) c g
+      judge-held P (Fine P node) node h (totalsOf empty (trueSide c (e ∷ es))) (tally (trueSide c (e ∷ es))) c g
       (λ l₁ l₂. subst (λ col. 0 < total (λ x. 1) (trueSide c col) → 0 < total (λ x. 1) (falseSide c col) → P .leaf ≤ tally (trueSide c col) → P .leaf ≤ tally
       (falseSide c col) → Fine P node c) (sym hc)
       (λ x y z u. record { known = known; someTrue = x; someFalse = y; leafTrue = z; leafFalse = u })
@@ -237,23 +253,45 @@ module _ (P : Params) {S : Type 0} (src : Source S) (fair : Fair P src) where
   try-fine Best node j r s g = best-fine P node j (s .known) (s .counted) (r .best) (s .values) (s .rising) g
   try-fine Random node j r s g = random-fine node j r s g
 
-  tries-fine : (node : NodeRows) (js : List ℕ) (r : Tries S) → Good P node → Every (λ j. j < P .features) js → HeldFine P node (r .best)
-      → Then (tryAll src P node js r) (λ r′. HeldFine P node (r′ .best))
-  unfolding tryAll
-  tries-fine node [] r s b g = g
-  tries-fine node (j ∷ js) r s b g =
-      then-then (tryOne src _ P node j r) _ _ _ (try-fine _ node j r (s .sound j (b .0)) g) (λ r′ g′. tries-fine node js r′ s (b .1) g′)
+  -- what each feature tried keeps of the cut held holds of the cut found
+  module _ (Q : Cut → Type 0) (node : NodeRows)
+      (one : (j : ℕ) → j < P .features → (r : Tries S) → HeldIs Q (r .best) → Then (tryOne src (P .splitter) P node j r) (λ r′. HeldIs Q (r′ .best))) where
+    tries-held : (js : List ℕ) (r : Tries S) → Every (λ j. j < P .features) js → HeldIs Q (r .best) → Then (tryAll src P node js r) (λ r′. HeldIs Q (r′ .best))
+    unfolding tryAll
+    tries-held [] r b g = g
+    tries-held (j ∷ js) r b g = then-then (tryOne src (P .splitter) P node j r) _ _ _ (one j (b .0) r g) (λ r′ g′. tries-held js r′ (b .1) g′)
 
-  found-fine : (node : NodeRows) (h : Held) → HeldFine P node h → Suits P node (found h)
-  found-fine node Nothing g = tt
-  found-fine node (Holds c q) g = g
+    found-is : (h : Held) → HeldIs Q h → FoundIs Q (found h)
+    found-is Nothing g = tt
+    found-is (Holds c q) g = g
+
+    search-held : (s : S) → Then (search src P s node) (λ r. FoundIs Q (r .0))
+    unfolding search
+    search-held s =
+        then-then (src .shuffle s) _ _ _ (fair .order s)
+        (λ o h. then-then (tryAll src P node (take (min (P .tried) (P .features)) (o .0)) (record { best = Nothing; left = o .1 })) _ _ _ (tries-held _ _ h tt)
+        (λ r q. found-is (r .best) q))
 
   pub search-fine : (s : S) (node : NodeRows) → Good P node → Then (search src P s node) (λ r. Suits P node (r .0))
-  unfolding search
-  search-fine s node g =
-      then-then (src .shuffle s) _ _ _ (fair .order s)
-      (λ o h. then-then (tryAll src P node (take (min (P .tried) (P .features)) (o .0)) (record { best = Nothing; left = o .1 })) _ _ _ (tries-fine node _ _ g h tt)
-      (λ r q. found-fine node (r .best) q))
+  search-fine s node g = search-held (Fine P node) node (λ j h r q. try-fine (P .splitter) node j r (g .sound j h) q) s
+
+  -- of the best splitter: where its cut stands, in columns of values that never fall
+  pub search-stands : P .splitter ≡ Best → (s : S) (node : NodeRows)
+      → ((j : ℕ) → j < P .features → Every (λ x. Value (at j x)) (getD (node .columns) j []) × Rising j (getD (node .columns) j []))
+      → Then (search src P s node) (λ r. FoundIs (StandsIn P node) (r .0))
+  unfolding tryOne
+  search-stands best s node sorted = search-held (StandsIn P node) node (λ j h r q. try (P .splitter) best j h r q) s
+    where
+      random≢best : Random ≡ Best → ⊥
+      random≢best e = subst isRandom e tt
+        where
+          isRandom : Splitter → Type 0
+          isRandom Best = ⊥
+          isRandom Random = Unit {0}
+
+      try : (b : Splitter) → b ≡ Best → (j : ℕ) → j < P .features → (r : Tries S) → HeldIs (StandsIn P node) (r .best) → Then (tryOne src b P node j r) (λ r′. HeldIs (StandsIn P node) (r′ .best))
+      try Best e j h r q = best-stands P node j (r .best) (sorted j h .0) (sorted j h .1) q
+      try Random e j h r q = absurd (random≢best e)
 
 -- the tapes are fair
 pub tape-fair : (P : Params) → Fair P (tape (P .features))

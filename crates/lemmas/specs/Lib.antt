@@ -14,7 +14,7 @@ pub mod Unmet
 pub mod Values
 -- a search at two heights: one law of what it holds
 pub mod Heights
--- a cut that is found leaves rows on both sides, and both are good nodes again
+-- a cut that is found leaves rows on both sides, and both are good nodes again; where it stands
 pub mod Cuts
 -- two growths alike but for the height: the same rows go the same way
 pub mod Twins

@@ -3,7 +3,7 @@
 use Prim.Native.Nat.{ℕ, zero, suc, _-_, _<_, min}
 use mathlib.Core.Path.{_≡_, refl, sym, ap, subst, _∙_}
 use mathlib.Core.Bool.{Bool, true, false, not, _&&_, cond}
-use mathlib.Core.List.{List, [], _∷_, map}
+use mathlib.Core.List.{List, [], _∷_, _++_, map}
 use lib.ListN.{length, getD, set, take, length-map}
 use lib.Dec.{T, ltb}
 use lib.Ieee.{Float, lt, le}
@@ -26,14 +26,14 @@ use Rattle.rules.specs.Growth.{TreeNode, Waiting, State, child, leafOf, splitti
 use Rattle.lemmas.specs.Lists.{Every, every-all, every-imp, every-both, every-append, every-at, at-every, every-map, every-keep}
 use Rattle.lemmas.specs.Lists.{map-same, keep-same, keep-none, none-kept, Pairs, pairs-append, pairs-set, pairs-length}
 use Rattle.lemmas.specs.Outs.{Then, Both, both-then, both-same, both-any, both-with}
-use Rattle.lemmas.specs.Values.{Value, between}
-use Rattle.lemmas.specs.Heights.{reheight, Rising, cutAt, Place, HeldBoth, judge-both, best-both}
-use Rattle.lemmas.specs.Cuts.{Good, Suits, Ripe, Fair, place-sends, side-good}
+use Rattle.lemmas.specs.Values.{Value}
+use Rattle.lemmas.specs.Heights.{reheight, Rising, cutAt, RunEnds, HeldBoth, judge-both, best-both}
+use Rattle.lemmas.specs.Cuts.{Good, Suits, Ripe, Fair, place-between, place-sends, side-good}
 
 -- M holds of every element of a node
 module _ (P : Params) (g : Height) (M : Element → Type 0) (values : (j : ℕ) → j < P .features → (x : Element) → M x → Value (at j x)) where
   -- two cuts of the best splitter: at their heights between the same two values of the same feature
-  pub record Placed (c c′ : Cut) : Type 0 where
+  pub record Matched (c c′ : Cut) : Type 0 where
     pub low : Element
     pub high : Element
     pub lowIn : M low
@@ -44,7 +44,7 @@ module _ (P : Params) (g : Height) (M : Element → Type 0) (values : (j : ℕ) 
     pub there : c′ .threshold ≡ thresholdBetween g (at (c .feature) low) (at (c .feature) high)
 
   abbrev pub Told : Splitter → Cut → Cut → Type 0
-  Told Best c c′ = Placed c c′
+  Told Best c c′ = Matched c c′
   Told Random c c′ = c .threshold ≡ c′ .threshold
 
   pub record Twin (b : Splitter) (node : NodeRows) (c c′ : Cut) : Type 0 where
@@ -57,23 +57,23 @@ module _ (P : Params) (g : Height) (M : Element → Type 0) (values : (j : ℕ) 
   one-twin : (node : NodeRows) (c : Cut) → Twin Random node c c
   one-twin node c = record { feature = refl; sides = every-all (λ x. goesTrue c x ≡ goesTrue c x) (λ x. refl) (getD (node .columns) (c .feature) []); told = refl }
 
-  place-twin : (node : NodeRows) (j : ℕ) → j < P .features → (pre : Column) (low high : Element) (after : Column) → Place M j (getD (node .columns) j []) pre low high after
-      → Twin Best node (cutAt (P .height) j low high) (cutAt g j low high)
-  place-twin node j h pre low high after p =
+  place-twin : (node : NodeRows) (j : ℕ) → j < P .features → (earlier : Column) (low : Element) (run : Column) (high : Element) (after : Column)
+      → RunEnds M j (getD (node .columns) j []) earlier low run high after → Twin Best node (cutAt (P .height) j low high) (cutAt g j low high)
+  place-twin node j h earlier low run high after p =
       record {
         feature = refl;
         sides = subst (Every _) (p .whole)
-            (every-append _ pre (high ∷ after)
-            (every-imp _ _ (λ x s. s .0 ∙ sym (s .1)) pre (every-both _ _ pre (sent (P .height) .0) (sent g .0)))
+            (every-append _ (earlier ++ (low ∷ run)) (high ∷ after)
+            (every-imp _ _ (λ x s. s .0 ∙ sym (s .1)) (earlier ++ (low ∷ run)) (every-both _ _ (earlier ++ (low ∷ run)) (sent (P .height) .0) (sent g .0)))
             (every-imp _ _ (λ x s. s .0 ∙ sym (s .1)) (high ∷ after) (every-both _ _ (high ∷ after) (sent (P .height) .1) (sent g .1))));
         told = record { low = low; high = high; lowIn = p .lowIn; highIn = p .highIn; atLeast = mid .0; below = mid .1; here = refl; there = refl };
       }
     where
-      mid : T (le (at j low) (thresholdBetween (P .height) (at j low) (at j high))) × T (lt (thresholdBetween (P .height) (at j low) (at j high)) (at j high))
-      mid = between (P .height) (at j low) (at j high) (values j h low (p .lowIn)) (values j h high (p .highIn)) (p .up) (p .new)
+      mid : T (le (at j low) (cutAt (P .height) j low high .threshold)) × T (lt (cutAt (P .height) j low high .threshold) (at j high))
+      mid = place-between M (P .height) j (values j h) _ earlier low run high after p
 
-      sent : (k : Height) → Every (λ x. goesTrue (cutAt k j low high) x ≡ true) pre × Every (λ x. goesTrue (cutAt k j low high) x ≡ false) (high ∷ after)
-      sent k = place-sends M k j (values j h) _ pre low high after p
+      sent : (k : Height) → Every (λ x. goesTrue (cutAt k j low high) x ≡ true) (earlier ++ (low ∷ run)) × Every (λ x. goesTrue (cutAt k j low high) x ≡ false) (high ∷ after)
+      sent k = place-sends M k j (values j h) _ earlier low run high after p
 
   module _ {S : Type 0} (src : Source S) where
     abbrev TriesBoth : Splitter → NodeRows → Tries S → Tries S → Type 0
@@ -101,7 +101,7 @@ module _ (P : Params) (g : Height) (M : Element → Type 0) (values : (j : ℕ) 
         → Both (TriesBoth b node) (tryOne src b P node j r) (tryOne src b (reheight g P) node j r′)
     unfolding tryOne
     try-both Best node j h ms rise r r′ t =
-        (best-both P g (Twin Best node) M node j (values j h) (λ pre low high after p l₁ l₂. place-twin node j h pre low high after p) (r .best) (r′ .best) ms rise (t .0), t .1)
+        (best-both P g (Twin Best node) M node j (values j h) (λ earlier low run high after p l₁ l₂. place-twin node j h earlier low run high after p) (r .best) (r′ .best) ms rise (t .0), t .1)
     try-both Random node j h ms rise r r′ t =
         subst (λ s. Both (TriesBoth Random node) (randomIn src P node j r col) (randomIn src (reheight g P) node j (record { best = r′ .best; left = s }) col)) (t .1)
         (random-both node j r (r′ .best) col (t .0))

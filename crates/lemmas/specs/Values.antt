@@ -5,7 +5,7 @@ use mathlib.Core.Bool.{Bool, true, false, not}
 use lib.Dec.{T}
 use lib.Ieee.{Float, nan, inf, fin, binary64, fits, isNan, lt, le, eq, ofBits}
 use lib.Ieee.Scale.{finite}
-use Rattle.floats.specs.Order.{le-refl64, le-of-eq64, lt-not-le, le-or-gt, trichotomy, eq-sym, differs-lt, cut-out}
+use Rattle.floats.specs.Order.{le-refl64, le-of-eq64, le-trans64, lt-not-le, le-or-gt, trichotomy, eq-sym, differs-lt, cut-out}
 use Rattle.floats.specs.Between as Mid
 use Rattle.rules.specs.declared.Height.{Height}
 use Rattle.rules.specs.declared.Height.the-variants.{Midpoint, Lower}
@@ -53,9 +53,21 @@ unfolding thresholdBetween midpoint ofBits
 inside Midpoint p x v w l = Mid.between binary64 p x (v .0) (v .1) w l (thresholdBetween Midpoint p x) refl
 inside Lower p x v w l = (le-refl p v, l)
 
-pub between : (h : Height) (p x : Float) → Value p → Value x → T (le p x) → eq x p ≡ false → T (le p (thresholdBetween h p x)) × T (lt (thresholdBetween h p x) x)
-between h p x v w l n = inside h p x v (w .1) (differs-lt p x l (apart (eq p x) (λ t. subst T n (eq-sym p x t))))
+-- what does not fall and is not equal is above
+pub rises : (p x : Float) → T (le p x) → eq x p ≡ false → T (lt p x)
+rises p x l n = differs-lt p x l (apart (eq p x) (λ t. subst T n (eq-sym p x t)))
   where
     apart : (b : Bool) → (T b → ⊥) → T (not b)
     apart true f = f tt
     apart false f = tt
+
+-- and what is at most p is then below x
+pub under : (y p x : Float) → Value y → Value x → T (le y p) → T (lt p x) → T (lt y x)
+under y p x v w h l = go (le-or-gt x y (no-nan x (w .1)) (no-nan y (v .1)))
+  where
+    go : T (le x y) ⊎ T (lt y x) → T (lt y x)
+    go (inl z) = absurd (lt-not-le p x l (le-trans64 x y p z h))
+    go (inr z) = z
+
+pub between : (h : Height) (p x : Float) → Value p → Value x → T (le p x) → eq x p ≡ false → T (le p (thresholdBetween h p x)) × T (lt (thresholdBetween h p x) x)
+between h p x v w l n = inside h p x v (w .1) (rises p x l n)

@@ -88,7 +88,7 @@ sorted = 0 ∷ 1 ∷ 2 ∷ 3 ∷ []
 abbrev plain : Given
 plain = given rise flats ones sorted
 
--- -0 and +0, in the order of the listing, then 1 and 2
+-- rows of -0, +0, 1 and 2, with the listing given
 abbrev zeros : List ℕ → Given
 zeros listing =
     record { inputs = record { values = ofBits binary64 0x8000_0000_0000_0000 ∷ floats (0 ∷ 1 ∷ 2 ∷ []); targets = flats; listings = listing }; weights = []; counts = ones }

@@ -4,7 +4,7 @@
 -- Seven records, and what is made of what:
 --   Data        values, targets, listings
 --   Given       Data, weights, and the counts of all trees
---   Settings    greatest depth, least leaf, least split, splitter, where the best cuts: as the caller chooses them
+--   Settings    greatest depth, least leaf, least split, splitter, where the best splitter cuts: as the caller chooses them
 --   Params      the settings with the depth as a number, features tried, features: as growth goes by them (paramsOf in Fit)
 --   TreeCall    Shape, Settings, features tried, Given, and two tapes
 --   ForestCall  Shape, trees, Settings, Tried, Given, two tapes, and where each tree's part of them starts

@@ -9,7 +9,7 @@ use Rattle.rules.specs.Words.{two}
 unfoldable pub midpoint : Float → Float → Float
 midpoint p x = add binary64 p (div binary64 (sub binary64 x p) two)
 
--- R6.2: the middle, or p where rounding takes the middle up to x or beyond
+-- R6.2: at Midpoint the middle, or p where rounding takes the middle up to x or beyond; at Lower p
 unfoldable pub thresholdBetween : Height → Float → Float → Float
 thresholdBetween Midpoint p x = cond (lt (midpoint p x) x) (midpoint p x) p
 thresholdBetween Lower p x = p

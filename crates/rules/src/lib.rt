@@ -158,8 +158,8 @@ pub enum NodeReply {
 
 // ---- settings and answers, as they cross over
 
-// R0.22: The settings of one tree. The limit is heeded where the depth is limited; the splitter is random, or else best; the best cuts at
-// the lower of two values, or else in their middle.
+// R0.22: The settings of one tree. The limit is heeded where the depth is limited; the splitter is random, or else best; the best
+// splitter cuts at the lower of two values, or else in their middle.
 #[repr(C)]
 pub struct TreeSettings {
     pub limited: bool,

@@ -1,10 +1,8 @@
 // Best search: the sweep along a column, and the best candidate that it meets.
 ghost use mathlib.Core.Path.{_≡_};
-ghost use mathlib.Core.Bool.{cond};
 ghost use mathlib.Core.List.{map};
 ghost use Prim.Native.Nat.{ℕ, _+_, _≤_, _<_};
 ghost use lib.ListN.{length};
-ghost use lib.Ieee.{eq};
 ghost use Rattle.rules.specs.Lent.{cell};
 ghost use Rattle.rules.specs.Search.{sweep, tally, bestIn};
 ghost use Rattle.candidates.specs.Held.{bare, HeldAt};
@@ -95,16 +93,6 @@ pub fn sweep_column(
     v
 }
 
-// A run of equals of value v, or a new one of value e.
-fn run_on(v: f64, e: f64) -> f64
-    ensures { λ r. ⌜ r ≡ cond (eq e v) v e ⌝ }
-{
-    if e == v {
-        return v;
-    }
-    e
-}
-
 // The value of the run of equals that ends before place n, its first, from the column's start on.
 fn run_anew(values: &[f64], col: &[u32], rows: usize, features: usize, j: u32, n: usize) -> f64
     requires { ⌜ Readable rows features (now values) j (now col) × (n < length (now col)) ⌝ }
@@ -114,7 +102,7 @@ fn run_anew(values: &[f64], col: &[u32], rows: usize, features: usize, j: u32, n
     let mut i: usize = 0;
     while i < n {
         let e = crate::value_here(values, col, rows, features, j, i);
-        v = run_on(v, e);
+        v = candidates::run_on(v, e);
         i += 1;
     }
     v

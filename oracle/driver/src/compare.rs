@@ -17,6 +17,7 @@ use crate::make::fit::{SMALL, Size};
 use crate::make::lower;
 use crate::make::read as make_read;
 use crate::make::rehearsal;
+use crate::make::splitting;
 use crate::own;
 use crate::tally::{Counts, Tally, caught};
 use std::process::ExitCode;
@@ -87,8 +88,8 @@ fn random(tally: &mut Tally, chance: &mut Chance, count: usize) {
     }
 }
 
-/// Compares generated cases, `count` of them random, what docs/DIFFERENCES.md says, smartcore's own `fit`s, and trees with others that
-/// differ in rows left out.
+/// Compares generated cases, `count` of them random, what docs/DIFFERENCES.md says, smartcore's own `fit`s, trees with others that differ
+/// in rows left out, and small fits that cut at measured values.
 pub fn compare(mut tally: Tally, count: usize, least: &Counts) -> ExitCode {
     let mut chance = Chance::new(1);
     fixed().iter().for_each(|case| tally.hold(case));
@@ -104,6 +105,8 @@ pub fn compare(mut tally: Tally, count: usize, least: &Counts) -> ExitCode {
     differences::hold(&mut tally);
     own::hold(&mut tally, &mut chance, count / 100);
     left_out::hold(&mut tally, &mut Chance::new(6), count / 100);
+    let measured = count / 2;
+    splitting::each(&mut Chance::new(7), measured, |case| tally.hold(&case));
     tally.end("compare", least)
 }
 

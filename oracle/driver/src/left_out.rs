@@ -8,6 +8,7 @@ use crate::judge::run;
 use crate::make::chance::Chance;
 use crate::make::fit as make_fit;
 use crate::make::floats;
+use crate::make::splitting;
 use crate::tally::Tally;
 use copy::harness::Tape;
 
@@ -15,15 +16,15 @@ use copy::harness::Tape;
 pub fn hold(tally: &mut Tally, chance: &mut Chance, count: usize) {
     for lower in [false, true] {
         for _ in 0..count {
-            let (mut fit, tree) = made(chance);
-            fit.lower = lower;
+            let (fit, tree) = made(chance, lower);
+            let split = expect::splits(&fit, tree);
             let other = changed(chance, &fit, tree);
             let [one, two] = [&fit, &other].map(|fit| {
                 let left = run::run(tally.library, &Call::Fit(fit.clone()));
                 part(fit, &left, tree)
             });
             let same = one.is_some() && one == two;
-            tally.told(same, || {
+            tally.paired(same, split, lower, || {
                 format!("tree {tree} of {fit:?}\n  and of {other:?}")
             });
         }
@@ -35,17 +36,45 @@ fn left_out(fit: &Fit, tree: usize) -> Vec<usize> {
     rows.filter(|row| !fit.kept(tree, *row)).collect()
 }
 
-/// A valid fit, and one of its trees that keeps some rows and leaves others out.
-fn made(chance: &mut Chance) -> (Fit, usize) {
+/// A valid fit, and one of its trees that keeps some rows and leaves others out. It is made again, up to four times, if the tree has no
+/// split, because then it shows little.
+fn made(chance: &mut Chance, lower: bool) -> (Fit, usize) {
+    let mut again = 0;
     loop {
-        let forest = chance.one_in(3);
-        let fit = make_fit::fit(chance, forest, make_fit::SMALL);
+        let fit = match lower {
+            true => measured(chance),
+            false => any(chance),
+        };
         let tree = chance.below(fit.trees);
         let out = left_out(&fit, tree).len();
-        if out > 0 && out < fit.rows {
+        if out == 0 || out == fit.rows {
+            continue;
+        }
+        if again == 4 || expect::splits(&fit, tree) {
             return (fit, tree);
         }
+        again += 1;
     }
+}
+
+/// Any valid fit with cuts halfway.
+fn any(chance: &mut Chance) -> Fit {
+    let forest = chance.one_in(3);
+    let mut fit = make_fit::fit(chance, forest, make_fit::SMALL);
+    fit.lower = false;
+    fit
+}
+
+/// One with cuts at measured values, which the random splitter would ignore; half of the time with few different values and both zeros.
+fn measured(chance: &mut Chance) -> Fit {
+    if chance.one_in(2) {
+        return splitting::fit(chance);
+    }
+    let mut fit = any(chance);
+    (fit.random, fit.lower) = (false, true);
+    let seed = chance.word();
+    make_fit::draws(chance, &mut fit, seed);
+    fit
 }
 
 /// The fit with other targets and values in the rows that the tree leaves out. Other trees may keep them, and then need other draws.

@@ -43,8 +43,13 @@ fn paper() -> Tally<'static> {
     Tally::new("the judges", &Paper, None)
 }
 
+/// At least half of the pairs of each kind must have a split.
 fn compared(count: usize) -> ExitCode {
-    compare::compare(paper(), count, &Counts::each(1))
+    let least = Counts {
+        pairs: [count / 200; 2],
+        ..Counts::each(1)
+    };
+    compare::compare(paper(), count, &least)
 }
 
 /// With `each`, a list of any cases is accepted, and every case that differs is reported.

@@ -1,6 +1,7 @@
 //! What was compared: how many inputs of each kind, and the shortest one that differs.
 
 use crate::call::calls::{Call, Reader};
+use crate::call::splits;
 use crate::judge::case::Case;
 use crate::judge::library::Library;
 use std::fmt;
@@ -22,12 +23,15 @@ pub struct Counts {
     pub bad_draws: usize,
     /// 1 to 6, then 8 to 10, then 18.
     pub refusals: [usize; REFUSALS.len()],
-    /// Among the trees and forests, those with measured thresholds: all, those with ties, and those with both zeros in a column.
-    pub measured: [usize; 3],
+    /// Among the trees and forests, those with cuts at measured values and a split: all, those with ties, with both zeros, and with
+    /// one of the two as a threshold (`splits::shown`).
+    pub measured: [usize; 4],
+    /// Pairs of trees with a split that differ in rows left out: with cuts halfway, and at measured values.
+    pub pairs: [usize; 2],
 }
 
 impl Counts {
-    /// The same number of every kind.
+    /// The same number of every kind, but no pairs, which only `compare` has.
     pub const fn each(count: usize) -> Self {
         Counts {
             trees: count,
@@ -37,17 +41,19 @@ impl Counts {
             checks: count,
             bad_draws: count,
             refusals: [count; REFUSALS.len()],
-            measured: [count; 3],
+            measured: [count; 4],
+            pairs: [0; 2],
         }
     }
 
-    fn add(&mut self, call: &Call, refusal: u64) {
+    fn add(&mut self, call: &Call, answer: &[u64]) {
+        let refusal = answer[0];
         if let (0, Call::Fit(fit)) = (refusal, call)
             && fit.measured()
         {
-            let found = [true, fit.ties(), fit.both_zeros()];
-            for (count, found) in self.measured.iter_mut().zip(found) {
-                *count += usize::from(found);
+            let shown = splits::shown(fit, answer);
+            for (count, shown) in self.measured.iter_mut().zip(shown) {
+                *count += usize::from(shown);
             }
         }
         let count = match (refusal, call) {
@@ -75,10 +81,25 @@ impl Counts {
         all.chain(self.refusals)
     }
 
+    /// Every number that has a minimum.
+    fn all(&self) -> impl Iterator<Item = usize> {
+        let further = self.measured.into_iter().chain(self.pairs);
+        self.kinds().chain(further)
+    }
+
     fn reach(&self, least: &Counts) -> bool {
-        let counts = self.kinds().chain(self.measured);
-        let least = least.kinds().chain(least.measured);
-        counts.zip(least).all(|(count, least)| count >= least)
+        let mut both = self.all().zip(least.all());
+        both.all(|(count, least)| count >= least)
+    }
+
+    fn tell_measured(&self, to: &mut fmt::Formatter) -> fmt::Result {
+        let [cut, ties, zeros, at_zero] = self.measured;
+        let [halfway, measured] = self.pairs;
+        write!(to, "cut at measured values: {cut} fits with a split, ")?;
+        write!(to, "{ties} of these with ties, {zeros} with both zeros, ")?;
+        write!(to, "{at_zero} cut at one of the two; ")?;
+        write!(to, "pairs with a split that differ in rows left out: ")?;
+        write!(to, "{halfway} halfway, {measured} at measured values")
     }
 
     /// Forests, readers and refusals: all but the trees grown.
@@ -97,7 +118,7 @@ impl fmt::Display for Counts {
             checks,
             bad_draws,
             refusals,
-            measured: [measured, ties, zeros],
+            ..
         } = self;
         let (beside, (first, rest)) = (self.beside_trees(), refusals.split_at(6));
         let (next, last) = rest.split_at(3);
@@ -111,10 +132,7 @@ impl fmt::Display for Counts {
             to,
             "refusals 1 to 6 {first:?}, 8 to 10 {next:?}, 18 {last:?}; "
         )?;
-        write!(
-            to,
-            "with measured thresholds {measured} of those grown, {ties} of these with ties, {zeros} with both zeros"
-        )
+        self.tell_measured(to)
     }
 }
 
@@ -160,14 +178,20 @@ impl<'a> Tally<'a> {
 
     /// Compares each answer with the expected one, which is never empty.
     pub fn answered(&mut self, case: &Case, expected: &[u64], answers: &[Vec<u64>]) {
-        if let [refusal, ..] = expected {
-            self.counts.add(&case.call, *refusal);
+        if !expected.is_empty() {
+            self.counts.add(&case.call, expected);
         }
         let same = !expected.is_empty() && answers.iter().all(|answer| answer == expected);
         self.told(same, || {
             let call = case.call_line();
             format!("{call}\n  expected {expected:?}\n  answered {answers:?}")
         });
+    }
+
+    /// Two fits that must give the same tree, which has a split or none; `measured` says where they cut.
+    pub fn paired(&mut self, same: bool, split: bool, measured: bool, input: impl Fn() -> String) {
+        self.counts.pairs[usize::from(measured)] += usize::from(split);
+        self.told(same, input);
     }
 
     pub fn told(&mut self, same: bool, input: impl Fn() -> String) {

@@ -8,8 +8,8 @@ use std::process::ExitCode;
 
 /// The least number of each kind that must be compared in a full run,
 const FULL: Counts = Counts {
-    trees: 800_000,
-    forests: 40_000,
+    trees: 1_000_000,
+    forests: 57_000,
     readers: 57_000,
     nodes: 9_000,
     checks: 25_000,
@@ -17,7 +17,8 @@ const FULL: Counts = Counts {
     refusals: [
         40_000, 25_000, 7_500, 8_000, 8_000, 20_000, 150_000, 1_500, 1_200, 3_500,
     ],
-    measured: [250_000, 150_000, 70_000],
+    measured: [220_000, 160_000, 85_000, 55_000],
+    pairs: [3_000, 3_300],
 };
 
 /// in a sample, and in the list.

@@ -15,6 +15,7 @@ fn a_fit_differs_in_its_error_only() {
     assert_eq!(fit(&["--cuts", "midpoint"]), plain);
     let measured = fit(&["--cuts", "measured"]);
     assert_eq!((measured.status, measured.err.as_str()), (Some(0), ""));
+    assert_eq!(plain.out.lines().count(), measured.out.lines().count());
     let lines = plain.out.lines().zip(measured.out.lines());
     let differ: Vec<&str> = lines.filter(|(a, b)| a != b).map(|(a, _)| a).collect();
     assert_eq!(differ.len(), 1, "{differ:?}");

@@ -49,34 +49,6 @@ impl Fit {
         self.counts[tree * self.rows + row] > 0 && weight > 0.0
     }
 
-    /// The values of a feature in the rows that a tree keeps, in the order of the listing.
-    fn column(&self, tree: usize, feature: usize) -> Vec<f64> {
-        let listing = &self.listings[feature * self.rows..(feature + 1) * self.rows];
-        let rows = listing.iter().map(|row| *row as usize);
-        let kept = rows.filter(|row| self.kept(tree, *row));
-        kept.map(|row| self.x[row * self.features + feature])
-            .collect()
-    }
-
-    fn some_column(&self, has: impl Fn(&[f64]) -> bool) -> bool {
-        let one = |tree: usize| (0..self.features).any(|feature| has(&self.column(tree, feature)));
-        (0..self.trees).any(one)
-    }
-
-    /// Whether a tree keeps two rows with equal values of a feature.
-    pub fn ties(&self) -> bool {
-        self.some_column(|column| column.windows(2).any(|pair| pair[0] == pair[1]))
-    }
-
-    /// Whether a tree keeps a row with -0 and another with +0 in the same feature.
-    pub fn both_zeros(&self) -> bool {
-        let has = |column: &[f64], zero: f64| {
-            let mut bits = column.iter().map(|value| value.to_bits());
-            bits.any(|value| value == zero.to_bits())
-        };
-        self.some_column(|column| has(column, -0.0) && has(column, 0.0))
-    }
-
     /// The number of nodes that a tree requires room for.
     pub fn asked(&self, tree: usize) -> usize {
         let kept = (0..self.rows).filter(|&row| self.kept(tree, row)).count();

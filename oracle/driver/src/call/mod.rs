@@ -2,4 +2,5 @@
 
 pub mod calls;
 pub mod outcome;
+pub mod splits;
 pub mod wire;

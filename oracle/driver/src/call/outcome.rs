@@ -72,3 +72,17 @@ impl Outcome {
         numbers
     }
 }
+
+/// The entries that were written in each encoded room. A room that is all zero has none here, because its length is not encoded.
+pub fn written(mut rooms: &[u64]) -> Vec<&[u64]> {
+    let mut all = Vec::new();
+    while let [first, rest @ ..] = rooms {
+        let (entries, rest) = match first {
+            2 => rest[1..].split_at(rest[0] as usize),
+            _ => rest.split_at(0),
+        };
+        all.push(entries);
+        rooms = rest;
+    }
+    all
+}

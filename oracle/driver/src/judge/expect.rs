@@ -60,6 +60,11 @@ pub fn grow(fit: &Fit, tree: usize) -> Result<Grown, usize> {
     harness::grow(&data(fit), tree_counts(fit, tree), &params(fit), tape, 0)
 }
 
+/// Whether a tree of an accepted fit has a split.
+pub fn splits(fit: &Fit, tree: usize) -> bool {
+    grow(fit, tree).is_ok_and(|grown| grown.nodes().len() > 1)
+}
+
 /// The six columns of nodes.
 pub fn columns(nodes: &[NodeRecord]) -> [Vec<u64>; 6] {
     let of = |field: fn(&NodeRecord) -> u64| nodes.iter().map(field).collect();

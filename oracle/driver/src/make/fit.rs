@@ -135,7 +135,7 @@ pub fn listings(chance: &mut Chance, rows: usize, features: usize, x: &[f64]) ->
 
 /// More zeros of both signs, which only measured thresholds show: in two of three fits the middle value of each column becomes zero, and
 /// every zero gets a sign of its own. The order of the values stays the same, so the listings stay valid.
-fn zeros(chance: &mut Chance, fit: &mut Fit) {
+pub fn zeros(chance: &mut Chance, fit: &mut Fit) {
     if !chance.one_in(3) {
         (0..fit.features).for_each(|feature| around_zero(fit, feature));
     }
@@ -159,14 +159,18 @@ fn around_zero(fit: &mut Fit, feature: usize) {
     }
 }
 
-/// Lets the copy make the draws of each tree and joins them, sometimes with extra draws after those of a tree.
-pub fn draws(chance: &mut Chance, fit: &mut Fit, seed: u64) {
+/// Lets the copy make the draws of each tree and joins them, sometimes with extra draws after those of a tree. Returns the depth of the
+/// deepest tree.
+pub fn draws(chance: &mut Chance, fit: &mut Fit, seed: u64) -> u32 {
     let mut tapes: Vec<Tape> = Vec::new();
+    let mut depth = 0;
     for tree in 0..fit.trees {
         let seed = seed.wrapping_add(tree as u64);
         let counts = tree_counts(fit, tree);
         let grown = harness::grow(&data(fit), counts, &params(fit), None, seed);
-        let mut tape = grown.expect("made draws are good").made;
+        let grown = grown.expect("made draws are good");
+        depth = depth.max(grown.depth());
+        let mut tape = grown.made;
         if chance.one_in(4) {
             tape.words.push(chance.word() as u32);
             tape.thresholds.push(f64::NAN);
@@ -174,6 +178,7 @@ pub fn draws(chance: &mut Chance, fit: &mut Fit, seed: u64) {
         tapes.push(tape);
     }
     lay(fit, &tapes);
+    depth
 }
 
 /// Both tapes and, in a forest, their cut tables.

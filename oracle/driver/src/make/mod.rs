@@ -8,3 +8,4 @@ pub mod floats;
 pub mod lower;
 pub mod read;
 pub mod rehearsal;
+pub mod splitting;

@@ -1,6 +1,6 @@
--- `search::best::run_on` meets its contract: each arm returns what `cond` picks. Assumes nothing.
-use Rattle.search.proofs.best.run_on.Statement.{statement}
-use Rattle.search.proofs.best.run_on.Tie as tie
+-- `candidates::run_on` meets its contract: each arm returns what `cond` picks. Assumes nothing.
+use Rattle.candidates.proofs.run_on.Statement.{statement}
+use Rattle.candidates.proofs.run_on.Tie as tie
 
 returns : tie.Need-returns
 returns c = simp (c .if1 .taken)
