@@ -91,14 +91,21 @@ static void one_tree(void) {
     }
 }
 
-/* The listing of the trim heights has row 3 twice, and row 0 is missing. */
+/* Prints where a listing is damaged. */
+static void print_damage(const char *by, uint32_t number, uint32_t column, uint32_t place, uint32_t row) {
+    printf("a damaged listing, by %s: refusal %" PRIu32 " in column %" PRIu32 " at place %" PRIu32 ", and row %" PRIu32
+           " is missing\n", by, number, column, place, row);
+}
+
+/* The listing of the truss offsets has row 0 a second time, in place of row 1. */
 static void damaged_listing(void) {
     static Nodes nodes;
-    static const uint32_t damaged[FEATURES * ROWS] = {2, 3, 3, 1, 0, 2, 1, 3};
+    static const uint32_t damaged[FEATURES * ROWS] = {2, 3, 0, 1, 0, 2, 0, 3};
     static const double thresholds[] = {0.5, 7.0, 6.8, 7.2};
     const TailboardyTreeTold told = fit_tree(&nodes, drawn, damaged, thresholds);
-    printf("a damaged listing: refusal %" PRIu32 ", and by the check alone %" PRIu32 "\n", told.number,
-        tailboardy_check_listings(ROWS, FEATURES, ALL(values), ALL(damaged)));
+    print_damage("a fit", told.number, told.part, told.place, told.row);
+    const TailboardyRefusal alone = tailboardy_check_listings(ROWS, FEATURES, ALL(values), ALL(damaged));
+    print_damage("the check alone", alone.number, alone.part, alone.place, alone.row);
 }
 
 /* The third threshold, which search 1 takes for rows of trim heights 6.2 and 7.5, is not below the highest of these. */
@@ -106,7 +113,7 @@ static void bad_draw(void) {
     static Nodes nodes;
     static const double thresholds[] = {0.5, 7.0, 7.5, 7.2};
     const TailboardyTreeTold told = fit_tree(&nodes, drawn, listings, thresholds);
-    printf("a threshold out of range: refusal %" PRIu32 ", search %" PRIu32 "\n", told.number, told.search);
+    printf("a threshold out of range: refusal %" PRIu32 ", search %" PRIu32 "\n", told.number, told.place);
 }
 
 /* The best splitter takes nothing from the tape of thresholds. If it cut at midpoints, this tree would have 0 and 6.85 in place of -3
@@ -133,7 +140,7 @@ static void forest(void) {
     static uint32_t starts[TREES + 1], own[TREES], depth[TREES], searches[TREES], words_used[TREES], thresholds_used[TREES];
     static double mass[TREES], out[ROWS];
     const TailboardyForestSettings settings = {.leaf = 1, .split = 2, .said = true, .tried = FEATURES};
-    const TailboardyForestTold told = tailboardy_fit_forest(
+    const TailboardyRefusal told = tailboardy_fit_forest(
         ALL(nodes.value), ALL(nodes.feature), ALL(nodes.threshold), ALL(nodes.score), ALL(nodes.true_child),
         ALL(nodes.false_child), ALL(starts), ALL(own), ALL(depth), ALL(mass), ALL(searches), ALL(words_used),
         ALL(thresholds_used), ALL(work.order), ALL(work.scratch), ALL(work.flags), ALL(work.wholes), ALL(work.reals),

@@ -52,9 +52,11 @@
  *        5    -26        0          0      0           0            0    (row 2)
  *        6    -22        0          0      0           0            0    (row 0)
  *
- * Refusals: 1 sizes, 2 lengths, 3 numbers, 4 counts, 5 listing, 6 rooms, 7 draw, 8 table, 9 no counts, 10 other counts, 18 no means.
- * The table in docs/RULES.md says when each is given. Below, the refusals that a call can give are listed after its description, in
- * the order of its checks. A refused call leaves every lent slice unchanged, except that refusal 7 fills them all with zeros. */
+ * Refusals: 1 sizes, 2 lengths, 3 numbers, 4 counts, 6 rooms, 7 draw, 8 table, 9 no counts, 10 other counts, 11 no such row, 12 row
+ * twice, 13 value falls, 18 no means. 11, 12 and 13 are about a damaged listing. They tell where it is damaged, as 7 tells where the
+ * bad draw is (TailboardyRefusal). The table in docs/RULES.md says when each is given. Below, the refusals that a call can give are
+ * listed after its description, in the order of its checks. A refused call leaves every lent slice unchanged, except that refusal 7
+ * fills them all with zeros. */
 #ifndef TAILBOARDY_H
 #define TAILBOARDY_H
 
@@ -94,12 +96,23 @@ typedef struct {
     bool lower;
 } TailboardyForestSettings;
 
-/* 0 or a refusal. With refusal 7: the tree, which is always 0, and the search of the bad draw. With 0: the number of nodes, the depth,
- * the root mass, and how many searches, words and thresholds were used. All other fields are 0. */
+/* A refusal: its number, or 0 if there is none, and where it is. With 11, 12 and 13 `part` is the feature whose listing is damaged,
+ * and `place` the place in this listing, both counted from 0; with 12 `row` is the lowest row that is missing from the whole listing.
+ * With 7 `part` is the tree, always 0 in the fit of one tree, and `place` the search of the bad draw. All other fields are 0. */
 typedef struct {
     uint32_t number;
-    uint32_t tree;
-    uint32_t search;
+    uint32_t part;
+    uint32_t place;
+    uint32_t row;
+} TailboardyRefusal;
+
+/* The four fields of a refusal and, if `number` is 0, a report: the number of nodes, the depth, the root mass, and how many searches,
+ * words and thresholds were used. If it is not 0, these fields are 0. */
+typedef struct {
+    uint32_t number;
+    uint32_t part;
+    uint32_t place;
+    uint32_t row;
     uint32_t nodes;
     uint32_t depth;
     double mass;
@@ -107,13 +120,6 @@ typedef struct {
     uint32_t words;
     uint32_t thresholds;
 } TailboardyTreeTold;
-
-/* 0 or a refusal. With refusal 7: the tree and the search of the bad draw. All other fields are 0. */
-typedef struct {
-    uint32_t number;
-    uint32_t tree;
-    uint32_t search;
-} TailboardyForestTold;
 
 /* 0 or a refusal. With 0: the error, and the number of rows that it is over; otherwise these fields are 0. */
 typedef struct {
@@ -135,7 +141,7 @@ typedef struct {
     uint32_t false_child;
 } TailboardyNodeTold;
 
-/* Grows one tree. Refusals: 1, 2, 3, 4, 5, 6, 7.
+/* Grows one tree. Refusals: 1, 2, 3, 4, 11, 12, 13, 6, 7.
  * Required lengths: at least 2 x kept rows - 1, and at least 1, for the six columns of nodes (a row is kept if its count is above 0
  * and its weight, if there are weights, is above 0); at least features x rows for `order`, rows for `scratch`, the greater of rows
  * and features for `flags`, and rows for `wholes` and `reals`.
@@ -164,14 +170,14 @@ TailboardyTreeTold tailboardy_fit_tree(
     size_t features,
     TailboardyTreeSettings plain);
 
-/* Grows a forest. Refusals: 1, 2, 3, 4, 5, 6, 7.
+/* Grows a forest. Refusals: 1, 2, 3, 4, 11, 12, 13, 6, 7.
  * Each tree has its own counts and its own part of both tapes: `word_starts` and `threshold_starts` each have trees + 1 positions,
  * from 0 to the length of the tape, in ascending order.
  * Required lengths: for the six columns of nodes the sum over all trees of what one tree requires; at least trees + 1 for `starts`;
  * exactly trees for the six columns from `nodes` to `thresholdsused`; for the five from `order` to `reals` as for one tree.
  * Afterwards the trees are at the front of the columns and `starts` says where each begins, the entries after them are unchanged, the
  * columns from `nodes` to `thresholdsused` report on each tree, and the five from `order` to `reals` are all zero. */
-TailboardyForestTold tailboardy_fit_forest(
+TailboardyRefusal tailboardy_fit_forest(
     double *value, size_t value_length,
     uint32_t *feature, size_t feature_length,
     double *threshold, size_t threshold_length,
@@ -285,8 +291,12 @@ TailboardyErrorTold tailboardy_out_of_bag_error(
     const double *targets, size_t targets_length,
     const double *means, size_t means_length);
 
-/* Checks that each feature's listing contains each row exactly once, and that values never decrease along it. Refusals: 1, 2, 5. */
-uint32_t tailboardy_check_listings(
+/* Checks that each feature's listing contains each row exactly once, and that values never decrease along it.
+ * Refusals: 1, 2, 11, 12, 13. Of the last three, here as in the fits, the first that is met is told: features are taken in order, the
+ * places of a listing from its front, and at each place the tests are whether the row number is too large (11), whether the row was
+ * met before in this listing (12), and whether its value is below that of the row at the place before (13). This check accepts a NaN,
+ * which a fit refuses: it is below nothing, and nothing is below it. */
+TailboardyRefusal tailboardy_check_listings(
     size_t rows,
     size_t features,
     const double *values, size_t values_length,

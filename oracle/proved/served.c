@@ -34,6 +34,13 @@ static void tell_real(double f) {
     give(&f, sizeof f);
 }
 
+static void tell_refusal(TailboardyRefusal told) {
+    tell(told.number);
+    tell(told.part);
+    tell(told.place);
+    tell(told.row);
+}
+
 // The slices of the current call. Before and after each there is one more entry with a fixed pattern, which must not change.
 enum { MOST = 27, PATTERN = 0xA5 };
 
@@ -109,8 +116,9 @@ static void fit_tree(void) {
     plain.lower = number();
     TailboardyTreeTold told = tailboardy_fit_tree(COLUMNS_AT(7), WORK_AT(13), GIVEN_AT(0), rows, features, plain);
     tell(told.number);
-    tell(told.tree);
-    tell(told.search);
+    tell(told.part);
+    tell(told.place);
+    tell(told.row);
     tell(told.nodes);
     tell(told.depth);
     tell_real(told.mass);
@@ -132,11 +140,8 @@ static void fit_forest(void) {
     plain.tried = number();
     plain.random = number();
     plain.lower = number();
-    TailboardyForestTold told = tailboardy_fit_forest(COLUMNS_AT(9), U(15), REPORTS_AT(16), WORK_AT(22),
-        GIVEN_AT(0), S(size_t, 7), S(size_t, 8), rows, features, trees, plain);
-    tell(told.number);
-    tell(told.tree);
-    tell(told.search);
+    tell_refusal(tailboardy_fit_forest(COLUMNS_AT(9), U(15), REPORTS_AT(16), WORK_AT(22),
+        GIVEN_AT(0), S(size_t, 7), S(size_t, 8), rows, features, trees, plain));
     give_slices(9);
 }
 
@@ -190,7 +195,7 @@ static void out_of_bag_error(void) {
 static void check_listings(void) {
     size_t rows = number(), features = number();
     take_slices("du");
-    tell(tailboardy_check_listings(rows, features, D(0), U(1)));
+    tell_refusal(tailboardy_check_listings(rows, features, D(0), U(1)));
     give_slices(taken);
 }
 

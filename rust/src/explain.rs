@@ -1,5 +1,5 @@
-//! Finds where a refused input is wrong, so that a person can correct it. This is plain Rust that runs after the proved library has
-//! refused; it decides nothing.
+//! Says where a refused input is wrong, so that a person can correct it. The library tells the place of a damaged listing and of a bad
+//! draw; any other is found by plain Rust that runs after the library has refused, and decides nothing.
 
 use crate::columns::Columns;
 use crate::counts::bad_weight;
@@ -9,28 +9,25 @@ use crate::given::Given;
 use crate::limits::MAX_ROWS;
 use crate::matrix::DenseMatrix;
 use crate::refusal::Refusal;
-use crate::rooms::Stopped;
 use crate::sizes;
+use tailboardy_sys::Refusal as Told;
 
 /// The refusal of a fit of `trees` trees.
-pub(crate) fn fit(
-    stopped: &Stopped,
-    given: &Given,
-    trees: usize,
-    draws: Option<&Draws>,
-) -> Refusal {
+pub(crate) fn fit(told: &Told, given: &Given, trees: usize, draws: Option<&Draws>) -> Refusal {
     let (rows, features) = given.x.shape();
-    let [tree, search] = stopped.place;
-    let fault = match stopped.number {
+    let fault = match told.number {
         1 => sizes::fault(rows, features, trees),
         2 => lengths(given, trees).or_else(|| starts(trees, draws?)),
         3 => numbers(given),
         4 => count(given),
-        5 => given.listings.fault_of(5, given.x),
-        7 => Some(Fault::Draw { tree, search }),
+        7 => Some(Fault::Draw {
+            tree: told.part as usize,
+            search: told.place as usize,
+        }),
+        11..=13 => given.listings.told(told, rows).map(Fault::Listing),
         _ => None,
     };
-    Refusal::of(stopped.number, fault)
+    Refusal::of(told.number, fault)
 }
 
 fn lengths(given: &Given, trees: usize) -> Option<Fault> {
@@ -44,7 +41,7 @@ fn lengths(given: &Given, trees: usize) -> Option<Fault> {
         .or_else(weights)
         .or_else(|| Fault::length("counts per tree", each, rows))
         .or_else(|| Fault::length("trees with counts", counted, trees))
-        .or_else(|| given.listings.fault_of(2, given.x))
+        .or_else(|| given.listings.other_shape(given.x))
 }
 
 fn starts(trees: usize, draws: &Draws) -> Option<Fault> {

@@ -46,9 +46,9 @@ pub enum Fault {
     Weight { row: usize, value: f64 },
     /// How many times a row is in a tree's bag.
     Count { tree: usize, row: usize, count: u32 },
-    /// The first position where a listing is wrong.
+    /// The first position where a listing is wrong, as the proved library tells it.
     Listing(ListingFault),
-    /// The tree and search whose draw is missing or out of range.
+    /// The tree and search whose draw is missing or out of range, as the proved library tells them.
     Draw { tree: usize, search: usize },
     /// The first position where a table of starts is wrong.
     Starts { place: usize },
@@ -78,14 +78,17 @@ pub enum Fault {
     },
 }
 
-/// The first position where a feature's listing is wrong.
+/// The first position where a feature's listing is wrong. Feature and position come from the proved library, and so does the missing row
+/// if a row appears twice.
 ///
 /// ```
-/// use tailboardy::{DenseMatrix, Listings};
+/// use tailboardy::{Cause, DenseMatrix, Fault, Listings};
 ///
-/// let x = DenseMatrix::from_2d_array(&[[7.5], [6.8], [7.1]])?;
-/// let fault = Listings::from_columns(&[[1, 2, 2]])?.fault(&x, 0).unwrap();
-/// assert_eq!((fault.feature, fault.place, fault.missing), (0, 2, Some(0)));
+/// let x = DenseMatrix::from_2d_array(&[[7.5, 0.0], [6.8, 1.0], [7.1, 2.0]])?;
+/// let refusal = Listings::from_columns(&[[1, 2, 0], [0, 2, 2]])?.check(&x).unwrap_err();
+/// assert_eq!(refusal.cause(), Cause::RowTwice);
+/// let Some(Fault::Listing(fault)) = refusal.fault() else { panic!("{refusal}") };
+/// assert_eq!((fault.feature, fault.place, fault.missing), (1, 2, Some(1)));
 /// # Ok::<(), tailboardy::Refusal>(())
 /// ```
 #[derive(Debug, Clone, PartialEq, Eq)]
@@ -103,33 +106,34 @@ pub struct ListingFault {
 /// What is wrong with a listing. At each position the variants are tried in this order.
 ///
 /// ```
-/// use tailboardy::{Breach, DenseMatrix, Listings};
+/// use tailboardy::{Breach, Cause, DenseMatrix, Listings};
 ///
 /// let x = DenseMatrix::from_2d_array(&[[7.5], [6.8], [7.1]])?;
 /// let fault = Listings::from_columns(&[[2, 1, 0]])?.fault(&x, 0).unwrap();
 /// assert_eq!(fault.breach, Breach::Falls { row: 1, after: 2 });
+/// assert_eq!(fault.breach.cause(), Cause::ValueFalls);
 /// # Ok::<(), tailboardy::Refusal>(())
 /// ```
 #[derive(Debug, Clone, Copy, PartialEq, Eq)]
 #[non_exhaustive]
 pub enum Breach {
-    /// There is no row with this number.
+    /// 11: there is no row with this number.
     NoSuchRow(u32),
-    /// The row already appeared at an earlier position.
+    /// 12: the row already appeared at an earlier position.
     Twice {
         /// The row.
         row: u32,
         /// The earlier position.
         before: usize,
     },
-    /// The row's value is lower than that of the row before it.
+    /// 13: the row's value is lower than that of the row before it.
     Falls {
         /// The row.
         row: u32,
         /// The row before it.
         after: u32,
     },
-    /// The listing ends before every row has appeared.
+    /// 2: the listing ends before every row has appeared.
     Ends,
 }
 

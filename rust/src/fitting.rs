@@ -88,7 +88,7 @@ impl<'a> Fitting<'a> {
     /// let y = [3.0, 1.0, 2.0];
     /// assert!(Fitting::new(&x, &y).check().is_ok());
     /// let refusal = Fitting::new(&x, &y).with_listings(&damaged).check().unwrap_err();
-    /// assert_eq!(refusal.number(), 5);
+    /// assert_eq!(refusal.number(), 12);
     /// # Ok::<(), tailboardy::Refusal>(())
     /// ```
     ///
@@ -114,7 +114,7 @@ impl<'a> Fitting<'a> {
     ///
     /// # Errors
     ///
-    /// As [`RandomForestRegressor::fit`], and refusals 2 and 5 for listings of another shape, and for damaged ones.
+    /// As [`RandomForestRegressor::fit`], and refusal 2 for listings of another shape, and 11, 12 or 13 for damaged ones.
     pub fn forest(
         &self,
         parameters: RandomForestRegressorParameters,
@@ -155,7 +155,7 @@ impl<'a> Fitting<'a> {
     ///
     /// # Errors
     ///
-    /// As [`DecisionTreeRegressor::fit`], and refusals 2 and 5 for listings of another shape, and for damaged ones.
+    /// As [`DecisionTreeRegressor::fit`], and refusal 2 for listings of another shape, and 11, 12 or 13 for damaged ones.
     pub fn tree(
         &self,
         parameters: DecisionTreeRegressorParameters,

@@ -9,11 +9,12 @@ use crate::explain;
 use crate::given::Given;
 use crate::parameters::{RandomForestRegressorParameters, Settings};
 use crate::refusal::Refusal;
-use crate::rooms::{self, Grown, Stopped, Work};
+use crate::rooms::{self, Grown, Work};
 use std::ops::Range;
 use std::sync::OnceLock;
 use std::sync::atomic::{AtomicUsize, Ordering};
 use std::thread;
+use tailboardy_sys::Refusal as Told;
 
 /// A function that is told how many trees have been grown, and of how many.
 pub(crate) type Watch<'a> = &'a (dyn Fn(usize, usize) + Sync);
@@ -53,7 +54,7 @@ pub(crate) fn grow(
         }
         field.work();
     });
-    let grown: Result<Vec<Grown>, Stopped> = field
+    let grown: Result<Vec<Grown>, Told> = field
         .grown
         .into_iter()
         .filter_map(OnceLock::into_inner)
@@ -100,7 +101,7 @@ struct Field<'a> {
     groups: Vec<Range<usize>>,
     next: AtomicUsize,
     done: AtomicUsize,
-    grown: Vec<OnceLock<Result<Grown, Stopped>>>,
+    grown: Vec<OnceLock<Result<Grown, Told>>>,
 }
 
 impl Field<'_> {
@@ -120,7 +121,7 @@ impl Field<'_> {
         }
     }
 
-    fn group(&self, trees: Range<usize>, work: &mut Work) -> Result<Grown, Stopped> {
+    fn group(&self, trees: Range<usize>, work: &mut Work) -> Result<Grown, Told> {
         let mut draws = Draws::none();
         for tree in trees.clone() {
             self.source.draw(tree, &mut draws);

@@ -39,7 +39,7 @@
 //!   ([`RandomForestRegressor::fit_given`] is a single call of the library, and gives the same forest bit for bit);
 //! - predicting more than [`MAX_ROWS`] rows in parts, and joining these;
 //! - refusing results that are not finite ([`Cause::NotFinite`]), which the library returns as smartcore does;
-//! - finding the place of what was refused ([`Fault`]);
+//! - finding the place of what was refused ([`Fault`]), except that of a damaged listing and of a bad draw, which the library tells;
 //! - the list of calls through which the library is linked, in `tailboardy-sys`, the only place with `unsafe`.
 //!
 //! Nothing here panics, whatever the input. Running out of memory ends the program, as it does everywhere in Rust.

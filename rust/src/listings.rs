@@ -5,7 +5,7 @@ use crate::limits::MAX_ROWS;
 use crate::matrix::DenseMatrix;
 use crate::refusal::{Cause, Refusal};
 use crate::sizes;
-use tailboardy_sys::linked;
+use tailboardy_sys::{Refusal as Told, linked};
 
 /// For each feature all row numbers, counted from 0, in ascending order of value.
 ///
@@ -24,10 +24,10 @@ use tailboardy_sys::linked;
 ///
 /// let damaged = Listings::from_columns(&[[1, 3, 3, 0]])?;
 /// let refusal = damaged.check(&x).unwrap_err();
-/// assert_eq!(refusal.number(), 5);
+/// assert_eq!(refusal.number(), 12);
 /// assert_eq!(
 ///     refusal.to_string(),
-///     "refusal 5 (listing): feature 0: row 3 appears twice, at positions 1 and 2, and row 2 is missing; \
+///     "refusal 12 (row twice): feature 0: row 3 appears twice, at positions 1 and 2, and row 2 is missing; \
 ///      sort the rows of this feature again, with each row exactly once"
 /// );
 /// # Ok::<(), tailboardy::Refusal>(())
@@ -106,47 +106,83 @@ impl Listings {
     }
 
     /// Checks, with the proved library, that each feature's listing contains each row exactly once and that its values never decrease.
+    /// The library also tells the first place that is wrong, listing after listing, each from its front ([`ListingFault`]).
     ///
     /// ```
     /// use tailboardy::{DenseMatrix, Listings};
     ///
     /// let x = DenseMatrix::from_2d_array(&[[7.5], [6.8], [7.1]])?;
     /// assert!(Listings::from_columns(&[[1, 2, 0]])?.check(&x).is_ok());
-    /// let falls = Listings::from_columns(&[[2, 1, 0]])?;
-    /// assert_eq!(falls.check(&x).unwrap_err().number(), 5);
+    ///
+    /// let number = |rows: [u32; 3]| Some(Listings::from_columns(&[rows]).ok()?.check(&x).err()?.number());
+    /// assert_eq!(number([1, 2, 3]), Some(11)); // there is no row 3
+    /// assert_eq!(number([1, 2, 1]), Some(12)); // row 1 appears twice
+    /// assert_eq!(number([2, 1, 0]), Some(13)); // row 1 is lower than row 2
     /// # Ok::<(), tailboardy::Refusal>(())
     /// ```
     ///
     /// # Errors
     ///
     /// Refusal 1 if the number of rows or features is out of range, 2 if there is not one listing per feature with as many numbers as there
-    /// are rows, and 5 if a listing is damaged.
+    /// are rows, and 11, 12 or 13 if a listing is damaged.
     pub fn check(&self, x: &DenseMatrix) -> Result<(), Refusal> {
         let (rows, features) = x.shape();
-        match linked::check_listings(rows, features, x.values(), self.numbers(x)) {
-            0 => Ok(()),
-            number => Err(Refusal::of(number, self.fault_of(number, x))),
-        }
+        let told = linked::check_listings(rows, features, x.values(), self.numbers(x));
+        let fault = match told.number {
+            0 => return Ok(()),
+            1 => sizes::fault(rows, features, 1),
+            2 => self.other_shape(x),
+            _ => self.told(&told, rows).map(Fault::Listing),
+        };
+        Err(Refusal::of(told.number, fault))
     }
 
-    /// The first position where a feature's listing is wrong, if there is one. It is found by plain Rust, to tell a person where to
-    /// look; whether a listing is accepted is decided by [`check`](Listings::check).
+    /// The first position where one feature's listing is wrong, if there is one. The proved library is asked about this listing alone, so
+    /// that faults after the first feature's can be told too. A listing of another length is read as far as the matrix has rows. If
+    /// nothing is wrong there, one that is too short [ends](Breach::Ends), and what follows in one that is too long is a row that
+    /// appeared before, or none of the matrix.
     #[must_use]
     pub fn fault(&self, x: &DenseMatrix, feature: usize) -> Option<ListingFault> {
-        let rows = x.shape().0;
-        let column = self.column(feature).filter(|_| rows <= MAX_ROWS)?;
-        let mut stood: Vec<Option<usize>> = vec![None; rows];
-        let mut first = None;
-        for (place, row) in column.iter().enumerate() {
-            let before = place.checked_sub(1).map(|at| column[at]);
-            first = first.or_else(|| Some((place, breach(x, feature, &stood, *row, before)?)));
-            if let Some(at) = stood.get_mut(*row as usize) {
-                *at = at.or(Some(place));
-            }
+        let (rows, features) = x.shape();
+        let column = self.column(feature)?;
+        if rows > MAX_ROWS || feature >= features {
+            return None;
         }
-        let missing = stood.iter().position(Option::is_none);
-        let ends = || Some((column.len(), missing.map(|_| Breach::Ends)?));
-        let (place, breach) = first.or_else(ends)?;
+        let values = x.values().iter().skip(feature).step_by(features);
+        let values: Vec<f64> = values.copied().collect();
+        let mut own = column.to_vec();
+        // where a listing that is too short ends, the library is given a row that does not exist
+        own.resize(rows, u32::MAX);
+        let mut told = linked::check_listings(rows, 1, &values, &own);
+        told.part = feature as u32;
+        if let (0, Some(row)) = (told.number, column.get(rows)) {
+            told.number = if (*row as usize) < rows { 12 } else { 11 };
+            told.place = rows as u32;
+        }
+        self.told(&told, rows)
+    }
+
+    /// A fault that the library told, with what the listing has at its place.
+    pub(crate) fn told(&self, told: &Told, rows: usize) -> Option<ListingFault> {
+        let (feature, place) = (told.part as usize, told.place as usize);
+        let column = self.column(feature)?;
+        let breach = match (told.number, column.get(place)) {
+            (11, None) => Breach::Ends,
+            (11, Some(row)) => Breach::NoSuchRow(*row),
+            (12, Some(row)) => Breach::Twice {
+                row: *row,
+                before: column.iter().position(|it| it == row)?,
+            },
+            (13, Some(row)) => Breach::Falls {
+                row: *row,
+                after: *column.get(place.checked_sub(1)?)?,
+            },
+            _ => return None,
+        };
+        let missing = match told.number {
+            12 if column.len() == rows => Some(told.row as usize),
+            _ => missing(column, rows),
+        };
         Some(ListingFault {
             feature,
             place,
@@ -155,19 +191,14 @@ impl Listings {
         })
     }
 
-    /// What is wrong if the library refuses with this number: a size, the number of listings, or the first listing that is wrong.
-    pub(crate) fn fault_of(&self, number: u32, x: &DenseMatrix) -> Option<Fault> {
+    /// Why the library refuses these listings as being of another shape than the matrix, if they are.
+    pub(crate) fn other_shape(&self, x: &DenseMatrix) -> Option<Fault> {
         let (rows, features) = x.shape();
-        if number == 1 {
-            return sizes::fault(rows, features, 1);
-        }
-        let first = || {
-            let mut faults = (0..features).filter_map(|feature| self.fault(x, feature));
-            faults.next().map(Fault::Listing)
+        let fault = || match self.length == rows {
+            true => None,
+            false => self.fault(x, 0).map(Fault::Listing),
         };
-        Fault::length("listings", self.features, features)
-            .or_else(first)
-            .or_else(|| Fault::length("row numbers in a listing", self.length, rows))
+        Fault::length("listings", self.features, features).or_else(fault)
     }
 
     /// How many features have a listing.
@@ -203,23 +234,15 @@ fn rank(value: f64) -> u64 {
     }
 }
 
-/// What is wrong with a row at its position, if anything is.
-fn breach(
-    x: &DenseMatrix,
-    feature: usize,
-    stood: &[Option<usize>],
-    row: u32,
-    before: Option<u32>,
-) -> Option<Breach> {
-    let value = |row: u32| x.get((row as usize, feature));
-    match stood.get(row as usize) {
-        None => Some(Breach::NoSuchRow(row)),
-        Some(&Some(before)) => Some(Breach::Twice { row, before }),
-        Some(None) => {
-            let after = before?;
-            (value(row)? < value(after)?).then_some(Breach::Falls { row, after })
+/// The lowest row that a listing lacks. The library tells it only with a row that appears twice.
+fn missing(column: &[u32], rows: usize) -> Option<usize> {
+    let mut there = vec![false; rows];
+    for row in column {
+        if let Some(seen) = there.get_mut(*row as usize) {
+            *seen = true;
         }
     }
+    there.iter().position(|seen| !seen)
 }
 
 #[cfg(test)]

@@ -1,11 +1,12 @@
 //! Refusals: a number, a name, what is wrong and where, and what to do about it.
 
-use crate::fault::Fault;
+use crate::fault::{Breach, Fault};
 use std::error::Error;
 use std::fmt;
 
 /// Why a call was refused. The number comes from the proved library, except 100, by which this crate refuses a result that is not
-/// finite. The [`Fault`], which tells a person where to look, is found by plain Rust code that examines the same input.
+/// finite. The [`Fault`] tells a person where to look. The place of a damaged listing and of a bad draw comes from the library too;
+/// any other is found by plain Rust code that examines the same input.
 ///
 /// ```
 /// use tailboardy::{Cause, DenseMatrix, RandomForestRegressor};
@@ -40,7 +41,7 @@ pub struct Refusal {
 /// # Ok::<(), tailboardy::Refusal>(())
 /// ```
 ///
-/// 1 to 10 and 18 are the proved library's, numbered as in the table of docs/RULES.md; 100 is this crate's own.
+/// 1 to 4, 6 to 13 and 18 are the proved library's, numbered as in the table of docs/RULES.md; 100 is this crate's own.
 #[derive(Debug, Clone, Copy, PartialEq, Eq, Hash)]
 #[non_exhaustive]
 pub enum Cause {
@@ -52,8 +53,6 @@ pub enum Cause {
     Numbers,
     /// 4: a count is above 65,535, or is not 1 in a forest with weights.
     Counts,
-    /// 5: a listing does not contain each row exactly once, or a value in it is lower than the one before.
-    Listing,
     /// 6: a room is too short, or a result is not exactly as long as required. This crate makes the rooms, so users never see it.
     Rooms,
     /// 7: a draw is missing or out of range.
@@ -64,6 +63,12 @@ pub enum Cause {
     NoCounts,
     /// 10: out-of-bag means were requested for other rows than the forest was fitted on.
     OtherCounts,
+    /// 11: a listing has a row number that is too large.
+    NoSuchRow,
+    /// 12: a listing has a row that appeared before in it.
+    RowTwice,
+    /// 13: in a listing, the value of a row is lower than that of the row before it.
+    ValueFalls,
     /// 18: an out-of-bag error was requested, but no row has an out-of-bag mean.
     NoMeans,
     /// 100: a result is not finite. The library returns such a result, as smartcore does; this crate does not pass it on.
@@ -72,17 +77,19 @@ pub enum Cause {
     Unlisted(u32),
 }
 
-const CAUSES: [Cause; 11] = [
+const CAUSES: [Cause; 13] = [
     Cause::Sizes,
     Cause::Lengths,
     Cause::Numbers,
     Cause::Counts,
-    Cause::Listing,
     Cause::Rooms,
     Cause::Draw,
     Cause::Table,
     Cause::NoCounts,
     Cause::OtherCounts,
+    Cause::NoSuchRow,
+    Cause::RowTwice,
+    Cause::ValueFalls,
     Cause::NoMeans,
 ];
 
@@ -100,12 +107,14 @@ impl Cause {
             Cause::Lengths => 2,
             Cause::Numbers => 3,
             Cause::Counts => 4,
-            Cause::Listing => 5,
             Cause::Rooms => 6,
             Cause::Draw => 7,
             Cause::Table => 8,
             Cause::NoCounts => 9,
             Cause::OtherCounts => 10,
+            Cause::NoSuchRow => 11,
+            Cause::RowTwice => 12,
+            Cause::ValueFalls => 13,
             Cause::NoMeans => 18,
             Cause::NotFinite => 100,
             Cause::Unlisted(number) => number,
@@ -120,12 +129,14 @@ impl Cause {
             Cause::Lengths => "lengths",
             Cause::Numbers => "numbers",
             Cause::Counts => "counts",
-            Cause::Listing => "listing",
             Cause::Rooms => "rooms",
             Cause::Draw => "draw",
             Cause::Table => "table",
             Cause::NoCounts => "no counts",
             Cause::OtherCounts => "other counts",
+            Cause::NoSuchRow => "no such row",
+            Cause::RowTwice => "row twice",
+            Cause::ValueFalls => "value falls",
             Cause::NoMeans => "no means",
             Cause::NotFinite => "not finite",
             Cause::Unlisted(_) => "unlisted",
@@ -144,7 +155,6 @@ impl Cause {
             Cause::Counts => {
                 "a count must be at most 65,535, and exactly 1 in a forest with weights"
             }
-            Cause::Listing => "sort the rows of this feature again, with each row exactly once",
             Cause::Rooms => "make the rooms longer",
             Cause::Draw => {
                 "each search needs a complete order of the features, and each threshold must be at least the lowest value of its rows and below the highest"
@@ -154,11 +164,29 @@ impl Cause {
                 "fit with keep_samples, which records the rows that each tree left out"
             }
             Cause::OtherCounts => "pass the rows that the forest was fitted on",
+            Cause::NoSuchRow => {
+                "rows are counted from 0: sort the rows of this feature again, with each row exactly once"
+            }
+            Cause::RowTwice => "sort the rows of this feature again, with each row exactly once",
+            Cause::ValueFalls => "sort the rows of this feature again, in ascending order of value",
             Cause::NoMeans => "use bootstrap, two rows or more, and enough trees",
             Cause::NotFinite => {
                 "the targets or weights are too large, or the weights too small, to calculate with: multiply or divide all of them by a constant"
             }
             Cause::Unlisted(_) => "rebuild this crate for the library that it is linked with",
+        }
+    }
+}
+
+impl Breach {
+    /// The refusal that it leads to if the listing has as many numbers as there are rows. Any other listing is refused by 2.
+    #[must_use]
+    pub fn cause(self) -> Cause {
+        match self {
+            Breach::NoSuchRow(_) => Cause::NoSuchRow,
+            Breach::Twice { .. } => Cause::RowTwice,
+            Breach::Falls { .. } => Cause::ValueFalls,
+            Breach::Ends => Cause::Lengths,
         }
     }
 }

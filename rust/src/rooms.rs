@@ -6,7 +6,7 @@ use crate::given::Given;
 use crate::parameters::Settings;
 use crate::results::Report;
 use std::ops::Range;
-use tailboardy_sys::{TreeTold, linked};
+use tailboardy_sys::{Refusal as Told, TreeTold, linked};
 
 /// The memory that growth works in. A fit that succeeds leaves it zero, ready to be used again.
 #[derive(Debug)]
@@ -42,12 +42,6 @@ pub(crate) struct Grown {
     pub nodes: Nodes,
     pub starts: Vec<u32>,
     pub reports: Vec<Report>,
-}
-
-/// The number of a refusal, and the tree and search of a draw that is missing or out of range.
-pub(crate) struct Stopped {
-    pub number: u32,
-    pub place: [usize; 2],
 }
 
 /// The most nodes that a tree with these counts can have.
@@ -99,7 +93,7 @@ pub(crate) fn fit_forest(
     settings: &Settings,
     draws: &Draws,
     work: &mut Work,
-) -> Result<Grown, Stopped> {
+) -> Result<Grown, Told> {
     let (rows, features) = given.x.shape();
     let own = given.counts.of_trees(trees.clone(), rows);
     let each = own
@@ -142,11 +136,10 @@ pub(crate) fn fit_forest(
         settings.of_forest(),
     );
     if told.number != 0 {
-        let place = [trees.start + told.tree as usize, told.search as usize];
-        return Err(Stopped {
-            number: told.number,
-            place,
-        });
+        // a bad draw is told with its tree's number among those of this call
+        let before = if told.number == 7 { trees.start } else { 0 };
+        let part = before as u32 + told.part;
+        return Err(Told { part, ..told });
     }
     nodes.keep(starts.last().map_or(0, |end| *end as usize));
     Ok(Grown {
@@ -161,7 +154,7 @@ pub(crate) fn fit_tree(
     given: &Given,
     settings: &Settings,
     draws: &Draws,
-) -> Result<(Nodes, Report), Stopped> {
+) -> Result<(Nodes, Report), Told> {
     let shape = given.x.shape();
     let counts = match given.counts.shape() {
         (1, _) => given.counts.of_trees(0..1, shape.0),
@@ -193,13 +186,19 @@ pub(crate) fn fit_tree(
         settings.of_tree(shape.1),
     );
     if told.number != 0 {
-        return Err(Stopped {
-            number: told.number,
-            place: [told.tree as usize, told.search as usize],
-        });
+        return Err(refusal(&told));
     }
     nodes.keep(told.nodes as usize);
     Ok((nodes, report(&told)))
+}
+
+fn refusal(told: &TreeTold) -> Told {
+    Told {
+        number: told.number,
+        part: told.part,
+        place: told.place,
+        row: told.row,
+    }
 }
 
 fn report(told: &TreeTold) -> Report {

@@ -8,7 +8,7 @@ use tailboardy_sys::linked;
 /// Asks the library whether it accepts these sizes, before anything is allocated for a call. The library checks sizes first, so calls
 /// with empty lists are enough.
 pub(crate) fn check(rows: usize, features: usize, trees: usize) -> Result<(), Refusal> {
-    let of_data = linked::check_listings(rows, features, &[], &[]);
+    let of_data = linked::check_listings(rows, features, &[], &[]).number;
     let of_trees = linked::check_forest(1, trees, &[], &[], &[], &[], &[], &[], &[]);
     match (of_data, of_trees) {
         (1, _) | (_, 1) => Err(Refusal::of(1, fault(rows, features, trees))),

@@ -56,7 +56,8 @@ impl DecisionTreeRegressor {
     ///
     /// # Errors
     ///
-    /// The library's refusals 1 to 5 and 7, and no other: whatever is grown is returned, even if a value or a score in it is not finite.
+    /// The library's refusals 1 to 4, 7 and 11 to 13, and no other: whatever is grown is returned, even if a value or a score in it is
+    /// not finite.
     pub fn fit_given(
         given: &Given,
         draws: &Draws,

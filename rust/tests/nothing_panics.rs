@@ -9,8 +9,8 @@ use tailboardy::{
 };
 
 /// How many answers there were, then refusals by number, and last results that were not finite.
-/// 0 to 10, then 18, then 100.
-type Tally = [usize; 13];
+/// 0 to 13, then 18, then 100.
+type Tally = [usize; 16];
 
 fn told<T>(answer: Result<T, Refusal>, tally: &mut Tally) -> Option<T> {
     match answer {
@@ -20,12 +20,12 @@ fn told<T>(answer: Result<T, Refusal>, tally: &mut Tally) -> Option<T> {
         }
         Err(refusal) => {
             let number = refusal.number() as usize;
-            assert!(matches!(number, 1..=5 | 7..=10 | 18 | 100), "{refusal}");
+            assert!(matches!(number, 1..=4 | 7..=13 | 18 | 100), "{refusal}");
             let asks_a_place = !matches!(number, 9 | 10);
             assert_eq!(refusal.fault().is_some(), asks_a_place, "{refusal:?}");
             let place = match number {
-                18 => 11,
-                100 => 12,
+                18 => 14,
+                100 => 15,
                 _ => number,
             };
             tally[place] += 1;
@@ -71,7 +71,10 @@ impl Maker {
                 column.resize(rows, 0);
                 if self.chance(10) && rows > 0 {
                     let place = self.up_to(rows - 1);
-                    column[place] = self.one_of(&[0, rows as u32, u32::MAX]);
+                    match self.chance(2) {
+                        true => column.swap(place, rows - 1 - place),
+                        false => column[place] = self.one_of(&[0, rows as u32, u32::MAX]),
+                    }
                 }
                 column
             })
@@ -99,7 +102,7 @@ impl Maker {
 
 #[test]
 fn seeded() {
-    let (mut made, mut tally) = (Maker::new(31), [0; 13]);
+    let (mut made, mut tally) = (Maker::new(31), [0; 16]);
     for _ in 0..4000 {
         let (rows, features) = (made.up_to(12), made.up_to(4));
         let x = made.any_matrix(rows, features);
@@ -127,7 +130,9 @@ fn seeded() {
             read(&mut made, &forest, &x, &y, &mut tally);
         }
     }
-    let least = [5000, 500, 500, 500, 0, 100, 0, 0, 0, 100, 10, 10, 500];
+    let least = [
+        5000, 500, 500, 500, 0, 0, 0, 0, 0, 100, 10, 100, 20, 100, 10, 500,
+    ];
     held(tally, least);
     assert_eq!(tally[7], 0, "a seed's draws are good");
 }
@@ -163,7 +168,7 @@ fn shapes_that_no_memory_holds() {
         #[rustfmt::skip]
         let given = Given { x: &x, y: &[], weights: &[], counts: &counts, listings: &listings };
         let draws = Draws::seeded(&given, Default::default());
-        let mut tally = [0; 13];
+        let mut tally = [0; 16];
         told(
             RandomForestRegressor::fit_given(&given, &draws, Default::default()),
             &mut tally,
@@ -177,7 +182,7 @@ fn shapes_that_no_memory_holds() {
 
 #[test]
 fn lent() {
-    let (mut made, mut tally) = (Maker::new(32), [0; 13]);
+    let (mut made, mut tally) = (Maker::new(32), [0; 16]);
     for _ in 0..4000 {
         let (rows, features) = (1 + made.up_to(6), 1 + made.up_to(2));
         let x = made.any_matrix(rows, features);
@@ -205,13 +210,15 @@ fn lent() {
         let tree = DecisionTreeRegressor::fit_given(&given, &draws, Default::default());
         told(tree, &mut tally);
     }
-    let least = [500, 50, 500, 500, 50, 100, 0, 300, 0, 0, 0, 0, 0];
+    let least = [
+        500, 50, 500, 500, 50, 0, 0, 300, 0, 0, 0, 100, 20, 100, 0, 0,
+    ];
     held(tally, least);
 }
 
 #[test]
 fn tables() {
-    let (mut made, mut tally) = (Maker::new(33), [0; 13]);
+    let (mut made, mut tally) = (Maker::new(33), [0; 16]);
     for _ in 0..4000 {
         let (x, y) = (made.matrix(8, 2), made.numbers(8));
         let parameters = made.parameters().with_n_trees(2);
@@ -236,7 +243,7 @@ fn tables() {
             told(tree.predict(&x), &mut tally);
         }
     }
-    let least = [3000, 10, 10, 0, 0, 0, 0, 0, 1000, 0, 0, 0, 100];
+    let least = [3000, 10, 10, 0, 0, 0, 0, 0, 1000, 0, 0, 0, 0, 0, 0, 100];
     held(tally, least);
 }
 

@@ -1,12 +1,9 @@
-//! Every refusal has the right number, names the right place and comes with a message; and nothing panics.
+//! Every refusal has the right number, names the right place and comes with a message; and nothing panics. Those of damaged listings are
+//! in listings.rs.
 
-mod common;
-
-use common::Maker;
 use tailboardy::{
-    Breach, Cause, Counts, DecisionTreeRegressor, DenseMatrix, Draws, Fault, Fitting, Given,
-    Listings, MAX_FEATURES, MAX_ROWS, MAX_TREES, Nodes, RandomForestRegressor,
-    RandomForestRegressorParameters, Refusal, Splitter,
+    Counts, DecisionTreeRegressor, DenseMatrix, Draws, Given, Listings, MAX_FEATURES, MAX_ROWS,
+    MAX_TREES, Nodes, RandomForestRegressor, RandomForestRegressorParameters, Refusal, Splitter,
 };
 
 fn parameters() -> RandomForestRegressorParameters {
@@ -339,58 +336,4 @@ fn a_table_that_loops() {
         8,
         &sentence,
     );
-}
-
-#[test]
-fn a_listing_with_a_gap() {
-    let values: Vec<f64> = (0..40).map(|row| f64::from(row) / 4.0).collect();
-    let x = DenseMatrix::new(40, 1, values, false).unwrap();
-    let mut rows: Vec<u32> = (0..40).collect();
-    rows[12] = 13;
-    let damaged = Listings::from_columns(&[rows]).unwrap();
-    let y = vec![0.0; 40];
-    let fitting = Fitting::new(&x, &y).with_listings(&damaged);
-    let sentence = "feature 0: row 13 appears twice, at positions 12 and 13, and row 12 is missing";
-    refused(damaged.check(&x), 5, sentence);
-    refused(fitting.check(), 5, sentence);
-    refused(fitting.forest(parameters()), 5, sentence);
-    let Some(Fault::Listing(fault)) = fitting.check().unwrap_err().fault().cloned() else {
-        panic!("no place");
-    };
-    assert_eq!((fault.place, fault.missing), (13, Some(12)));
-    assert_eq!(
-        fault.breach,
-        Breach::Twice {
-            row: 13,
-            before: 12
-        }
-    );
-}
-
-#[test]
-fn what_is_found_is_what_is_refused() {
-    let mut made = Maker::new(21);
-    let mut refusals = 0;
-    for _ in 0..5000 {
-        let (rows, features) = (1 + made.up_to(5), 1 + made.up_to(2));
-        let x = made.matrix(rows, features);
-        let mut columns: Vec<Vec<u32>> = (0..features)
-            .map(|it| Listings::sorted(&x).column(it).unwrap().to_vec())
-            .collect();
-        for _ in 0..made.up_to(2) {
-            let (feature, place) = (made.up_to(features - 1), made.up_to(rows - 1));
-            columns[feature][place] = made.up_to(rows) as u32;
-        }
-        let listings = Listings::from_columns(&columns).unwrap();
-        let fault = (0..features).find_map(|feature| listings.fault(&x, feature));
-        match listings.check(&x) {
-            Ok(()) => assert_eq!(fault, None),
-            Err(refusal) => {
-                refusals += 1;
-                assert_eq!(refusal.cause(), Cause::Listing);
-                assert_eq!(refusal.fault(), fault.map(Fault::Listing).as_ref());
-            }
-        }
-    }
-    assert!(refusals > 1000, "{refusals}");
 }

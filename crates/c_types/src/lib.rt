@@ -1,21 +1,23 @@
 // What plain numbers say, and answers as plain numbers, in the forms that C has.
 ghost use mathlib.Core.Path.{_≡_};
 ghost use Prim.Native.Nat.{_<_};
-ghost use Rattle.rules.specs.Answers.{treeTold, forestTold, replyTold, errorTold, nodeTold};
-ghost use Rattle.rules.specs.Plain.{depthOf, splitterOf, heightOf, triedFrom, settingsOf, treeSettingsOf, forestSettingsOf, scaleOf, treeNumbers, forestNumbers, errorNumbers, nodeNumbers};
+ghost use Rattle.rules.specs.Checks.{numbered};
+ghost use Rattle.rules.specs.Answers.{treeTold, forestTold, checkTold, replyTold, errorTold, nodeTold};
+ghost use Rattle.rules.specs.Plain.{depthOf, splitterOf, heightOf, triedFrom, settingsOf, treeSettingsOf, forestSettingsOf, scaleOf, treeNumbers, errorNumbers, nodeNumbers};
 ghost use Rattle.c_types.specs.Plain.{noNode};
 ghost use Rattle.c_types.specs.Nodes.{trueChildOf, childOf};
+use rules::Checked;
 use rules::Depth;
 use rules::ErrorReply;
 use rules::ErrorTold;
 use rules::ForestAnswer;
 use rules::ForestSettings;
-use rules::ForestTold;
 use rules::Height;
 use rules::Kind;
 use rules::Node;
 use rules::NodeReply;
 use rules::NodeTold;
+use rules::Refusal;
 use rules::Reply;
 use rules::Scale;
 use rules::Settings;
@@ -126,10 +128,11 @@ pub fn tree_told_of(answer: TreeAnswer) -> TreeTold
     ensures { λ r. ⌜ treeNumbers r ≡ treeTold answer ⌝ }
 {
     match answer {
-        TreeAnswer::Refused(n) => TreeTold {
-            number: n,
-            tree: 0,
-            search: 0,
+        TreeAnswer::Refused(f) => TreeTold {
+            number: f.number,
+            part: f.part,
+            place: f.place,
+            row: f.row,
             nodes: 0,
             depth: 0,
             mass: 0.0,
@@ -139,8 +142,9 @@ pub fn tree_told_of(answer: TreeAnswer) -> TreeTold
         },
         TreeAnswer::BadDraw(p) => TreeTold {
             number: 7,
-            tree: p.tree,
-            search: p.search,
+            part: p.tree,
+            place: p.search,
+            row: 0,
             nodes: 0,
             depth: 0,
             mass: 0.0,
@@ -150,8 +154,9 @@ pub fn tree_told_of(answer: TreeAnswer) -> TreeTold
         },
         TreeAnswer::Grown(r) => TreeTold {
             number: 0,
-            tree: 0,
-            search: 0,
+            part: 0,
+            place: 0,
+            row: 0,
             nodes: r.nodes,
             depth: r.depth,
             mass: r.mass,
@@ -162,25 +167,38 @@ pub fn tree_told_of(answer: TreeAnswer) -> TreeTold
     }
 }
 
-pub fn forest_told_of(answer: ForestAnswer) -> ForestTold
-    ensures { λ r. ⌜ forestNumbers r ≡ forestTold answer ⌝ }
+fn no_refusal() -> Refusal
+    ensures { λ r. ⌜ r ≡ numbered 0 ⌝ }
+{
+    Refusal {
+        number: 0,
+        part: 0,
+        place: 0,
+        row: 0,
+    }
+}
+
+pub fn forest_told_of(answer: ForestAnswer) -> Refusal
+    ensures { λ r. ⌜ r ≡ forestTold answer ⌝ }
 {
     match answer {
-        ForestAnswer::Refused(n) => ForestTold {
-            number: n,
-            tree: 0,
-            search: 0,
-        },
-        ForestAnswer::BadDraw(place) => ForestTold {
+        ForestAnswer::Refused(f) => f,
+        ForestAnswer::BadDraw(d) => Refusal {
             number: 7,
-            tree: place.tree,
-            search: place.search,
+            part: d.tree,
+            place: d.search,
+            row: 0,
         },
-        ForestAnswer::Grown => ForestTold {
-            number: 0,
-            tree: 0,
-            search: 0,
-        },
+        ForestAnswer::Grown => no_refusal(),
+    }
+}
+
+pub fn check_told_of(answer: Checked) -> Refusal
+    ensures { λ r. ⌜ r ≡ checkTold answer ⌝ }
+{
+    match answer {
+        Checked::Passed => no_refusal(),
+        Checked::Refused(f) => f,
     }
 }
 

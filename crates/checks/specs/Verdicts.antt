@@ -3,7 +3,7 @@ use Prim.Native.Nat.{ℕ, suc, _*_, _<_, _≤_}
 use native.Mathlib.Omega.{arith}
 use mathlib.Core.Path.{_≡_, sym, ap, _∙_}
 use mathlib.Core.Bool.{Bool, true, _&&_, _||_}
-use mathlib.Core.List.{List, [], _∷_}
+use mathlib.Core.List.{List, [], _∷_, _++_}
 use lib.ListN.{length}
 use lib.Dec.{leb, eqb}
 use lib.Ieee.{Float}
@@ -11,8 +11,8 @@ use borrow.Author.Tests.{eqb-true}
 use Rattle.rules.specs.declared.Shape.{Shape}
 use Rattle.rules.specs.Words.{from, total}
 use Rattle.rules.specs.Lent.{Given, TreeRooms, ForestRooms, WaitingRoom, waitingRoom, unweighted, shortest}
-use Rattle.rules.specs.Checks.{Test, test, firstFailed, shapeIn, treesIn, lengths, goodTapeStarts, numbersGood, countsGood, countsOne, roomFor, workEnough, reportsExact}
-use Rattle.rules.specs.Listing.{listingsGood}
+use Rattle.rules.specs.Checks.{Test, test, checked, shapeIn, treesIn, lengths, goodTapeStarts, numbersGood, countsGood, countsOne, roomFor, workEnough, reportsExact}
+use Rattle.rules.specs.Listing.{orderTests}
 use Rattle.rules.specs.Fit.{TreeCall, oneTreeOf, treeTests}
 use Rattle.rules.specs.Forest.{ForestCall, oneTreeAt, eachTree, tapesGood, roomsGood, forestTests}
 use Rattle.lemmas.specs.Lists.{every-all, total-same, total-map}
@@ -21,7 +21,7 @@ use Rattle.checks.specs.declared.ReportLengths.{ReportLengths}
 use Rattle.checks.specs.Lent.{WorkHas, ReportsHave, Counted, Grown}
 use Rattle.listings.specs.Asks.{Laid}
 use Rattle.checks.specs.Rooms.{roomIn, roomOf, roomsIn, room-is}
-use Rattle.lemmas.specs.Tests.{and-both, rows-low, some-weights}
+use Rattle.lemmas.specs.Tests.{and-both, rows-low, features-low, some-weights}
 
 -- ---- what the lengths say
 
@@ -55,7 +55,7 @@ lengths-say S trees G h =
 
 module _ (S : Shape) (trees : ℕ) (G : Given) (s : shapeIn S ≡ true) (l : lengths S trees G ≡ true) where
   pub long-laid : Laid S (G .inputs .values) (G .inputs .listings)
-  long-laid = let h = lengths-say S trees G l in record { few = rows-low S s; valuesLong = h .values; listingsLong = h .listings }
+  long-laid = let h = lengths-say S trees G l in record { few = rows-low S s; fewFeatures = features-low S s; valuesLong = h .values; listingsLong = h .listings }
 
   pub long-grown : trees ≤ 1024 → Grown (S .rows) trees (G .weights) (G .counts)
   long-grown t =
@@ -67,10 +67,10 @@ long-counted S G s l =
     let h = lengths-say S 1 G l in
     record { few = rows-low S s; counted = omega (arith, h .counts); weighed = λ n. omega (arith, h .weights n) }
 
--- ---- checks 1 to 6, in this order
+-- ---- checks 1 to 4, those of the listings, and 6, in this order
 
-abbrev pub sixTests : Bool → Bool → Bool → Bool → Bool → Bool → List Test
-sixTests a b c d e f = test 1 a ∷ test 2 b ∷ test 3 c ∷ test 4 d ∷ test 5 e ∷ test 6 f ∷ []
+abbrev pub allTests : Bool → Bool → Bool → Bool → List Test → Bool → List Test
+allTests a b c d listings f = test 1 a ∷ test 2 b ∷ test 3 c ∷ test 4 d ∷ listings ++ test 6 f ∷ []
 
 -- ---- one tree
 
@@ -87,16 +87,16 @@ tree-room-is C = sym (room-is (oneTreeOf C))
 
 -- its tests are the call's
 pub tree-same : (S : Shape) (G : Given) (L : Lengths) (C : TreeCall) (R : TreeRooms WaitingRoom) → TreeHas S G L C R
-    → firstFailed (sixTests (shapeIn S) (lengths S 1 G) (numbersGood G) (countsGood G) (listingsGood S (G .inputs .values) (G .inputs .listings))
+    → checked (allTests (shapeIn S) (lengths S 1 G) (numbersGood G) (countsGood G) (orderTests S (G .inputs .values) (G .inputs .listings))
     (leb (roomIn (S .rows) (G .weights) (G .counts)) (L .nodes) && workEnough waitingRoom S (R .work)))
-    ≡ firstFailed (treeTests waitingRoom C R)
+    ≡ checked (treeTests waitingRoom C R)
 unfolding treeTests
 tree-same S G L C R h =
-    (λ i. firstFailed (sixTests (shapeIn (h .shape i)) (lengths (h .shape i) 1 (h .given i)) (numbersGood (h .given i)) (countsGood (h .given i))
-    (listingsGood (h .shape i) (h .given i .inputs .values) (h .given i .inputs .listings))
+    (λ i. checked (allTests (shapeIn (h .shape i)) (lengths (h .shape i) 1 (h .given i)) (numbersGood (h .given i)) (countsGood (h .given i))
+    (orderTests (h .shape i) (h .given i .inputs .values) (h .given i .inputs .listings))
     (leb (roomIn (h .shape i .rows) (h .given i .weights) (h .given i .counts)) (h .nodes i) && workEnough waitingRoom (h .shape i) (R .work))))
-    ∙ ap (λ n. firstFailed (sixTests (shapeIn (C .shape)) (lengths (C .shape) 1 (C .given)) (numbersGood (C .given)) (countsGood (C .given))
-    (listingsGood (C .shape) (C .given .inputs .values) (C .given .inputs .listings)) (leb n (shortest (R .nodes)) && workEnough waitingRoom (C .shape) (R .work))))
+    ∙ ap (λ n. checked (allTests (shapeIn (C .shape)) (lengths (C .shape) 1 (C .given)) (numbersGood (C .given)) (countsGood (C .given))
+    (orderTests (C .shape) (C .given .inputs .values) (C .given .inputs .listings)) (leb n (shortest (R .nodes)) && workEnough waitingRoom (C .shape) (R .work))))
     (tree-room-is C)
 
 -- ---- a forest
@@ -125,19 +125,19 @@ forest-room-is C =
 -- its tests are the call's
 pub forest-same : (S : Shape) (n : ℕ) (G : Given) (w t : ℕ) (wc tc : List ℕ) (L : Lengths) (s : ℕ) (P : ReportLengths) (C : ForestCall) (R : ForestRooms WaitingRoom)
     → ForestHas S n G w t wc tc L s P C R
-    → firstFailed (sixTests (shapeIn S && treesIn n) (lengths S n G && (goodTapeStarts n w wc && goodTapeStarts n t tc)) (numbersGood G) (countsGood G && countsOne G)
-    (listingsGood S (G .inputs .values) (G .inputs .listings))
+    → checked (allTests (shapeIn S && treesIn n) (lengths S n G && (goodTapeStarts n w wc && goodTapeStarts n t tc)) (numbersGood G) (countsGood G && countsOne G)
+    (orderTests S (G .inputs .values) (G .inputs .listings))
     (leb (roomsIn (S .rows) n (G .weights) (G .counts)) (L .nodes) && (workEnough waitingRoom S (R .work) && (leb (suc n) s && reportsExact n (R .reports)))))
-    ≡ firstFailed (forestTests waitingRoom C R)
+    ≡ checked (forestTests waitingRoom C R)
 unfolding forestTests tapesGood roomsGood
 forest-same S n G w t wc tc L s P C R h =
-    (λ i. firstFailed (sixTests (shapeIn (h .shape i) && treesIn (h .trees i))
+    (λ i. checked (allTests (shapeIn (h .shape i) && treesIn (h .trees i))
     (lengths (h .shape i) (h .trees i) (h .given i) && (goodTapeStarts (h .trees i) (h .words i) (h .wordStarts i) && goodTapeStarts (h .trees i) (h .thresholds i) (h .thresholdStarts i)))
-    (numbersGood (h .given i)) (countsGood (h .given i) && countsOne (h .given i)) (listingsGood (h .shape i) (h .given i .inputs .values) (h .given i .inputs .listings))
+    (numbersGood (h .given i)) (countsGood (h .given i) && countsOne (h .given i)) (orderTests (h .shape i) (h .given i .inputs .values) (h .given i .inputs .listings))
     (leb (roomsIn (h .shape i .rows) (h .trees i) (h .given i .weights) (h .given i .counts)) (h .nodes i)
     && (workEnough waitingRoom (h .shape i) (R .work) && (leb (suc (h .trees i)) (h .starts i) && reportsExact (h .trees i) (R .reports))))))
-    ∙ ap (λ m. firstFailed (sixTests (shapeIn (C .shape) && treesIn (C .trees))
+    ∙ ap (λ m. checked (allTests (shapeIn (C .shape) && treesIn (C .trees))
     (lengths (C .shape) (C .trees) (C .given) && (goodTapeStarts (C .trees) (length (C .words)) (C .wordStarts) && goodTapeStarts (C .trees) (length (C .thresholds)) (C .thresholdStarts)))
-    (numbersGood (C .given)) (countsGood (C .given) && countsOne (C .given)) (listingsGood (C .shape) (C .given .inputs .values) (C .given .inputs .listings))
+    (numbersGood (C .given)) (countsGood (C .given) && countsOne (C .given)) (orderTests (C .shape) (C .given .inputs .values) (C .given .inputs .listings))
     (leb m (shortest (R .nodes)) && (workEnough waitingRoom (C .shape) (R .work) && (leb (suc (C .trees)) (length (R .starts)) && reportsExact (C .trees) (R .reports))))))
     (forest-room-is C)

@@ -1,16 +1,17 @@
-// The verdict of a forest's fit: the first of checks 1 to 6 that fails, or 0.
+// The verdict of a forest's fit: what the first check that fails tells.
 ghost use mathlib.Core.Path.{_≡_};
 ghost use mathlib.Core.Bool.{_&&_, _||_};
 ghost use Prim.Native.Nat.{_≤_};
 ghost use lib.Dec.{leb, eqb};
 ghost use Rattle.rules.specs.Words.{every};
 ghost use Rattle.rules.specs.Lent.{ForestRooms, WaitingRoom, waitingRoom, unweighted, givenOf};
-ghost use Rattle.rules.specs.Checks.{firstFailed, treesIn, shapeIn, lengths, goodTapeStarts};
+ghost use Rattle.rules.specs.Checks.{checked, treesIn, shapeIn, lengths, goodTapeStarts};
 ghost use Rattle.rules.specs.Forest.{ForestCall, forestTests};
 ghost use Rattle.checks.specs.Asks.{Ranges};
 ghost use Rattle.checks.specs.Verdicts.{ForestHas};
 use crate::Lengths;
 use crate::ReportLengths;
+use rules::Checked;
 use rules::Shape;
 
 pub fn forest_in(shape: Shape, trees: usize) -> bool
@@ -89,14 +90,14 @@ pub fn forest_verdict(
     room: Lengths,
     starts: usize,
     reports: ReportLengths,
-) -> u32
+) -> Checked
     ensures { λ r. ⌜ ((C : ForestCall) (R : ForestRooms WaitingRoom)
         → ForestHas shape trees (givenOf (now (values .entry)) (now (targets .entry)) (now (weights .entry)) (now (counts .entry)) (now (listings .entry)))
         words thresholds (now (wordstarts .entry)) (now (thresholdstarts .entry)) room starts reports C R
-        → r ≡ firstFailed (forestTests waitingRoom C R)) ⌝ }
+        → r ≡ checked (forestTests waitingRoom C R)) ⌝ }
 {
     if !forest_in(shape, trees) {
-        return 1;
+        return crate::refused(1);
     }
     if !forest_long(
         shape,
@@ -111,19 +112,22 @@ pub fn forest_verdict(
         wordstarts,
         thresholdstarts,
     ) {
-        return 2;
+        return crate::refused(2);
     }
     if !crate::inputs::numbers_good(values, targets, weights) {
-        return 3;
+        return crate::refused(3);
     }
     if !forest_counts(weights, counts) {
-        return 4;
+        return crate::refused(4);
     }
-    if !listings::listings_good(shape, values, listings) {
-        return 5;
+    let fault = listings::first_fault(shape, values, listings);
+    match fault {
+        Checked::Refused(f) => Checked::Refused(f),
+        Checked::Passed => {
+            if !crate::rooms::forest_rooms(shape, trees, weights, counts, room, starts, reports) {
+                return crate::refused(6);
+            }
+            Checked::Passed
+        }
     }
-    if !crate::rooms::forest_rooms(shape, trees, weights, counts, room, starts, reports) {
-        return 6;
-    }
-    0
 }

@@ -1,7 +1,9 @@
 // The checks of all calls. They read shared slices and lengths alone, so that a refusal leaves all that was lent as it was.
 ghost use mathlib.Core.Path.{_≡_};
 ghost use mathlib.Core.Bool.{true};
-ghost use Rattle.rules.specs.Checks.{replies, within, rowsIn, featuresIn, treesIn, shapeIn, valuesLong, listingsLong};
+ghost use Rattle.rules.specs.Checks.{numbered, replies, within, rowsIn, featuresIn, treesIn, shapeIn, valuesLong, listingsLong};
+use rules::Checked;
+use rules::Refusal;
 use rules::Reply;
 use rules::Shape;
 
@@ -30,7 +32,19 @@ pub struct ReportLengths {
     pub thresholds: usize,
 }
 
-// The answer of a call that only checks.
+// A refusal that tells its number alone.
+pub fn refused(number: u32) -> Checked
+    ensures { λ r. ⌜ r ≡ Checked.Refused (numbered number) ⌝ }
+{
+    Checked::Refused(Refusal {
+        number,
+        part: 0,
+        place: 0,
+        row: 0,
+    })
+}
+
+// The answer of a call that only checks tables.
 pub fn reply_of(n: u32) -> Reply
     ensures { λ r. ⌜ r ≡ replies n ⌝ }
 {

@@ -1,5 +1,6 @@
-// Runs the checks on a few small inputs and writes the number of each answer, a line each: 0 is no refusal.
+// Runs the checks on a few small inputs and writes what each tells, a line each: 0 is no refusal.
 use checks::Lengths;
+use rules::Checked;
 use rules::NodeReply;
 use rules::Reply;
 use rules::Shape;
@@ -11,6 +12,22 @@ fn wide(n: u32) -> u64 {
 fn tell(n: u32) {
     io::print_decimal(1, wide(n));
     io::write_all(1, b"\n");
+}
+
+// What a check tells: number, part, place and row.
+fn tell_all(c: Checked) {
+    match c {
+        Checked::Passed => tell(0),
+        Checked::Refused(r) => {
+            io::print_decimal(1, wide(r.number));
+            io::write_all(1, b" ");
+            io::print_decimal(1, wide(r.part));
+            io::write_all(1, b" ");
+            io::print_decimal(1, wide(r.place));
+            io::write_all(1, b" ");
+            tell(r.row);
+        }
+    }
 }
 
 fn number_of(r: Reply) -> u32 {
@@ -37,8 +54,8 @@ fn listing(l: [u32; 4]) {
         rows: 4,
         features: 1,
     };
-    let r = checks::listing::check_listings(shape, &x, &l);
-    tell(number_of(r));
+    let c = checks::listing::check_listings(shape, &x, &l);
+    tell_all(c);
 }
 
 fn listings() {
@@ -70,8 +87,8 @@ fn fitting(nodes: usize, count: u32) {
         flags: 4,
         waiting: 4,
     };
-    let n = checks::tree::tree_verdict(shape, &x, &y, &weights, &counts, &l, room);
-    tell(n);
+    let c = checks::tree::tree_verdict(shape, &x, &y, &weights, &counts, &l, room);
+    tell_all(c);
 }
 
 fn fits() {

@@ -1,7 +1,7 @@
 -- Draws used are exact. Over any tapes that begin with as many words and thresholds as a fit of one tree reports used, and the same ones, it is the same fit: what lies
 -- beyond is never looked at, and may be cut off. With either cut to fewer, it is refusal 7. For more tape changes nothing (`growth-again` of crate lemmas), so a fit that
 -- answers over cut tapes is the whole fit, and has used no more than they hold. No check before growth looks at a tape. Assumes nothing.
-use Prim.Native.Nat.{ℕ, zero, suc, _-_, _<_, _≤_}
+use Prim.Native.Nat.{ℕ, _-_, _<_, _≤_}
 use native.Mathlib.Nat.{le-refl}
 use native.Mathlib.Omega.{arith}
 use mathlib.Core.Path.{_≡_, refl, sym, ap, _∙_, subst}
@@ -9,10 +9,11 @@ use mathlib.Core.List.{List, _++_}
 use lib.ListN.{length, take, drop, length-take, length-drop}
 use lib.Seq.{take-take, take-append-le}
 use lib.Ieee.{Float}
+use Rattle.rules.specs.declared.Checked.{Checked}
 use Rattle.rules.specs.declared.Report.{Report}
 use Rattle.rules.specs.declared.TreeAnswer.{TreeAnswer}
 use Rattle.rules.specs.Lent.{Data, OneTree, WaitingForm, TreeRooms, Outcome, kept, keptRows, zeroColumns, zeroWork}
-use Rattle.rules.specs.Checks.{firstFailed, roomFor}
+use Rattle.rules.specs.Checks.{checked, roomFor}
 use Rattle.rules.specs.Draws.{Out, bad, ok, bind, Tapes}
 use Rattle.rules.specs.Growth.{State}
 use Rattle.rules.specs.Fit.{element, listing, column, root, Tree, treeOf, growFrom, fit, TreeCall, oneTreeOf, grownTree, treeTests, treeDone, treeEnds, fitTree}
@@ -20,6 +21,7 @@ use Rattle.rules.specs.Answers.{Told, treeTold, told}
 use Rattle.lemmas.specs.Outs.{Then, then-then, then-any, then-both, then-after, then-of}
 use Rattle.lemmas.specs.Tapes.{Begins, used, growth, Again, growth-again}
 use Rattle.lemmas.specs.Answered.{TreeAnswered, tree-answered}
+use Rattle.demands.specs.Refused.{tree-some}
 
 -- ---- the statements
 
@@ -49,7 +51,7 @@ DrawsUsed = (W : Type 0) (K : WaitingForm W) (C : TreeCall) (R : TreeRooms W) (r
 
 -- a bad draw of the one tree, as it is told
 abbrev pub Tells7 : {R : Type 0} → Outcome Told R → Type 0
-Tells7 y = (y .answer .number ≡ 7) × (y .answer .tree ≡ 0)
+Tells7 y = (y .answer .refusal .number ≡ 7) × (y .answer .refusal .part ≡ 0)
 
 -- x is what a call left that told the report r, y what the call left with its tapes cut to what r says was used, or with either one shorter
 pub record CutExact {W : Type 0} (K : WaitingForm W) (C : TreeCall) (R : TreeRooms W) (x : Outcome Told (TreeRooms W)) (r : Report) : Type 0 where
@@ -60,7 +62,7 @@ pub record CutExact {W : Type 0} (K : WaitingForm W) (C : TreeCall) (R : TreeRoo
 -- of a call that told no refusal
 abbrev pub CallsExact : Type 1
 CallsExact =
-    (W : Type 0) (K : WaitingForm W) (C : TreeCall) (R : TreeRooms W) (x : Outcome Told (TreeRooms W)) → x ≡ told treeTold (fitTree K C R) → x .answer .number ≡ 0
+    (W : Type 0) (K : WaitingForm W) (C : TreeCall) (R : TreeRooms W) (x : Outcome Told (TreeRooms W)) → x ≡ told treeTold (fitTree K C R) → x .answer .refusal .number ≡ 0
     → CutExact K C R x (x .answer .report)
 
 -- ---- of a fit
@@ -131,10 +133,10 @@ fit-cut F D t e n m = then-after (fit G D) _ _ (then-both (fit G D) _ _ (fit-wit
 
 -- ---- of a call
 
-module _ {W : Type 0} (K : WaitingForm W) (C : TreeCall) (R : TreeRooms W) (t : Tree) (passed : firstFailed (treeTests K C R) ≡ 0) (grew : fit (oneTreeOf C) (C .given .inputs) ≡ ok t) where
+module _ {W : Type 0} (K : WaitingForm W) (C : TreeCall) (R : TreeRooms W) (t : Tree) (passed : checked (treeTests K C R) ≡ Checked.Passed) (grew : fit (oneTreeOf C) (C .given .inputs) ≡ ok t) where
   begins : (ws : List ℕ) (ts : List Float) → Begins (t .report .words) (C .words) ws → Begins (t .report .thresholds) (C .thresholds) ts → fitTree K (taped C ws ts) R ≡ fitTree K C R
   unfolding fitTree treeTests grownTree oneTreeOf roomFor keptRows kept
-  begins ws ts h k = ap (λ o. treeEnds K (firstFailed (treeTests K C R)) o R) (then-of (SameOver (oneTreeOf C) _) _ t grew (fit-again (oneTreeOf C) _) ws ts h k ∙ sym grew)
+  begins ws ts h k = ap (λ o. treeEnds K (checked (treeTests K C R)) o R) (then-of (SameOver (oneTreeOf C) _) _ t grew (fit-again (oneTreeOf C) _) ws ts h k ∙ sym grew)
 
   short : (n m : ℕ) → ((t .report .words ≤ n) × (t .report .thresholds ≤ m) → ⊥) → Refusal7 K R (fitTree K (cutTo n m C) R)
   unfolding fitTree treeTests treeEnds treeDone grownTree oneTreeOf roomFor keptRows kept
@@ -162,12 +164,16 @@ draws-used W K C R r h =
     })
 
 -- no refusal is told of a grown tree alone
-told-grown : {W : Type 0} (K : WaitingForm W) (R : TreeRooms W) (k : ℕ) (o : Out Tree) → treeTold (treeEnds K k o R .answer) .number ≡ 0
-    → treeEnds K k o R .answer ≡ TreeAnswer.Grown (treeTold (treeEnds K k o R .answer) .report)
-unfolding treeEnds treeDone
-told-grown K R zero (bad s) h = absurd (omega arith)
-told-grown K R zero (ok t) h = refl
-told-grown K R (suc k) o h = absurd (omega arith)
+told-grown : {W : Type 0} (K : WaitingForm W) (C : TreeCall) (R : TreeRooms W) → treeTold (fitTree K C R .answer) .refusal .number ≡ 0
+    → fitTree K C R .answer ≡ TreeAnswer.Grown (treeTold (fitTree K C R .answer) .report)
+unfolding fitTree treeEnds treeDone
+told-grown K C R h = go (checked (treeTests K C R)) refl (grownTree C) h
+  where
+    go : (k : Checked) → checked (treeTests K C R) ≡ k → (o : Out Tree) → treeTold (treeEnds K k o R .answer) .refusal .number ≡ 0
+        → treeEnds K k o R .answer ≡ TreeAnswer.Grown (treeTold (treeEnds K k o R .answer) .report)
+    go Checked.Passed q (bad s) h = absurd (omega arith)
+    go Checked.Passed q (ok t) h = refl
+    go (Checked.Refused r) q o h = absurd (tree-some K C R r q h)
 
 pub calls-exact : CallsExact
 unfolding fitTree
@@ -179,11 +185,11 @@ calls-exact W K C R x met none =
       thresholdLess = λ l y m. seven (m ∙ ap (told treeTold) (d .fewerThresholds (r .words) (r .thresholds - 1) (omega arith) .1));
     })
   where
-    seven : {y z : Outcome Told (TreeRooms W)} → y ≡ z → (y .answer .number ≡ z .answer .number) × (y .answer .tree ≡ z .answer .tree)
-    seven e = ((λ i. e i .answer .number), (λ i. e i .answer .tree))
+    seven : {y z : Outcome Told (TreeRooms W)} → y ≡ z → (y .answer .refusal .number ≡ z .answer .refusal .number) × (y .answer .refusal .part ≡ z .answer .refusal .part)
+    seven e = ((λ i. e i .answer .refusal .number), (λ i. e i .answer .refusal .part))
 
     r : Report
     r = treeTold (fitTree K C R .answer) .report
 
     d : Exact K C R r
-    d = draws-used W K C R r (told-grown K R (firstFailed (treeTests K C R)) (grownTree C) ((λ i. sym met i .answer .number) ∙ none))
+    d = draws-used W K C R r (told-grown K C R ((λ i. sym met i .answer .refusal .number) ∙ none))

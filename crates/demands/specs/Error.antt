@@ -18,10 +18,11 @@ use borrow.Author.Tests.{eq-eqb, lt-ltb, le-leb}
 use Rattle.floats.specs.Zero.{sub-none, zero-div64}
 use Rattle.floats.specs.Count.{count-above, by-more}
 use Rattle.floats.specs.Sign.{side, round-side, add-side, square-side, div-side, not-below}
+use Rattle.rules.specs.declared.Checked.{Checked}
 use Rattle.rules.specs.declared.Figure.{Figure}
 use Rattle.rules.specs.declared.ErrorReply.{ErrorReply}
 use Rattle.rules.specs.Words.{nought, float, keep, putIf}
-use Rattle.rules.specs.Checks.{test, firstFailed, within}
+use Rattle.rules.specs.Checks.{test, numbered, checked, numberOf, firstFailed, within}
 use Rattle.rules.specs.Answers.{errorTold}
 use Rattle.rules.specs.OutOfBag.{squareOff, addSquares, rowsWithMean, figure, errs, errorTests, outOfBagError}
 use Rattle.lemmas.specs.Lists.{keep-short}
@@ -111,8 +112,9 @@ answered rows ys ms f h =
     }
 
 -- the answer of a call that is in order, by the last test
-in-order : (rows : ℕ) (ys ms : List Float) → InOrder rows ys ms → (b : Bool) → ltb 0 (rowsWithMean ms) ≡ b → outOfBagError rows ys ms ≡ errs (cond b 0 18) (figure ys ms)
-unfolding outOfBagError errorTests firstFailed within
+in-order : (rows : ℕ) (ys ms : List Float) → InOrder rows ys ms → (b : Bool) → ltb 0 (rowsWithMean ms) ≡ b
+    → outOfBagError rows ys ms ≡ errs (numberOf (cond b Checked.Passed (Checked.Refused (numbered 18)))) (figure ys ms)
+unfolding outOfBagError errorTests checked within
 in-order rows ys ms o b e =
     λ i. errs (firstFailed (test 1 (le-leb 1 rows (o .some) i && le-leb rows 65535 (o .few) i)
     ∷ test 2 (eq-eqb (length ys) rows (o .targets) i && eq-eqb (length ms) rows (o .means) i) ∷ test 18 (e i) ∷ [])) (figure ys ms)

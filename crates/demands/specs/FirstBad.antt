@@ -7,13 +7,14 @@ use native.Mathlib.Omega.{arith}
 use mathlib.Core.Path.{_≡_, refl, sym, ap, _∙_}
 use mathlib.Core.Logic.{_≢_, _↔_}
 use mathlib.Core.List.{map}
+use Rattle.rules.specs.declared.Checked.{Checked}
 use Rattle.rules.specs.declared.Report.{Report}
 use Rattle.rules.specs.declared.Place.{Place}
 use Rattle.rules.specs.declared.TreeAnswer.{TreeAnswer}
 use Rattle.rules.specs.declared.ForestAnswer.{ForestAnswer}
 use Rattle.rules.specs.Words.{from}
 use Rattle.rules.specs.Lent.{Data, OneTree, WaitingForm, TreeRooms, ForestRooms, Outcome}
-use Rattle.rules.specs.Checks.{firstFailed}
+use Rattle.rules.specs.Checks.{numbered, checked}
 use Rattle.rules.specs.Draws.{Out, bad, ok}
 use Rattle.rules.specs.Fit.{Tree, fit, treeDone, fitTree}
 use Rattle.rules.specs.Forest.{ForestCall, oneTreeAt, eachTree, Forest, stopped, grownAll, withTree, nextTree, growTrees, grownForest, forestTests, forestDone, forestEnds, fitForest}
@@ -32,7 +33,7 @@ pub record MeetsFirst {X : Type 0} (L : WaitingForm X) (C : ForestCall) (Q : ℕ
 abbrev pub FirstBad : Type 1
 FirstBad =
     (W X : Type 0) (K : WaitingForm W) (L : WaitingForm X) (C : ForestCall) (R : ForestRooms W) → ForestUnrefused (fitForest K C R .answer)
-    → (Q : ℕ → TreeRooms X) → ((t : ℕ) → t < C .trees → fitTree L (treeCallAt C t) (Q t) .answer ≢ TreeAnswer.Refused 6)
+    → (Q : ℕ → TreeRooms X) → ((t : ℕ) → t < C .trees → fitTree L (treeCallAt C t) (Q t) .answer ≢ TreeAnswer.Refused (numbered 6))
     → (t s : ℕ) → (fitForest K C R .answer ≡ ForestAnswer.BadDraw (record { tree = t; search = s })) ↔ MeetsFirst L C Q t s
 
 -- as the forest's own are
@@ -115,7 +116,7 @@ pub first-bad : FirstBad
 unfolding fitForest forestEnds forestDone grownForest eachTree treeDone
 first-bad W X K L C R g Q n t s = (there, back)
   where
-    q : firstFailed (forestTests K C R) ≡ 0
+    q : checked (forestTests K C R) ≡ Checked.Passed
     q = forest-passes K C R g
 
     own : (u : ℕ) → u < C .trees → fitTree L (treeCallAt C u) (Q u) .answer ≡ treeDone L (fit (oneTreeAt C u) (C .given .inputs)) (Q u) .answer

@@ -3,7 +3,7 @@
 -- cut to just that, the new starts in the tapes are the sums of the report columns. Where one tree's words or thresholds are cut shorter than it used, and no tree's before it,
 -- it is refusal 7 at that tree, whatever is left to those after it. It holds because a forest is its trees and each looks at no more than it uses; of the checks one alone
 -- asks for a tape, that of the starts in the tapes, and what is laid anew has good ones. Assumes nothing.
-use Prim.Native.Nat.{ℕ, zero, suc, _-_, _<_, _≤_}
+use Prim.Native.Nat.{ℕ, suc, _-_, _<_, _≤_}
 use native.Mathlib.Nat.{le-refl, zero-add}
 use native.Mathlib.Omega.{arith}
 use mathlib.Core.Path.{_≡_, refl, sym, ap, _∙_, subst}
@@ -15,26 +15,31 @@ use lib.Seq.{take-take, length-take-le, getD-set-same, getD-set-other, ext-getD}
 use lib.Dec.{T, leb}
 use lib.Ieee.{Float}
 use lib.Ieee.Fits.{and-l, and-i}
+use Rattle.rules.specs.declared.Refusal.{Refusal}
+use Rattle.rules.specs.declared.Checked.{Checked}
 use Rattle.rules.specs.declared.Report.{Report}
 use Rattle.rules.specs.declared.Place.{Place}
 use Rattle.rules.specs.declared.TreeAnswer.{TreeAnswer}
 use Rattle.rules.specs.declared.ForestAnswer.{ForestAnswer}
 use Rattle.rules.specs.Words.{from, front, filled, total}
 use Rattle.rules.specs.Lent.{Data, OneTree, Reports, WaitingForm, TreeRooms, ForestRooms, Outcome, kept, keptRows, shortest, zeroColumns, zeroReports, zeroWork}
-use Rattle.rules.specs.Checks.{firstFailed, lengths, goodTapeStarts, roomFor}
+use Rattle.rules.specs.Checks.{numbered, checked, lengths, goodTapeStarts, roomFor}
+use Rattle.rules.specs.Listing.{orderTests}
 use Rattle.rules.specs.Fit.{Tree, fit, oneTreeOf, fitTree}
 use Rattle.rules.specs.Forest.{ForestCall, forestCall, part, oneTreeAt, eachTree, Forest, stopped, grownAll, nextTree, growTrees, grownForest, tapesGood, roomsGood, forestTests, forestDone, forestEnds, fitForest}
-use Rattle.rules.specs.Answers.{Told, forestTold, told}
-use Rattle.lemmas.specs.Lists.{Every, every-imp, from-below, drop-take, total-map, length-from, getD-from}
+use Rattle.rules.specs.Answers.{forestTold, told}
+use Rattle.lemmas.specs.Lists.{is-true, Every, every-imp, from-below, drop-take, total-map, length-from, getD-from}
 use Rattle.lemmas.specs.Outs.{then-of}
 use Rattle.lemmas.specs.Tapes.{Begins}
-use Rattle.lemmas.specs.Passed.{past, goes-on, none-fails}
+use Rattle.lemmas.specs.Passed.{past-test, past-all}
+use Rattle.lemmas.specs.Tests.{goes-on, all-go-on, none-left}
 use Rattle.lemmas.specs.Written.{front-length}
 use Rattle.lemmas.specs.Answered.{TreeAnswered, tree-answered, ForestAnswered, forest-answered, forest-right, trees-length}
 use Rattle.demands.specs.Pieces.{sums, cutsOf, piece-at, tape-starts-good}
 use Rattle.demands.specs.Numbers.{columns-long}
 use Rattle.demands.specs.ItsTrees.{between, treeCallAt, reportAt, ownRooms, frame-same, its-trees, tree-alone}
 use Rattle.demands.specs.Refusals.{ForestUnrefused, forest-passes}
+use Rattle.demands.specs.Refused.{forest-some}
 use Rattle.demands.specs.FirstBad.{first-bad-alone}
 use Rattle.demands.specs.DrawsUsed.{cutTo, Refusal7, Exact, fit-again, Within, fit-within, draws-used}
 
@@ -44,7 +49,7 @@ use Rattle.demands.specs.DrawsUsed.{cutTo, Refusal7, Exact, fit-again, W
 abbrev pub EachExact : Type 1
 EachExact =
     (W X : Type 0) (K : WaitingForm W) (L : WaitingForm X) (C : ForestCall) (R : ForestRooms W) → fitForest K C R .answer ≡ ForestAnswer.Grown
-    → (t : ℕ) → t < C .trees → (Q : TreeRooms X) → fitTree L (treeCallAt C t) Q .answer ≢ TreeAnswer.Refused 6
+    → (t : ℕ) → t < C .trees → (Q : TreeRooms X) → fitTree L (treeCallAt C t) Q .answer ≢ TreeAnswer.Refused (numbered 6)
     → Exact L (treeCallAt C t) Q (reportAt (fitForest K C R .rooms .reports) t)
 
 -- tree t's parts of both tapes
@@ -110,21 +115,21 @@ abbrev pub lessAt : ℕ → List ℕ → List ℕ
 lessAt t ns = set ns t (getD ns t 0 - 1)
 
 -- refusal 7 at tree t, as it is told
-abbrev pub ToldBad : {W : Type 0} → ℕ → Outcome Told (ForestRooms W) → Type 0
-ToldBad t y = (y .answer .number ≡ 7) × (y .answer .tree ≡ t)
+abbrev pub ToldBad : {W : Type 0} → ℕ → Outcome Refusal (ForestRooms W) → Type 0
+ToldBad t y = (y .answer .number ≡ 7) × (y .answer .part ≡ t)
 
 -- x is what a call left, the columns c among it, y what the call left with its tapes cut to what c says was used, or with one tree's words or thresholds one shorter
-pub record ForestCutExact {W : Type 0} (K : WaitingForm W) (C : ForestCall) (R : ForestRooms W) (x : Outcome Told (ForestRooms W)) (c : Reports) : Type 0 where
-  pub same : (y : Outcome Told (ForestRooms W)) → y ≡ told forestTold (fitForest K (forestCut (c .words) (c .thresholds) C) R) → y ≡ x
+pub record ForestCutExact {W : Type 0} (K : WaitingForm W) (C : ForestCall) (R : ForestRooms W) (x : Outcome Refusal (ForestRooms W)) (c : Reports) : Type 0 where
+  pub same : (y : Outcome Refusal (ForestRooms W)) → y ≡ told forestTold (fitForest K (forestCut (c .words) (c .thresholds) C) R) → y ≡ x
   pub wordLess : (t : ℕ) → t < C .trees → 0 < getD (c .words) t 0
-      → (y : Outcome Told (ForestRooms W)) → y ≡ told forestTold (fitForest K (forestCut (lessAt t (c .words)) (c .thresholds) C) R) → ToldBad t y
+      → (y : Outcome Refusal (ForestRooms W)) → y ≡ told forestTold (fitForest K (forestCut (lessAt t (c .words)) (c .thresholds) C) R) → ToldBad t y
   pub thresholdLess : (t : ℕ) → t < C .trees → 0 < getD (c .thresholds) t 0
-      → (y : Outcome Told (ForestRooms W)) → y ≡ told forestTold (fitForest K (forestCut (c .words) (lessAt t (c .thresholds)) C) R) → ToldBad t y
+      → (y : Outcome Refusal (ForestRooms W)) → y ≡ told forestTold (fitForest K (forestCut (c .words) (lessAt t (c .thresholds)) C) R) → ToldBad t y
 
 -- of a call that told no refusal
 abbrev pub ForestCallsExact : Type 1
 ForestCallsExact =
-    (W : Type 0) (K : WaitingForm W) (C : ForestCall) (R : ForestRooms W) (x : Outcome Told (ForestRooms W)) → x ≡ told forestTold (fitForest K C R) → x .answer .number ≡ 0
+    (W : Type 0) (K : WaitingForm W) (C : ForestCall) (R : ForestRooms W) (x : Outcome Refusal (ForestRooms W)) → x ≡ told forestTold (fitForest K C R) → x .answer .number ≡ 0
     → ForestCutExact K C R x (x .rooms .reports)
 
 -- ---- each tree
@@ -195,19 +200,20 @@ unfolding forestDone
 done-unrefused K (stopped d) R = tt
 done-unrefused K (grownAll ts) R = tt
 
-module _ {W : Type 0} (K : WaitingForm W) (C : ForestCall) (R : ForestRooms W) (q : firstFailed (forestTests K C R) ≡ 0) (ws : List ℕ) (ts : List Float) (wordStarts thresholdStarts : List ℕ)
+module _ {W : Type 0} (K : WaitingForm W) (C : ForestCall) (R : ForestRooms W) (q : checked (forestTests K C R) ≡ Checked.Passed) (ws : List ℕ) (ts : List Float) (wordStarts thresholdStarts : List ℕ)
     (good : T (tapesGood (retaped C ws ts wordStarts thresholdStarts))) where
   abbrev new : ForestCall
   new = retaped C ws ts wordStarts thresholdStarts
 
-  still-passes : firstFailed (forestTests K new R) ≡ 0
+  still-passes : checked (forestTests K new R) ≡ Checked.Passed
   unfolding forestTests roomsGood eachTree oneTreeAt roomFor keptRows kept
   still-passes =
-      let (t₁, q₂) = past 0 _ _ q in let (t₂, q₃) = past 1 _ _ q₂ in let (t₃, q₄) = past 2 _ _ q₃ in
-      let (t₄, q₅) = past 3 _ _ q₄ in let (t₅, q₆) = past 4 _ _ q₅ in let (t₆, q₇) = past 5 _ _ q₆ in
+      let (t₁, q₂) = past-test _ _ q in let (t₂, q₃) = past-test _ _ q₂ in let (t₃, q₄) = past-test _ _ q₃ in
+      let (t₄, q₅) = past-test _ _ q₄ in let (t₅, q₆) = past-all _ _ q₅ in let (t₆, q₇) = past-test _ _ q₆ in
       let n = lengths (C .shape) (C .trees) (C .given) in
-      goes-on 1 _ _ t₁ (goes-on 2 _ _ (and-i n (tapesGood new) (and-l n (tapesGood C) t₂) good)
-      (goes-on 3 _ _ t₃ (goes-on 4 _ _ t₄ (goes-on 5 _ _ t₅ (goes-on 6 _ _ (subst (λ k. T (leb k (shortest (R .nodes)) && roomsGood K C R)) rooms t₆) none-fails)))))
+      sym (goes-on _ _ (is-true _ t₁) (goes-on _ _ (is-true _ (and-i n (tapesGood new) (and-l n (tapesGood C) t₂) good)) (goes-on _ _ (is-true _ t₃) (goes-on _ _ (is-true _ t₄)
+      (all-go-on (orderTests (C .shape) (C .given .inputs .values) (C .given .inputs .listings)) _ t₅
+      (goes-on _ _ (is-true _ (subst (λ k. T (leb k (shortest (R .nodes)) && roomsGood K C R)) rooms t₆)) none-left))))))
     where
       rooms : total roomFor (eachTree C) ≡ total roomFor (eachTree new)
       rooms = total-map roomFor (oneTreeAt C) (from 0 (C .trees)) ∙ sym (total-map roomFor (oneTreeAt new) (from 0 (C .trees)))
@@ -218,12 +224,12 @@ module _ {W : Type 0} (K : WaitingForm W) (C : ForestCall) (R : ForestRooms W) (
 
 -- ---- a bad draw leaves all rooms zero
 
-all-zero : {W : Type 0} (K : WaitingForm W) (R : ForestRooms W) (d : Place) (k : ℕ) (f : Forest) → forestEnds K k f R .answer ≡ ForestAnswer.BadDraw d
+all-zero : {W : Type 0} (K : WaitingForm W) (R : ForestRooms W) (d : Place) (k : Checked) (f : Forest) → forestEnds K k f R .answer ≡ ForestAnswer.BadDraw d
     → forestEnds K k f R ≡ forestDone K (stopped d) R
 unfolding forestEnds forestDone
-all-zero K R d zero (stopped e) h = λ i. record { answer = h i; rooms = forestDone K (stopped e) R .rooms }
-all-zero K R d zero (grownAll ts) h = let z : _≡_ {A = ℕ} 0 1 = cc in absurd (omega arith)
-all-zero K R d (suc k) f h = let z : _≡_ {A = ℕ} 0 1 = cc in absurd (omega arith)
+all-zero K R d Checked.Passed (stopped e) h = λ i. record { answer = h i; rooms = forestDone K (stopped e) R .rooms }
+all-zero K R d Checked.Passed (grownAll ts) h = let z : _≡_ {A = ℕ} 0 1 = cc in absurd (omega arith)
+all-zero K R d (Checked.Refused r) f h = let z : _≡_ {A = ℕ} 0 1 = cc in absurd (omega arith)
 
 -- ---- growth, tree after tree
 
@@ -236,7 +242,7 @@ module _ {W : Type 0} (K : WaitingForm W) (C : ForestCall) (R : ForestRooms W) (
   abbrev columns : Reports
   columns = fitForest K C R .rooms .reports
 
-  passed : firstFailed (forestTests K C R) ≡ 0
+  passed : checked (forestTests K C R) ≡ Checked.Passed
   passed = forest-passes K C R (subst ForestUnrefused (sym g) tt)
 
   answered : (t : ℕ) → t < C .trees → TreeAnswered K (treeCallAt C t) (ownRooms R) (reportAt columns t)
@@ -274,7 +280,7 @@ module _ {W : Type 0} (K : WaitingForm W) (C : ForestCall) (R : ForestRooms W) (
   short : (ns ms : List ℕ) (t : ℕ) → t < C .trees → Enough t (columns .words) ns → Enough t (columns .thresholds) ms
       → Refusal7 K (ownRooms R) (fitTree K (cutTo (getD ns t 0) (getD ms t 0) (treeCallAt C t)) (ownRooms R)) → BadAt K R t (fitForest K (forestCut ns ms C) R)
   unfolding fitForest forestDone
-  short ns ms t h l m (s, e) = (s, all-zero K R _ (firstFailed (forestTests K (forestCut ns ms C) R)) (grownForest (forestCut ns ms C)) meets)
+  short ns ms t h l m (s, e) = (s, all-zero K R _ (checked (forestTests K (forestCut ns ms C) R)) (grownForest (forestCut ns ms C)) meets)
     where
       meets : fitForest K (forestCut ns ms C) R .answer ≡ ForestAnswer.BadDraw (record { tree = t; search = s })
       meets =
@@ -326,11 +332,14 @@ forest-draws W K C R g =
     }
 
 -- no refusal is told of a grown forest alone
-told-grown : {W : Type 0} (K : WaitingForm W) (R : ForestRooms W) (k : ℕ) (f : Forest) → forestTold (forestEnds K k f R .answer) .number ≡ 0 → forestEnds K k f R .answer ≡ ForestAnswer.Grown
-unfolding forestEnds forestDone
-told-grown K R zero (stopped d) h = absurd (omega arith)
-told-grown K R zero (grownAll ts) h = refl
-told-grown K R (suc k) f h = absurd (omega arith)
+told-grown : {W : Type 0} (K : WaitingForm W) (C : ForestCall) (R : ForestRooms W) → forestTold (fitForest K C R .answer) .number ≡ 0 → fitForest K C R .answer ≡ ForestAnswer.Grown
+unfolding fitForest forestEnds forestDone
+told-grown K C R h = go (checked (forestTests K C R)) refl (grownForest C) h
+  where
+    go : (k : Checked) → checked (forestTests K C R) ≡ k → (f : Forest) → forestTold (forestEnds K k f R .answer) .number ≡ 0 → forestEnds K k f R .answer ≡ ForestAnswer.Grown
+    go Checked.Passed q (stopped d) h = absurd (omega arith)
+    go Checked.Passed q (grownAll ts) h = refl
+    go (Checked.Refused r) q f h = absurd (forest-some K C R r q h)
 
 -- one less than there is at place t, and as many elsewhere
 less-there : (ns : List ℕ) (t : ℕ) → t < length ns → 0 < getD ns t 0 → getD (lessAt t ns) t 0 < getD ns t 0
@@ -342,7 +351,7 @@ less-before ns t u h = subst (λ n. getD ns u 0 ≤ n) (sym (getD-set-other ns t
 pub forest-calls-exact : ForestCallsExact
 unfolding fitForest
 forest-calls-exact W K C R x met none =
-    subst (λ (z : Outcome Told (ForestRooms W)). ForestCutExact K C R z (z .rooms .reports)) (sym met)
+    subst (λ (z : Outcome Refusal (ForestRooms W)). ForestCutExact K C R z (z .rooms .reports)) (sym met)
     (record {
       same = λ y m. m ∙ ap (told forestTold) (d .cut (c .words) (c .thresholds) (λ t h. le-refl _) (λ t h. le-refl _));
       wordLess = λ t h l y m.
@@ -357,10 +366,10 @@ forest-calls-exact W K C R x met none =
     c = fitForest K C R .rooms .reports
 
     g : fitForest K C R .answer ≡ ForestAnswer.Grown
-    g = told-grown K R (firstFailed (forestTests K C R)) (grownForest C) ((λ i. sym met i .answer .number) ∙ none)
+    g = told-grown K C R ((λ i. sym met i .answer .number) ∙ none)
 
     d : ForestExact K C R c
     d = forest-draws W K C R g
 
-    bad : {t : ℕ} {o : Outcome ForestAnswer (ForestRooms W)} {y : Outcome Told (ForestRooms W)} → BadAt K R t o → y ≡ told forestTold o → ToldBad t y
-    bad (s, e) m = ((λ i. m i .answer .number) ∙ (λ i. forestTold (e i .answer) .number), (λ i. m i .answer .tree) ∙ (λ i. forestTold (e i .answer) .tree))
+    bad : {t : ℕ} {o : Outcome ForestAnswer (ForestRooms W)} {y : Outcome Refusal (ForestRooms W)} → BadAt K R t o → y ≡ told forestTold o → ToldBad t y
+    bad (s, e) m = ((λ i. m i .answer .number) ∙ (λ i. forestTold (e i .answer) .number), (λ i. m i .answer .part) ∙ (λ i. forestTold (e i .answer) .part))

@@ -3,7 +3,7 @@
 -- lower it is the lower of the two. The choice moves nothing but thresholds: the same rows go the same way, so the answer, every other column and every other room are
 -- what they are under the other choice. And it moves nothing at all for the random splitter. In plain settings the flag `lower` alone decides: false, as in settings
 -- of zeros, is the midpoint. Assumes nothing.
-use Prim.Native.Nat.{ℕ, zero, suc, _+_, _-_, _<_}
+use Prim.Native.Nat.{ℕ, suc, _+_, _-_, _<_}
 use mathlib.Core.Path.{_≡_, refl, sym, ap, subst, _∙_}
 use mathlib.Core.Logic.{_⊎_, inl, inr}
 use mathlib.Core.Bool.{true, false, _&&_}
@@ -11,6 +11,7 @@ use mathlib.Core.List.{List, [], _∷_, _++_, map, map-map, map-append}
 use lib.ListN.{length, getD}
 use lib.Dec.{T, leb}
 use lib.Ieee.{Float, lt, le}
+use Rattle.rules.specs.declared.Checked.{Checked}
 use Rattle.rules.specs.declared.Params.{Params}
 use Rattle.rules.specs.declared.Settings.{Settings}
 use Rattle.rules.specs.declared.Height.{Height}
@@ -27,8 +28,8 @@ use Rattle.rules.specs.Words.{from, front, total}
 use Rattle.rules.specs.Totals.{valueOf}
 use Rattle.rules.specs.Threshold.{thresholdBetween}
 use Rattle.rules.specs.Lent.{Data, OneTree, Columns, Entry, WaitingForm, TreeRooms, ForestRooms, Outcome, cell, kept, keptRows, entriesAt, shortest, writeEntries, writeReports}
-use Rattle.rules.specs.Checks.{test, firstFailed, shapeIn, treesIn, lengths, numbersGood, countsGood, countsOne, roomFor}
-use Rattle.rules.specs.Listing.{listingsGood}
+use Rattle.rules.specs.Checks.{test, checked, shapeIn, treesIn, lengths, numbersGood, countsGood, countsOne, roomFor}
+use Rattle.rules.specs.Listing.{orderTests}
 use Rattle.rules.specs.Draws.{Out, bad, ok, Source}
 use Rattle.rules.specs.Search.{Element, at, NodeRows, search}
 use Rattle.rules.specs.Growth.{TreeNode}
@@ -228,7 +229,7 @@ written-bare es es′ c h = λ i.
 tree-alone : (W : Type 0) (K : WaitingForm W) (g : Height) (C : TreeCall) (R : TreeRooms W) → Binary64 (C .given .inputs .values)
     → treeBare (fitTree K (treeCut g C) R) ≡ treeBare (fitTree K C R)
 unfolding fitTree treeTests treeEnds treeDone roomFor keptRows kept oneTreeOf paramsOf grownTree
-tree-alone W K g C R held = go (firstFailed (treeTests K C R)) refl
+tree-alone W K g C R held = go (checked (treeTests K C R)) refl
   where
     done : (o o′ : Out Tree) → Both Alike o o′ → treeBare (treeDone K o′ R) ≡ treeBare (treeDone K o R)
     done (bad m) (bad n) h = ap (λ k. treeBare (treeDone K (bad k) R)) (sym h)
@@ -241,18 +242,18 @@ tree-alone W K g C R held = go (firstFailed (treeTests K C R)) refl
           rooms = record { nodes = sym (written-bare (entries (t .nodes)) (entries (t′ .nodes)) (R .nodes) (h .0)) i; work = treeDone K (ok t) R .rooms .work };
         }
 
-    go : (n : ℕ) → firstFailed (treeTests K C R) ≡ n → treeBare (treeEnds K n (grownTree (treeCut g C)) R) ≡ treeBare (treeEnds K n (grownTree C) R)
-    go zero q = done (grownTree C) (grownTree (treeCut g C)) (fit-alike (oneTreeOf C) (C .given .inputs) (tree-listed K C R held q .0) g)
-    go (suc n) q = refl
+    go : (n : Checked) → checked (treeTests K C R) ≡ n → treeBare (treeEnds K n (grownTree (treeCut g C)) R) ≡ treeBare (treeEnds K n (grownTree C) R)
+    go Checked.Passed q = done (grownTree C) (grownTree (treeCut g C)) (fit-alike (oneTreeOf C) (C .given .inputs) (tree-listed K C R held q .0) g)
+    go (Checked.Refused r) q = refl
 
 tree-unmoved : (W : Type 0) (K : WaitingForm W) (g : Height) (C : TreeCall) (R : TreeRooms W) → Binary64 (C .given .inputs .values) → C .settings .splitter ≡ Random
     → fitTree K (treeCut g C) R ≡ fitTree K C R
 unfolding fitTree treeTests treeEnds roomFor keptRows kept oneTreeOf paramsOf grownTree
-tree-unmoved W K g C R held random = go (firstFailed (treeTests K C R)) refl
+tree-unmoved W K g C R held random = go (checked (treeTests K C R)) refl
   where
-    go : (n : ℕ) → firstFailed (treeTests K C R) ≡ n → treeEnds K n (grownTree (treeCut g C)) R ≡ treeEnds K n (grownTree C) R
-    go zero q = ap (λ o. treeDone K o R) (sym (fit-same (oneTreeOf C) (C .given .inputs) (tree-listed K C R held q .0) g random))
-    go (suc n) q = refl
+    go : (n : Checked) → checked (treeTests K C R) ≡ n → treeEnds K n (grownTree (treeCut g C)) R ≡ treeEnds K n (grownTree C) R
+    go Checked.Passed q = ap (λ o. treeDone K o R) (sym (fit-same (oneTreeOf C) (C .given .inputs) (tree-listed K C R held q .0) g random))
+    go (Checked.Refused r) q = refl
 
 -- ---- of a forest, tree by tree
 
@@ -288,10 +289,10 @@ starts-same a (t ∷ ts) [] h = absurd h
 starts-same a (t ∷ ts) (t′ ∷ ts′) h = ap (λ l. a ∷ l) (ap (λ n. startsFrom (a + n) ts) (h .0 .1) ∙ starts-same (a + length (t′ .nodes)) ts ts′ (h .1))
 
 module _ {W : Type 0} (K : WaitingForm W) (g : Height) (C : ForestCall) (R : ForestRooms W) (held : Binary64 (C .given .inputs .values)) where
-  forest-listed : firstFailed (forestTests K C R) ≡ 0 → (t : ℕ) → Listed (oneTreeAt C t) (C .given .inputs)
+  forest-listed : checked (forestTests K C R) ≡ Checked.Passed → (t : ℕ) → Listed (oneTreeAt C t) (C .given .inputs)
   forest-listed q t = let p = forest-passed K C R q .passed in listed-right (C .shape) (C .trees) (C .given) p (oneTreeAt C t) (forest-framed C p t) held
 
-  trees-alike : firstFailed (forestTests K C R) ≡ 0 → (k : ℕ) (l : List ℕ)
+  trees-alike : checked (forestTests K C R) ≡ Checked.Passed → (k : ℕ) (l : List ℕ)
       → Forests (growTrees k (map (oneTreeAt C) l) (C .given .inputs)) (growTrees k (map (oneTreeAt (forestCut g C)) l) (C .given .inputs))
   unfolding growTrees oneTreeAt paramsOf
   trees-alike q k [] = tt
@@ -299,7 +300,7 @@ module _ {W : Type 0} (K : WaitingForm W) (g : Height) (C : ForestCall) (R : For
       next-alike k (fit (oneTreeAt C t) (C .given .inputs)) (fit (oneTreeAt (forestCut g C) t) (C .given .inputs)) (fit-alike (oneTreeAt C t) (C .given .inputs) (forest-listed q t) g) _ _
       (trees-alike q (suc k) l)
 
-  trees-same : firstFailed (forestTests K C R) ≡ 0 → C .settings .splitter ≡ Random → (k : ℕ) (l : List ℕ)
+  trees-same : checked (forestTests K C R) ≡ Checked.Passed → C .settings .splitter ≡ Random → (k : ℕ) (l : List ℕ)
       → growTrees k (map (oneTreeAt C) l) (C .given .inputs) ≡ growTrees k (map (oneTreeAt (forestCut g C)) l) (C .given .inputs)
   unfolding growTrees oneTreeAt paramsOf
   trees-same q random k [] = refl
@@ -312,8 +313,8 @@ module _ {W : Type 0} (K : WaitingForm W) (g : Height) (C : ForestCall) (R : For
       ∷ test 2 (lengths (C .shape) (C .trees) (C .given) && tapesGood C)
       ∷ test 3 (numbersGood (C .given))
       ∷ test 4 (countsGood (C .given) && countsOne (C .given))
-      ∷ test 5 (listingsGood (C .shape) (C .given .inputs .values) (C .given .inputs .listings))
-      ∷ test 6 (leb (rooms i) (shortest (R .nodes)) && roomsGood K C R)
+      ∷ orderTests (C .shape) (C .given .inputs .values) (C .given .inputs .listings)
+      ++ test 6 (leb (rooms i) (shortest (R .nodes)) && roomsGood K C R)
       ∷ []
     where
       rooms : total roomFor (eachTree (forestCut g C)) ≡ total roomFor (eachTree C)
@@ -338,19 +339,19 @@ module _ {W : Type 0} (K : WaitingForm W) (g : Height) (C : ForestCall) (R : For
 
   forest-alone : forestBare (fitForest K (forestCut g C) R) ≡ forestBare (fitForest K C R)
   unfolding fitForest forestEnds grownForest eachTree
-  forest-alone = ap (λ l. forestBare (forestEnds K (firstFailed l) (grownForest (forestCut g C)) R)) tests-same ∙ go (firstFailed (forestTests K C R)) refl
+  forest-alone = ap (λ l. forestBare (forestEnds K (checked l) (grownForest (forestCut g C)) R)) tests-same ∙ go (checked (forestTests K C R)) refl
     where
-      go : (n : ℕ) → firstFailed (forestTests K C R) ≡ n → forestBare (forestEnds K n (grownForest (forestCut g C)) R) ≡ forestBare (forestEnds K n (grownForest C) R)
-      go zero q = done-alike (grownForest C) (grownForest (forestCut g C)) (trees-alike q 0 (from 0 (C .trees)))
-      go (suc n) q = refl
+      go : (n : Checked) → checked (forestTests K C R) ≡ n → forestBare (forestEnds K n (grownForest (forestCut g C)) R) ≡ forestBare (forestEnds K n (grownForest C) R)
+      go Checked.Passed q = done-alike (grownForest C) (grownForest (forestCut g C)) (trees-alike q 0 (from 0 (C .trees)))
+      go (Checked.Refused r) q = refl
 
   forest-unmoved : C .settings .splitter ≡ Random → fitForest K (forestCut g C) R ≡ fitForest K C R
   unfolding fitForest forestEnds grownForest eachTree
-  forest-unmoved random = ap (λ l. forestEnds K (firstFailed l) (grownForest (forestCut g C)) R) tests-same ∙ go (firstFailed (forestTests K C R)) refl
+  forest-unmoved random = ap (λ l. forestEnds K (checked l) (grownForest (forestCut g C)) R) tests-same ∙ go (checked (forestTests K C R)) refl
     where
-      go : (n : ℕ) → firstFailed (forestTests K C R) ≡ n → forestEnds K n (grownForest (forestCut g C)) R ≡ forestEnds K n (grownForest C) R
-      go zero q = ap (λ f. forestDone K f R) (sym (trees-same q random 0 (from 0 (C .trees))))
-      go (suc n) q = refl
+      go : (n : Checked) → checked (forestTests K C R) ≡ n → forestEnds K n (grownForest (forestCut g C)) R ≡ forestEnds K n (grownForest C) R
+      go Checked.Passed q = ap (λ f. forestDone K f R) (sym (trees-same q random 0 (from 0 (C .trees))))
+      go (Checked.Refused r) q = refl
 
 pub thresholds-alone : ThresholdsAlone
 thresholds-alone W K g = ((λ C R held. tree-alone W K g C R held), (λ C R held. forest-alone K g C R held))

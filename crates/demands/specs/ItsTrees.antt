@@ -13,20 +13,23 @@ use lib.ListN.{length, getD, take, drop}
 use lib.Dec.{T, leb, eqb, eqb-refl, le→leb}
 use lib.Ieee.{nan}
 use lib.Ieee.Fits.{and-l, and-i}
+use Rattle.rules.specs.declared.Checked.{Checked}
 use Rattle.rules.specs.declared.Report.{Report}
 use Rattle.rules.specs.declared.TreeAnswer.{TreeAnswer}
 use Rattle.rules.specs.declared.ForestAnswer.{ForestAnswer}
 use Rattle.rules.specs.Words.{front, total}
 use Rattle.rules.specs.Lent.{OneTree, Reports, WaitingForm, TreeRooms, ForestRooms, Outcome, unweighted, shortest, entriesAt}
-use Rattle.rules.specs.Checks.{Test, test, firstFailed, shapeIn, treesIn, valuesLong, listingsLong, lengths, numbersGood, countsGood, countsOne, roomFor, workEnough}
+use Rattle.rules.specs.Checks.{Test, test, numbered, checked, shapeIn, treesIn, valuesLong, listingsLong, lengths, numbersGood, countsGood, countsOne, roomFor, workEnough}
 use Rattle.rules.specs.Draws.{Out, bad, ok}
+use Rattle.rules.specs.Listing.{orderTests}
 use Rattle.rules.specs.Fit.{Tree, fit, entries, paramsOf, TreeCall, oneTreeOf, grownTree, treeTests, treeDone, treeEnds, fitTree}
 use Rattle.rules.specs.Table.{treeAt, treesOf}
 use Rattle.rules.specs.Forest.{ForestCall, triedOf, part, oneTreeAt, eachTree, tapesGood, forestTests, fitForest}
 use Rattle.lemmas.specs.Lists.{is-true, each, all-pass, every-take, every-drop, drop-take, total-from, getD-from}
 use Rattle.lemmas.specs.Outs.{then-of}
 use Rattle.lemmas.specs.Root.{fit-reported}
-use Rattle.lemmas.specs.Passed.{past, ForestPassed, forest-passed}
+use Rattle.lemmas.specs.Tests.{goes-on, all-go-on}
+use Rattle.lemmas.specs.Passed.{past-test, past-all, ForestPassed, forest-passed}
 use Rattle.lemmas.specs.Written.{tree-written, tables, trees-written}
 use Rattle.lemmas.specs.Answered.{reportOr, GrewAt, ForestAnswered, forest-answered, trees-length, tree-at}
 use Rattle.demands.specs.Refusals.{Unrefused, ForestUnrefused, forest-passes}
@@ -75,7 +78,7 @@ pub record IsTree {W X : Type 0} (left : ForestRooms W) (t : ℕ) (o : Outcome T
 abbrev pub ItsTrees : Type 1
 ItsTrees =
     (W X : Type 0) (K : WaitingForm W) (L : WaitingForm X) (C : ForestCall) (R : ForestRooms W) → fitForest K C R .answer ≡ ForestAnswer.Grown
-    → (t : ℕ) → t < C .trees → (Q : TreeRooms X) → fitTree L (treeCallAt C t) Q .answer ≢ TreeAnswer.Refused 6
+    → (t : ℕ) → t < C .trees → (Q : TreeRooms X) → fitTree L (treeCallAt C t) Q .answer ≢ TreeAnswer.Refused (numbered 6)
     → IsTree (fitForest K C R .rooms) t (fitTree L (treeCallAt C t) Q)
 
 -- what is lent to a forest is not too small for any of its trees
@@ -120,13 +123,11 @@ frame-same C t =
 
 -- ---- its checks
 
-skips : (n : ℕ) (b : Bool) (ts : List Test) → T b → firstFailed (test n b ∷ ts) ≡ firstFailed ts
-unfolding firstFailed
-skips n true ts t = refl
-skips n false ts t = absurd t
+skips : (t : Test) (ts : List Test) → T (t .passes) → checked (t ∷ ts) ≡ checked ts
+skips t ts h = sym (goes-on t ts (is-true (t .passes) h) refl)
 
-last-check : (n : ℕ) (b : Bool) → firstFailed (test n b ∷ []) ≡ cond b 0 n
-unfolding firstFailed
+last-check : (n : ℕ) (b : Bool) → checked (test n b ∷ []) ≡ cond b Checked.Passed (Checked.Refused (numbered n))
+unfolding checked
 last-check n b = refl
 
 eq-test : (a b : ℕ) → a ≡ b → eqb a b ≡ true
@@ -143,30 +144,32 @@ lengths-own C t h long g =
     (ap (λ (F : OneTree). length (F .counts)) (frame-same C t) ∙ tree-parts C g .counts .sizes t h ∙ sym (one-mul (C .shape .rows)))))
     (and-l (lengths (C .shape) (C .trees) (C .given)) (tapesGood C) g)
 
-module _ {W X : Type 0} (K : WaitingForm W) (L : WaitingForm X) (C : ForestCall) (R : ForestRooms W) (q : firstFailed (forestTests K C R) ≡ 0) (t : ℕ) (h : t < C .trees) where
+module _ {W X : Type 0} (K : WaitingForm W) (L : WaitingForm X) (C : ForestCall) (R : ForestRooms W) (q : checked (forestTests K C R) ≡ Checked.Passed) (t : ℕ) (h : t < C .trees) where
   abbrev enough : TreeRooms X → Bool
   enough Q = leb (roomFor (oneTreeOf (treeCallAt C t))) (shortest (Q .nodes)) && workEnough L (C .shape) (Q .work)
 
   -- all but the last pass
-  checked : (Q : TreeRooms X) → firstFailed (treeTests L (treeCallAt C t) Q) ≡ cond (enough Q) 0 6
+  but-one : (Q : TreeRooms X) → checked (treeTests L (treeCallAt C t) Q) ≡ cond (enough Q) Checked.Passed (Checked.Refused (numbered 6))
   unfolding forestTests treeTests numbersGood countsGood
-  checked Q =
-      let (t₁, q₂) = past 0 _ _ q in let (t₂, q₃) = past 1 _ _ q₂ in let (t₃, q₄) = past 2 _ _ q₃ in
-      let (t₄, q₅) = past 3 _ _ q₄ in let (t₅, q₆) = past 4 _ _ q₅ in
-      skips 1 _ _ (and-l (shapeIn (C .shape)) (treesIn (C .trees)) t₁)
-      ∙ skips 2 _ _ (lengths-own C t h (forest-passed K C R q .passed .countsLong) t₂)
-      ∙ skips 3 _ _ t₃
-      ∙ skips 4 _ _ (all-pass (λ c. leb c 65535) _ (every-drop _ (t * C .shape .rows) _ (every-take _ (suc t * C .shape .rows) (C .given .counts)
+  but-one Q =
+      let (t₁, q₂) = past-test _ _ q in let (t₂, q₃) = past-test _ _ q₂ in let (t₃, q₄) = past-test _ _ q₃ in
+      let (t₄, q₅) = past-test _ _ q₄ in let (t₅, q₆) = past-all _ _ q₅ in
+      skips _ _ (and-l (shapeIn (C .shape)) (treesIn (C .trees)) t₁)
+      ∙ skips _ _ (lengths-own C t h (forest-passed K C R q .passed .countsLong) t₂)
+      ∙ skips _ _ t₃
+      ∙ skips _ _ (all-pass (λ c. leb c 65535) _ (every-drop _ (t * C .shape .rows) _ (every-take _ (suc t * C .shape .rows) (C .given .counts)
       (each (λ c. leb c 65535) (C .given .counts) (and-l (countsGood (C .given)) (countsOne (C .given)) t₄)))))
-      ∙ skips 5 _ _ t₅
+      ∙ sym (all-go-on (orderTests (C .shape) (C .given .inputs .values) (C .given .inputs .listings)) _ t₅ refl)
       ∙ last-check 6 (enough Q)
 
   -- so in rooms that are not too small it is the growth of the forest's frame
-  pub own-fit : (Q : TreeRooms X) → fitTree L (treeCallAt C t) Q .answer ≢ TreeAnswer.Refused 6 → fitTree L (treeCallAt C t) Q ≡ treeDone L (fit (oneTreeAt C t) (C .given .inputs)) Q
+  pub own-fit : (Q : TreeRooms X) → fitTree L (treeCallAt C t) Q .answer ≢ TreeAnswer.Refused (numbered 6)
+      → fitTree L (treeCallAt C t) Q ≡ treeDone L (fit (oneTreeAt C t) (C .given .inputs)) Q
   unfolding fitTree treeEnds grownTree
-  own-fit Q n = go (enough Q) (checked Q)
+  own-fit Q n = go (enough Q) (but-one Q)
     where
-      go : (b : Bool) → firstFailed (treeTests L (treeCallAt C t) Q) ≡ cond b 0 6 → fitTree L (treeCallAt C t) Q ≡ treeDone L (fit (oneTreeAt C t) (C .given .inputs)) Q
+      go : (b : Bool) → checked (treeTests L (treeCallAt C t) Q) ≡ cond b Checked.Passed (Checked.Refused (numbered 6))
+          → fitTree L (treeCallAt C t) Q ≡ treeDone L (fit (oneTreeAt C t) (C .given .inputs)) Q
       go true e = λ i. treeEnds L (e i) (fit (frame-same C t i) (C .given .inputs)) Q
       go false e = absurd (n (λ i. treeEnds L (e i) (grownTree (treeCallAt C t)) Q .answer))
 
@@ -238,10 +241,10 @@ pub room-for-each : RoomForEach
 unfolding fitTree treeEnds eachTree
 room-for-each W K C R g t h =
     subst (λ n. Unrefused (treeEnds K n (grownTree (treeCallAt C t)) (ownRooms R) .answer))
-    (sym (checked K K C R q t h (ownRooms R) ∙ ap (λ b. cond b 0 6) (is-true (enough K K C R q t h (ownRooms R)) all)))
+    (sym (but-one K K C R q t h (ownRooms R) ∙ ap (λ b. cond b Checked.Passed (Checked.Refused (numbered 6))) (is-true (enough K K C R q t h (ownRooms R)) all)))
     (done-unrefused K (grownTree (treeCallAt C t)) (ownRooms R))
   where
-    q : firstFailed (forestTests K C R) ≡ 0
+    q : checked (forestTests K C R) ≡ Checked.Passed
     q = forest-passes K C R g
 
     p : ForestPassed K C R
@@ -257,7 +260,7 @@ room-for-each W K C R g t h =
 
 -- ---- so each tree of a forest that answers is had in the forest's own rooms
 
-pub not-6 : (a : TreeAnswer) → Unrefused a → a ≢ TreeAnswer.Refused 6
+pub not-6 : (a : TreeAnswer) → Unrefused a → a ≢ TreeAnswer.Refused (numbered 6)
 not-6 a h e = subst Unrefused e h
 
 pub tree-alone : {W : Type 0} (K : WaitingForm W) (C : ForestCall) (R : ForestRooms W) → fitForest K C R .answer ≡ ForestAnswer.Grown → (t : ℕ) → t < C .trees

@@ -14,17 +14,20 @@ use lib.Ieee.Scale.{finite}
 use lib.Ieee.Fits.{add-fits, mul-fits, ofInt-fits, up-pos, and-l, and-r}
 use Rattle.floats.specs.Zero.{isZero, isMinusZero, add-zero64, mul-zero64, count-zero, add-not-minus}
 use Rattle.floats.specs.Count.{mass-none, mass-weightless, above-lt}
+use Rattle.rules.specs.declared.Checked.{Checked}
 use Rattle.rules.specs.declared.Shape.{Shape}
 use Rattle.rules.specs.declared.Totals.{Totals}
 use Rattle.rules.specs.Words.{nought, float, from, keep}
 use Rattle.rules.specs.Totals.{empty, takeIn}
 use Rattle.rules.specs.Lent.{Data, Given, OneTree, WaitingForm, TreeRooms, unweighted, kept, valuesAt, countIn, massIn, keptIn}
-use Rattle.rules.specs.Checks.{firstFailed, goodWeight}
+use Rattle.rules.specs.Checks.{checked, goodWeight}
 use Rattle.rules.specs.Draws.{Out, bad, ok}
 use Rattle.rules.specs.Search.{totalsOf}
+use Rattle.rules.specs.Listing.{orderTests}
 use Rattle.rules.specs.Fit.{elementIn, listing, element, column, root, Tree, growFrom, fit, TreeCall, oneTreeOf, grownTree, treeTests, treeDone, treeEnds, fitTree}
-use Rattle.lemmas.specs.Lists.{is-false, Every, every-imp, every-at, every-or, kept-pass, map-same, every-all, from-below}
-use Rattle.lemmas.specs.Passed.{past, goes-on, none-fails, Passed, Framed, tree-passed, tree-framed}
+use Rattle.lemmas.specs.Lists.{is-true, is-false, Every, every-imp, every-at, every-or, kept-pass, map-same, every-all, from-below}
+use Rattle.lemmas.specs.Tests.{goes-on, all-go-on, none-left}
+use Rattle.lemmas.specs.Passed.{past-test, past-all, Passed, Framed, tree-passed, tree-framed}
 use Rattle.demands.specs.Refusals.{Unrefused, tree-passes}
 
 -- ---- the statement
@@ -214,14 +217,16 @@ module _ {W : Type 0} (K : WaitingForm W) where
   done-same (ok t) R R′ = refl
 
   -- where the one is not refused in R, nor the other in any rooms, the other is not refused in R
-  passes-too : (C : TreeCall) (E : Data) (R R′ : TreeRooms W) → firstFailed (treeTests K C R) ≡ 0 → firstFailed (treeTests K (over C E) R′) ≡ 0 → firstFailed (treeTests K (over C E) R) ≡ 0
+  passes-too : (C : TreeCall) (E : Data) (R R′ : TreeRooms W) → checked (treeTests K C R) ≡ Checked.Passed → checked (treeTests K (over C E) R′) ≡ Checked.Passed
+      → checked (treeTests K (over C E) R) ≡ Checked.Passed
   unfolding treeTests oneTreeOf
   passes-too C E R R′ c₁ e₁ =
-      let (x₁, c₂) = past 0 _ _ c₁ in let (x₂, c₃) = past 1 _ _ c₂ in let (x₃, c₄) = past 2 _ _ c₃ in
-      let (x₄, c₅) = past 3 _ _ c₄ in let (x₅, c₆) = past 4 _ _ c₅ in let (x₆, c₇) = past 5 _ _ c₆ in
-      let (t₁, e₂) = past 0 _ _ e₁ in let (t₂, e₃) = past 1 _ _ e₂ in let (t₃, e₄) = past 2 _ _ e₃ in
-      let (t₄, e₅) = past 3 _ _ e₄ in let (t₅, e₆) = past 4 _ _ e₅ in
-      goes-on 1 _ _ t₁ (goes-on 2 _ _ t₂ (goes-on 3 _ _ t₃ (goes-on 4 _ _ t₄ (goes-on 5 _ _ t₅ (goes-on 6 _ _ x₆ none-fails)))))
+      let (x₁, c₂) = past-test _ _ c₁ in let (x₂, c₃) = past-test _ _ c₂ in let (x₃, c₄) = past-test _ _ c₃ in
+      let (x₄, c₅) = past-test _ _ c₄ in let (x₅, c₆) = past-all (orderTests (C .shape) (C .given .inputs .values) (C .given .inputs .listings)) _ c₅ in let (x₆, c₇) = past-test _ _ c₆ in
+      let (t₁, e₂) = past-test _ _ e₁ in let (t₂, e₃) = past-test _ _ e₂ in let (t₃, e₄) = past-test _ _ e₃ in
+      let (t₄, e₅) = past-test _ _ e₄ in let (t₅, e₆) = past-all (orderTests (C .shape) (E .values) (E .listings)) _ e₅ in
+      sym (goes-on _ _ (is-true _ t₁) (goes-on _ _ (is-true _ t₂) (goes-on _ _ (is-true _ t₃) (goes-on _ _ (is-true _ t₄)
+      (all-go-on (orderTests (C .shape) (E .values) (E .listings)) _ t₅ (goes-on _ _ (is-true _ x₆) none-left))))))
 
 pub demand3 : Demand3
 unfolding fitTree treeEnds grownTree oneTreeOf
@@ -233,10 +238,10 @@ demand3 W K C E R R′ like h h′ =
       outcomes = λ i. treeEnds K ((q ∙ sym (passes-too K C E R R′ q q′)) i) (same i) R;
     }
   where
-    q : firstFailed (treeTests K C R) ≡ 0
+    q : checked (treeTests K C R) ≡ Checked.Passed
     q = tree-passes K C R h
 
-    q′ : firstFailed (treeTests K (over C E) R′) ≡ 0
+    q′ : checked (treeTests K (over C E) R′) ≡ Checked.Passed
     q′ = tree-passes K (over C E) R′ h′
 
     same : grownTree C ≡ grownTree (over C E)

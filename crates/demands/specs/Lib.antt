@@ -2,6 +2,9 @@
 
 -- demand 1: refusals and rooms
 pub mod Refusals
+pub mod Refused
+pub mod Places
+pub mod Listings
 pub mod Told
 pub mod Rooms
 -- demand 3: rows that a tree leaves out

@@ -10,6 +10,7 @@ use mathlib.Core.Bool.{false}
 use mathlib.Core.List.{List, [], _∷_, _++_, map}
 use lib.ListN.{length}
 use lib.Ieee.{lt, ofBits}
+use Rattle.rules.specs.declared.Checked.{Checked}
 use Rattle.rules.specs.declared.Params.{Params}
 use Rattle.rules.specs.declared.Depth.{Depth}
 use Rattle.rules.specs.declared.Depth.the-variants.{Unlimited, AtMost}
@@ -19,7 +20,7 @@ use Rattle.rules.specs.declared.TreeAnswer.{TreeAnswer}
 use Rattle.rules.specs.Words.{nought, from, total}
 use Rattle.rules.specs.Totals.{empty, valueOf}
 use Rattle.rules.specs.Lent.{Data, OneTree, WaitingForm, TreeRooms, ForestRooms, Outcome, kept, countIn, keptRows, leafEntry, writeEntries, zeroWork}
-use Rattle.rules.specs.Checks.{firstFailed, roomFor}
+use Rattle.rules.specs.Checks.{checked, roomFor}
 use Rattle.rules.specs.Draws.{Out, ok, bind, Tapes, tape}
 use Rattle.rules.specs.Search.{NodeRows, Found, noCut, cutFound, totalsOf, search}
 use Rattle.rules.specs.Growth.{Waiting, State, joins, searchIf, runs, expand, growAll, fromRoot, leafOf}
@@ -193,7 +194,7 @@ limit-unmet W K C R r d h u u′ =
     then-of (λ t. t .report .depth ≤ max 1 (r .depth) → grownTree (treeUnder d C) ≡ ok t) (grownTree C) (a .tree) (a .grew)
     (fit-unmet (oneTreeOf C) (C .given .inputs) (limitOf d) (max 1 (r .depth)) (omega arith) (below (C .settings .depth) u) (below d u′))
     (omega (arith, ap (λ (x : Report). x .depth) (a .reported))) in
-    λ i. treeEnds K (firstFailed (treeTests K C R)) ((same ∙ sym (a .grew)) i) R
+    λ i. treeEnds K (checked (treeTests K C R)) ((same ∙ sym (a .grew)) i) R
   where
     below : (d : Depth) → max 1 (r .depth) < most d → max 1 (r .depth) < limitOf d
     below d l = subst (λ n. max 1 (r .depth) < n) (sym (limit-most d)) l
@@ -232,7 +233,7 @@ nothing-kept W K C R none h = λ i. treeEnds K (q i) ((ap (growFrom F) (root-emp
     D : Data
     D = C .given .inputs
 
-    q : firstFailed (treeTests K C R) ≡ 0
+    q : checked (treeTests K C R) ≡ Checked.Passed
     q = tree-passes K C R h
 
     accepts : Accepted F D

@@ -11,11 +11,12 @@ use lib.Dec.{T, leb, ltb, eqb, leb→le, le→leb, lt→ltb, eqb→eq}
 use lib.Ieee.{Float, nan, binary64, fits, add, div, ofInt, ofBits}
 use lib.Ieee.Fits.{and-l, eq→eqb, add-fits}
 use Rattle.floats.specs.Sign.{plain, zero-add64, add-two64, div-one64}
+use Rattle.rules.specs.declared.Checked.{Checked}
 use Rattle.rules.specs.declared.Shape.{Shape}
 use Rattle.rules.specs.declared.Reply.{Reply}
 use Rattle.rules.specs.Words.{nought, float, from, every, along, alongFrom, putIf}
 use Rattle.rules.specs.Lent.{Columns, Entry, shortest, entryAt, entriesAt, valuesAt}
-use Rattle.rules.specs.Checks.{Test, test, firstFailed, within, rowsIn, treesIn, shapeIn, valuesLong}
+use Rattle.rules.specs.Checks.{Test, test, numbered, checked, numberOf, firstFailed, within, rowsIn, treesIn, shapeIn, valuesLong}
 use Rattle.rules.specs.Table.{goodFrom, goodTree, treeIn, ForestTable, startsGood, treeAt, treesOf, goodForest, startsEnough}
 use Rattle.rules.specs.Reading.{noEntry, leafValue, reads, predictTests, predictTree, addTrees, meanOf, meanTests, forestMeans}
 use Rattle.rules.specs.OutOfBag.{outTrees, outOfBagMean, outTests, outOfBagMeans}
@@ -181,10 +182,10 @@ all-out rows n i t (es ∷ ts) =
 -- counts of the right length are looked at without effect, once the ranges are right
 counts-pass : (b : Bool) (counts : List ℕ) (n : ℕ) (ts : List Test) → (T b → 0 < n) → length counts ≡ n
     → firstFailed (test 1 b ∷ test 9 (ltb 0 (length counts)) ∷ test 10 (eqb (length counts) n) ∷ ts) ≡ firstFailed (test 1 b ∷ ts)
-unfolding firstFailed
+unfolding checked
 counts-pass true counts n ts some long =
-    λ i. cond (is-true (ltb 0 (length counts)) (lt→ltb 0 (length counts) (subst (λ k. 0 < k) (sym long) (some tt))) i)
-    (cond (is-true (eqb (length counts) n) (eq→eqb long) i) (firstFailed ts) 10) 9
+    λ i. numberOf (cond (is-true (ltb 0 (length counts)) (lt→ltb 0 (length counts) (subst (λ k. 0 < k) (sym long) (some tt))) i)
+    (cond (is-true (eqb (length counts) n) (eq→eqb long) i) (checked ts) (Checked.Refused (numbered 10))) (Checked.Refused (numbered 9)))
 counts-pass false counts n ts some long = refl
 
 pub in-no-bag : InNoBag

@@ -16,7 +16,8 @@ use Rattle.rules.specs.declared.NodeReply.{NodeReply}
 use Rattle.rules.specs.declared.TreeSettings.{TreeSettings}
 use Rattle.rules.specs.declared.ForestSettings.{ForestSettings}
 use Rattle.rules.specs.declared.TreeTold.{TreeTold}
-use Rattle.rules.specs.declared.ForestTold.{ForestTold}
+use Rattle.rules.specs.declared.Refusal.{Refusal}
+use Rattle.rules.specs.declared.Checked.{Checked}
 use Rattle.rules.specs.declared.ErrorTold.{ErrorTold}
 use Rattle.rules.specs.declared.NodeTold.{NodeTold}
 use Rattle.rules.specs.Lent.{Given, Columns, WaitingForm, TreeRooms, ForestRooms, Outcome, WaitingRoom, waitingRoom}
@@ -26,8 +27,8 @@ use Rattle.rules.specs.Table.{checkTree, ForestTable, tableOf, checkForest, rea
 use Rattle.rules.specs.Reading.{predictTree, forestMeans, treeImportances, forestImportances}
 use Rattle.rules.specs.Forest.{ForestCall, forestCall, fitForest}
 use Rattle.rules.specs.OutOfBag.{outOfBagMeans, outOfBagError}
-use Rattle.rules.specs.Answers.{treeTold, forestTold, replyTold, errorTold, nodeTold, told}
-use Rattle.rules.specs.Plain.{treeSettingsOf, forestSettingsOf, triedFrom, scaleOf, treeNumbers, forestNumbers, errorNumbers, nodeNumbers}
+use Rattle.rules.specs.Answers.{treeTold, forestTold, checkTold, replyTold, errorTold, nodeTold, told}
+use Rattle.rules.specs.Plain.{treeSettingsOf, forestSettingsOf, triedFrom, scaleOf, treeNumbers, errorNumbers, nodeNumbers}
 
 module _ {W : Type 0} (K : WaitingForm W) where
   -- every public call, with its inputs and the rooms lent to it
@@ -55,7 +56,7 @@ module _ {W : Type 0} (K : WaitingForm W) where
   Left (errs-by rows ys ms) = ErrorReply
   Left (tree-weighs features by c out) = Outcome Reply (List Float)
   Left (forest-weighs features T out) = Outcome Reply (List Float)
-  Left (checks-listings S xs ls) = Reply
+  Left (checks-listings S xs ls) = Checked
   Left (checks-tree features c) = Reply
   Left (checks-forest features T) = Reply
   Left (reads-node features c k) = NodeReply
@@ -100,14 +101,14 @@ pub data Exported : Type 0 where
 -- what crosses back
 abbrev pub Back : Exported → Type 0
 Back (fit-tree rows features s given ws ts R) = Outcome TreeTold (TreeRooms WaitingRoom)
-Back (fit-forest rows features trees s given ws ts wcs tcs R) = Outcome ForestTold (ForestRooms WaitingRoom)
+Back (fit-forest rows features trees s given ws ts wcs tcs R) = Outcome Refusal (ForestRooms WaitingRoom)
 Back (predict-tree rows features xs c out) = Outcome ℕ (List Float)
 Back (forest-means rows features trees xs starts c out) = Outcome ℕ (List Float)
 Back (out-of-bag-means rows features trees xs counts starts c out) = Outcome ℕ (List Float)
 Back (out-of-bag-error rows ys ms) = ErrorTold
 Back (tree-importances features massed mass c out) = Outcome ℕ (List Float)
 Back (forest-importances features trees starts c out) = Outcome ℕ (List Float)
-Back (check-listings rows features xs ls) = ℕ
+Back (check-listings rows features xs ls) = Refusal
 Back (check-tree features c) = ℕ
 Back (check-forest features trees starts c) = ℕ
 Back (read-node features c k) = NodeTold
@@ -120,8 +121,7 @@ abbrev pub Promised : (c : Exported) → Back c → Type 0
 Promised (fit-tree rows features s given ws ts R) b =
     told treeNumbers b ≡ told treeTold (fitTree waitingRoom (treeCall (shapeOf rows features) (treeSettingsOf s) (s .tried) given ws ts) R)
 Promised (fit-forest rows features trees s given ws ts wcs tcs R) b =
-    told forestNumbers b
-    ≡ told forestTold (fitForest waitingRoom (forestCall (shapeOf rows features) trees (forestSettingsOf s) (triedFrom (s .said) (s .tried)) given ws ts wcs tcs) R)
+    b ≡ told forestTold (fitForest waitingRoom (forestCall (shapeOf rows features) trees (forestSettingsOf s) (triedFrom (s .said) (s .tried)) given ws ts wcs tcs) R)
 Promised (predict-tree rows features xs c out) b = b ≡ told replyTold (predictTree (shapeOf rows features) xs c out)
 Promised (forest-means rows features trees xs starts c out) b = b ≡ told replyTold (forestMeans (shapeOf rows features) xs (tableOf trees starts c) out)
 Promised (out-of-bag-means rows features trees xs counts starts c out) b =
@@ -129,7 +129,7 @@ Promised (out-of-bag-means rows features trees xs counts starts c out) b =
 Promised (out-of-bag-error rows ys ms) b = errorNumbers b ≡ errorTold (outOfBagError rows ys ms)
 Promised (tree-importances features massed mass c out) b = b ≡ told replyTold (treeImportances features (scaleOf massed mass) c out)
 Promised (forest-importances features trees starts c out) b = b ≡ told replyTold (forestImportances features (tableOf trees starts c) out)
-Promised (check-listings rows features xs ls) b = b ≡ replyTold (checkListings (shapeOf rows features) xs ls)
+Promised (check-listings rows features xs ls) b = b ≡ checkTold (checkListings (shapeOf rows features) xs ls)
 Promised (check-tree features c) b = b ≡ replyTold (checkTree features c)
 Promised (check-forest features trees starts c) b = b ≡ replyTold (checkForest features (tableOf trees starts c))
 Promised (read-node features c k) b = nodeNumbers b ≡ nodeTold (readNode features c k)
@@ -140,9 +140,10 @@ pub tree-numbers : (a b : TreeTold) → treeNumbers a ≡ treeNumbers b → a �
 tree-numbers a b h =
     λ i.
     record {
-      number = h i .number;
-      tree = h i .tree;
-      search = h i .search;
+      number = h i .refusal .number;
+      part = h i .refusal .part;
+      place = h i .refusal .place;
+      row = h i .refusal .row;
       nodes = h i .report .nodes;
       depth = h i .report .depth;
       mass = h i .report .mass;
@@ -150,9 +151,6 @@ tree-numbers a b h =
       words = h i .report .words;
       thresholds = h i .report .thresholds;
     }
-
-pub forest-numbers : (a b : ForestTold) → forestNumbers a ≡ forestNumbers b → a ≡ b
-forest-numbers a b h = λ i. record { number = h i .number; tree = h i .tree; search = h i .search }
 
 pub error-numbers : (a b : ErrorTold) → errorNumbers a ≡ errorNumbers b → a ≡ b
 error-numbers a b h = λ i. record { number = h i .number; error = h i .error; rows = h i .rows }
@@ -177,7 +175,7 @@ told-same f same x y h = λ i. record { answer = same (x .answer) (y .answer) (�
 
 pub one-outcome-exported : (c : Exported) (x y : Back c) → Promised c x → Promised c y → x ≡ y
 one-outcome-exported (fit-tree rows features s given ws ts R) x y h k = told-same treeNumbers tree-numbers x y (h ∙ sym k)
-one-outcome-exported (fit-forest rows features trees s given ws ts wcs tcs R) x y h k = told-same forestNumbers forest-numbers x y (h ∙ sym k)
+one-outcome-exported (fit-forest rows features trees s given ws ts wcs tcs R) x y h k = h ∙ sym k
 one-outcome-exported (predict-tree rows features xs c out) x y h k = h ∙ sym k
 one-outcome-exported (forest-means rows features trees xs starts c out) x y h k = h ∙ sym k
 one-outcome-exported (out-of-bag-means rows features trees xs counts starts c out) x y h k = h ∙ sym k

@@ -1,44 +1,49 @@
--- Demand 1: in which order each call makes its checks, and what a refusal leaves. A fit that is refused by 1 to 6 leaves every lent room as it was, and tells the first
--- test that failed. One that meets a bad draw leaves every lent slice as long as it was, with 0 at each place. Each reader that is refused leaves its result room as it was, and
+-- Demand 1: in which order each call makes its checks, and what a refusal leaves. A fit that is refused before growth leaves every lent room as it was, and tells what the
+-- first test that failed tells. One that meets a bad draw leaves every lent slice as long as it was, with 0 at each place. Each reader that is refused leaves its result room as it was, and
 -- tells the first test that failed; a reader or a check that does not refuse has passed all its tests. Assumes nothing.
 use Prim.Native.Nat.{ℕ, zero, suc, _<_, _≤_}
 use native.Mathlib.Omega.{arith}
-use mathlib.Core.Path.{_≡_, refl}
+use mathlib.Core.Path.{_≡_, refl, ap, _∙_, subst}
 use mathlib.Core.Bool.{Bool, true, false, cond}
-use mathlib.Core.List.{List, [], _∷_, map}
+use mathlib.Core.List.{List, [], _∷_, _++_, map, map-append}
 use lib.ListN.{length, getD, length-map}
-use lib.Dec.{ltb}
+use lib.Dec.{T, ltb}
 use lib.Ieee.{Float}
 use Rattle.rules.specs.declared.Shape.{Shape}
 use Rattle.rules.specs.declared.Scale.{Scale}
 use Rattle.rules.specs.declared.Place.{Place}
+use Rattle.rules.specs.declared.Refusal.{Refusal}
+use Rattle.rules.specs.declared.Checked.{Checked}
 use Rattle.rules.specs.declared.TreeAnswer.{TreeAnswer}
 use Rattle.rules.specs.declared.ForestAnswer.{ForestAnswer}
 use Rattle.rules.specs.declared.Reply.{Reply}
 use Rattle.rules.specs.declared.Figure.{Figure}
 use Rattle.rules.specs.declared.ErrorReply.{ErrorReply}
 use Rattle.rules.specs.declared.NodeReply.{NodeReply}
-use Rattle.rules.specs.Words.{nought, filled}
-use Rattle.rules.specs.Lent.{Columns, Reports, WaitingForm, WaitingRoom, waitingRoom, Work, TreeRooms, ForestRooms, Outcome, shortest, entryAt, zeroColumns, zeroReports, zeroWork}
-use Rattle.rules.specs.Checks.{Test, firstFailed, replies}
-use Rattle.rules.specs.Listing.{listingTests, checkListings}
+use Rattle.rules.specs.Words.{nought, filled, from, joined}
+use Rattle.rules.specs.Lent.{Columns, Reports, WaitingForm, WaitingRoom, waitingRoom, Work, TreeRooms, ForestRooms, Outcome, cell, listingAt, shortest, entryAt, zeroColumns, zeroReports, zeroWork}
+use Rattle.rules.specs.Checks.{Test, test, checked, firstFailed, replies}
+use Rattle.rules.specs.Listing.{lowestLacking, testsFrom, columnTests, orderTests, listingTests, checkListings}
 use Rattle.rules.specs.Draws.{Out, bad, ok}
 use Rattle.rules.specs.Fit.{Tree, TreeCall, grownTree, treeTests, treeDone, treeEnds, fitTree}
 use Rattle.rules.specs.Table.{treeTableTests, checkTree, ForestTable, forestTableTests, checkForest, nodeOf, nodeRead, readNode}
 use Rattle.rules.specs.Reading.{reads, predictTests, predictTree, meanTests, forestMeans, treeImportanceTests, treeImportances, forestImportanceTests, forestImportances}
 use Rattle.rules.specs.Forest.{ForestCall, Forest, stopped, grownAll, grownForest, forestTests, forestDone, forestEnds, fitForest}
 use Rattle.rules.specs.OutOfBag.{outTests, outOfBagMeans, errs, errorTests, outOfBagError}
-use Rattle.lemmas.specs.Lists.{Every}
 
 -- ---- the statements
 
 abbrev pub numbers : List Test → List ℕ
-numbers ts = map (λ (t : Test). t .number) ts
+numbers ts = map (λ (t : Test). t .tells .number) ts
+
+-- three at each place of each column
+abbrev pub placeNumbers : Shape → List ℕ → List ℕ
+placeNumbers S ls = joined (λ j. joined (λ k. 11 ∷ 12 ∷ 13 ∷ []) (listingAt (S .rows) ls j)) (from 0 (S .features))
 
 pub record OrderOfChecks {W : Type 0} (K : WaitingForm W) : Type 0 where
-  pub tree : (C : TreeCall) (R : TreeRooms W) → numbers (treeTests K C R) ≡ 1 ∷ 2 ∷ 3 ∷ 4 ∷ 5 ∷ 6 ∷ []
-  pub forest : (C : ForestCall) (R : ForestRooms W) → numbers (forestTests K C R) ≡ 1 ∷ 2 ∷ 3 ∷ 4 ∷ 5 ∷ 6 ∷ []
-  pub listings : (S : Shape) (xs : List Float) (ls : List ℕ) → numbers (listingTests S xs ls) ≡ 1 ∷ 2 ∷ 5 ∷ []
+  pub tree : (C : TreeCall) (R : TreeRooms W) → numbers (treeTests K C R) ≡ 1 ∷ 2 ∷ 3 ∷ 4 ∷ placeNumbers (C .shape) (C .given .inputs .listings) ++ 6 ∷ []
+  pub forest : (C : ForestCall) (R : ForestRooms W) → numbers (forestTests K C R) ≡ 1 ∷ 2 ∷ 3 ∷ 4 ∷ placeNumbers (C .shape) (C .given .inputs .listings) ++ 6 ∷ []
+  pub listings : (S : Shape) (xs : List Float) (ls : List ℕ) → numbers (listingTests S xs ls) ≡ 1 ∷ 2 ∷ placeNumbers S ls
   pub predictions : (S : Shape) (xs : List Float) (c : Columns) (out : List Float) → numbers (predictTests S xs c out) ≡ 1 ∷ 2 ∷ 6 ∷ 8 ∷ []
   pub means : (S : Shape) (xs : List Float) (T : ForestTable) (out : List Float) → numbers (meanTests S xs T out) ≡ 1 ∷ 2 ∷ 6 ∷ 8 ∷ []
   pub outOfBag : (S : Shape) (xs : List Float) (ks : List ℕ) (T : ForestTable) (out : List Float) → numbers (outTests S xs ks T out) ≡ 1 ∷ 9 ∷ 10 ∷ 2 ∷ 6 ∷ 8 ∷ []
@@ -50,8 +55,8 @@ pub record OrderOfChecks {W : Type 0} (K : WaitingForm W) : Type 0 where
 
 abbrev pub TreeRefused : Type 1
 TreeRefused =
-    (W : Type 0) (K : WaitingForm W) (C : TreeCall) (R : TreeRooms W) (n : ℕ) → fitTree K C R .answer ≡ TreeAnswer.Refused n
-    → (fitTree K C R .rooms ≡ R) × (firstFailed (treeTests K C R) ≡ n)
+    (W : Type 0) (K : WaitingForm W) (C : TreeCall) (R : TreeRooms W) (r : Refusal) → fitTree K C R .answer ≡ TreeAnswer.Refused r
+    → (fitTree K C R .rooms ≡ R) × (checked (treeTests K C R) ≡ Checked.Refused r)
 
 -- a slice is as long as it was, and x stands at each of its places, whatever a place beyond them is taken to hold
 abbrev pub Everywhere : {A : Type 0} → A → List A → List A → Type 0
@@ -90,8 +95,8 @@ TreeBad = (C : TreeCall) (R : TreeRooms WaitingRoom) (d : Place) → fitTree wai
 
 abbrev pub ForestRefused : Type 1
 ForestRefused =
-    (W : Type 0) (K : WaitingForm W) (C : ForestCall) (R : ForestRooms W) (n : ℕ) → fitForest K C R .answer ≡ ForestAnswer.Refused n
-    → (fitForest K C R .rooms ≡ R) × (firstFailed (forestTests K C R) ≡ n)
+    (W : Type 0) (K : WaitingForm W) (C : ForestCall) (R : ForestRooms W) (r : Refusal) → fitForest K C R .answer ≡ ForestAnswer.Refused r
+    → (fitForest K C R .rooms ≡ R) × (checked (forestTests K C R) ≡ Checked.Refused r)
 
 pub record ForestZero (before after : ForestRooms WaitingRoom) : Type 0 where
   pub nodes : NodesZero (before .nodes) (after .nodes)
@@ -102,14 +107,14 @@ pub record ForestZero (before after : ForestRooms WaitingRoom) : Type 0 where
 abbrev pub ForestBad : Type 0
 ForestBad = (C : ForestCall) (R : ForestRooms WaitingRoom) (d : Place) → fitForest waitingRoom C R .answer ≡ ForestAnswer.BadDraw d → ForestZero R (fitForest waitingRoom C R .rooms)
 
--- not refused by 1 to 6
+-- not refused before growth
 abbrev pub Unrefused : TreeAnswer → Type 0
-Unrefused (TreeAnswer.Refused n) = ⊥
+Unrefused (TreeAnswer.Refused r) = ⊥
 Unrefused (TreeAnswer.BadDraw d) = Unit {0}
 Unrefused (TreeAnswer.Grown r) = Unit {0}
 
 abbrev pub ForestUnrefused : ForestAnswer → Type 0
-ForestUnrefused (ForestAnswer.Refused n) = ⊥
+ForestUnrefused (ForestAnswer.Refused r) = ⊥
 ForestUnrefused (ForestAnswer.BadDraw d) = Unit {0}
 ForestUnrefused ForestAnswer.Grown = Unit {0}
 
@@ -128,7 +133,7 @@ NodeBy ts NodeReply.Missing = firstFailed ts ≡ 0
 NodeBy ts (NodeReply.Read m) = firstFailed ts ≡ 0
 
 pub record CheckRefused : Type 0 where
-  pub listings : (S : Shape) (xs : List Float) (ls : List ℕ) → By (listingTests S xs ls) (checkListings S xs ls)
+  pub listings : (S : Shape) (xs : List Float) (ls : List ℕ) → checkListings S xs ls ≡ checked (listingTests S xs ls)
   pub treeTable : (features : ℕ) (c : Columns) → By (treeTableTests features c) (checkTree features c)
   pub forestTable : (features : ℕ) (T : ForestTable) → By (forestTableTests features T) (checkForest features T)
   pub node : (features : ℕ) (c : Columns) (k : ℕ) → NodeBy (treeTableTests features c) (readNode features c k)
@@ -147,13 +152,33 @@ pub record ReaderRefused : Type 0 where
 
 -- ---- the order
 
+-- the numbers of the tests of a column, and of all columns
+place-numbers : (rows : ℕ) (value : ℕ → Float) (column lacking : ℕ) (before : List ℕ) (place : ℕ) (l : List ℕ)
+    → numbers (testsFrom rows value column lacking before place l) ≡ joined (λ k. 11 ∷ 12 ∷ 13 ∷ []) l
+unfolding testsFrom joined
+place-numbers rows value column lacking before place [] = refl
+place-numbers rows value column lacking before place (k ∷ l) = ap (λ ns. 11 ∷ 12 ∷ 13 ∷ ns) (place-numbers rows value column lacking (k ∷ before) (suc place) l)
+
+order-numbers : (S : Shape) (xs : List Float) (ls : List ℕ) → numbers (orderTests S xs ls) ≡ placeNumbers S ls
+unfolding orderTests columnTests joined
+order-numbers S xs ls = go (from 0 (S .features))
+  where
+    go : (js : List ℕ) → numbers (joined (columnTests S xs ls) js) ≡ joined (λ j. joined (λ k. 11 ∷ 12 ∷ 13 ∷ []) (listingAt (S .rows) ls j)) js
+    go [] = refl
+    go (j ∷ js) =
+        map-append _ (columnTests S xs ls j) _
+        ∙ λ i. place-numbers (S .rows) (cell (S .features) xs j) j (lowestLacking (S .rows) (listingAt (S .rows) ls j)) [] 0 (listingAt (S .rows) ls j) i ++ go js i
+
+then-six : (S : Shape) (xs : List Float) (ls : List ℕ) (b : Bool) → numbers (orderTests S xs ls ++ test 6 b ∷ []) ≡ placeNumbers S ls ++ 6 ∷ []
+then-six S xs ls b = map-append _ (orderTests S xs ls) _ ∙ ap (λ ns. ns ++ 6 ∷ []) (order-numbers S xs ls)
+
 pub order-of-checks : {W : Type 0} (K : WaitingForm W) → OrderOfChecks K
 unfolding treeTests forestTests listingTests predictTests meanTests outTests errorTests treeImportanceTests forestImportanceTests treeTableTests forestTableTests
 order-of-checks K =
     record {
-      tree = λ C R. refl;
-      forest = λ C R. refl;
-      listings = λ S xs ls. refl;
+      tree = λ C R. ap (λ ns. 1 ∷ 2 ∷ 3 ∷ 4 ∷ ns) (then-six (C .shape) _ _ _);
+      forest = λ C R. ap (λ ns. 1 ∷ 2 ∷ 3 ∷ 4 ∷ ns) (then-six (C .shape) _ _ _);
+      listings = λ S xs ls. ap (λ ns. 1 ∷ 2 ∷ ns) (order-numbers S xs ls);
       predictions = λ S xs c out. refl;
       means = λ S xs T out. refl;
       outOfBag = λ S xs ks T out. refl;
@@ -210,41 +235,51 @@ work-zero w =
 
 pub tree-refused : TreeRefused
 unfolding fitTree treeEnds treeDone
-tree-refused W K C R n h = go (firstFailed (treeTests K C R)) (grownTree C) h
+tree-refused W K C R r h = go (checked (treeTests K C R)) (grownTree C) h
   where
-    go : (k : ℕ) (o : Out Tree) → treeEnds K k o R .answer ≡ TreeAnswer.Refused n → (treeEnds K k o R .rooms ≡ R) × (k ≡ n)
-    go zero (bad s) h = let z : _≡_ {A = ℕ} 0 1 = cc in absurd (omega arith)
-    go zero (ok t) h = let z : _≡_ {A = ℕ} 0 1 = cc in absurd (omega arith)
-    go (suc k) o h = (refl, cc)
+    asked : TreeAnswer → Checked
+    asked (TreeAnswer.Refused r) = Checked.Refused r
+    asked (TreeAnswer.BadDraw d) = Checked.Passed
+    asked (TreeAnswer.Grown t) = Checked.Passed
+
+    go : (k : Checked) (o : Out Tree) → treeEnds K k o R .answer ≡ TreeAnswer.Refused r → (treeEnds K k o R .rooms ≡ R) × (k ≡ Checked.Refused r)
+    go Checked.Passed (bad s) h = absurd (subst Unrefused h tt)
+    go Checked.Passed (ok t) h = absurd (subst Unrefused h tt)
+    go (Checked.Refused q) o h = (refl, ap asked h)
 
 pub tree-bad : TreeBad
 unfolding fitTree treeEnds treeDone
-tree-bad C R d h = go (firstFailed (treeTests waitingRoom C R)) (grownTree C) h
+tree-bad C R d h = go (checked (treeTests waitingRoom C R)) (grownTree C) h
   where
-    go : (k : ℕ) (o : Out Tree) → treeEnds waitingRoom k o R .answer ≡ TreeAnswer.BadDraw d → TreeZero R (treeEnds waitingRoom k o R .rooms)
-    go zero (bad s) h = record { nodes = nodes-zero (R .nodes); work = work-zero (R .work) }
-    go zero (ok t) h = let z : _≡_ {A = ℕ} 0 1 = cc in absurd (omega arith)
-    go (suc k) o h = let z : _≡_ {A = ℕ} 0 1 = cc in absurd (omega arith)
+    go : (k : Checked) (o : Out Tree) → treeEnds waitingRoom k o R .answer ≡ TreeAnswer.BadDraw d → TreeZero R (treeEnds waitingRoom k o R .rooms)
+    go Checked.Passed (bad s) h = record { nodes = nodes-zero (R .nodes); work = work-zero (R .work) }
+    go Checked.Passed (ok t) h = let z : _≡_ {A = ℕ} 0 1 = cc in absurd (omega arith)
+    go (Checked.Refused q) o h = let z : _≡_ {A = ℕ} 0 1 = cc in absurd (omega arith)
 
 -- ---- a forest
 
 pub forest-refused : ForestRefused
 unfolding fitForest forestEnds forestDone
-forest-refused W K C R n h = go (firstFailed (forestTests K C R)) (grownForest C) h
+forest-refused W K C R r h = go (checked (forestTests K C R)) (grownForest C) h
   where
-    go : (k : ℕ) (f : Forest) → forestEnds K k f R .answer ≡ ForestAnswer.Refused n → (forestEnds K k f R .rooms ≡ R) × (k ≡ n)
-    go zero (stopped d) h = let z : _≡_ {A = ℕ} 0 1 = cc in absurd (omega arith)
-    go zero (grownAll ts) h = let z : _≡_ {A = ℕ} 0 1 = cc in absurd (omega arith)
-    go (suc k) f h = (refl, cc)
+    asked : ForestAnswer → Checked
+    asked (ForestAnswer.Refused r) = Checked.Refused r
+    asked (ForestAnswer.BadDraw d) = Checked.Passed
+    asked ForestAnswer.Grown = Checked.Passed
+
+    go : (k : Checked) (f : Forest) → forestEnds K k f R .answer ≡ ForestAnswer.Refused r → (forestEnds K k f R .rooms ≡ R) × (k ≡ Checked.Refused r)
+    go Checked.Passed (stopped d) h = absurd (subst ForestUnrefused h tt)
+    go Checked.Passed (grownAll ts) h = absurd (subst ForestUnrefused h tt)
+    go (Checked.Refused q) f h = (refl, ap asked h)
 
 pub forest-bad : ForestBad
 unfolding fitForest forestEnds forestDone
-forest-bad C R d h = go (firstFailed (forestTests waitingRoom C R)) (grownForest C) h
+forest-bad C R d h = go (checked (forestTests waitingRoom C R)) (grownForest C) h
   where
-    go : (k : ℕ) (f : Forest) → forestEnds waitingRoom k f R .answer ≡ ForestAnswer.BadDraw d → ForestZero R (forestEnds waitingRoom k f R .rooms)
-    go zero (stopped e) h = record { nodes = nodes-zero (R .nodes); starts = all-filled 0 (R .starts); reports = reports-zero (R .reports); work = work-zero (R .work) }
-    go zero (grownAll ts) h = let z : _≡_ {A = ℕ} 0 1 = cc in absurd (omega arith)
-    go (suc k) f h = let z : _≡_ {A = ℕ} 0 1 = cc in absurd (omega arith)
+    go : (k : Checked) (f : Forest) → forestEnds waitingRoom k f R .answer ≡ ForestAnswer.BadDraw d → ForestZero R (forestEnds waitingRoom k f R .rooms)
+    go Checked.Passed (stopped e) h = record { nodes = nodes-zero (R .nodes); starts = all-filled 0 (R .starts); reports = reports-zero (R .reports); work = work-zero (R .work) }
+    go Checked.Passed (grownAll ts) h = let z : _≡_ {A = ℕ} 0 1 = cc in absurd (omega arith)
+    go (Checked.Refused q) f h = let z : _≡_ {A = ℕ} 0 1 = cc in absurd (omega arith)
 
 -- ---- a reader, and a check
 
@@ -255,7 +290,7 @@ pub check-refused : CheckRefused
 unfolding checkListings checkTree checkForest readNode nodeRead outOfBagError errs replies
 check-refused =
     record {
-      listings = λ S xs ls. plain (listingTests S xs ls) _ refl;
+      listings = λ S xs ls. refl;
       treeTable = λ features c. plain (treeTableTests features c) _ refl;
       forestTable = λ features T. plain (forestTableTests features T) _ refl;
       node = λ features c k. node (treeTableTests features c) _ refl c k;
@@ -293,32 +328,20 @@ reader-refused =
     go ts zero q new old = (q, (λ n h. let z : _≡_ {A = ℕ} 0 1 = cc in absurd (omega arith)))
     go ts (suc k) q new old = (failed ts k q, (λ n h. refl))
 
--- ---- which test can be the first to fail
-
--- the first test to fail has at most the number that all those that fail have at most
-pub failed-within : (top : ℕ) (ts : List Test) → Every (λ (t : Test). t .passes ≡ false → t .number ≤ top) ts → firstFailed ts ≤ top
-unfolding firstFailed
-failed-within top [] e = omega arith
-failed-within top (t ∷ ts) e = go (t .passes) (e .0) (failed-within top ts (e .1))
-  where
-    go : (b : Bool) → (b ≡ false → t .number ≤ top) → firstFailed ts ≤ top → cond b (firstFailed ts) (t .number) ≤ top
-    go true h r = r
-    go false h r = h refl
-
 -- ---- where a fit is not refused, no test fails
 
-pub tree-passes : {W : Type 0} (K : WaitingForm W) (C : TreeCall) (R : TreeRooms W) → Unrefused (fitTree K C R .answer) → firstFailed (treeTests K C R) ≡ 0
+pub tree-passes : {W : Type 0} (K : WaitingForm W) (C : TreeCall) (R : TreeRooms W) → Unrefused (fitTree K C R .answer) → checked (treeTests K C R) ≡ Checked.Passed
 unfolding fitTree treeEnds
-tree-passes K C R h = go (firstFailed (treeTests K C R)) refl h
+tree-passes K C R h = go (checked (treeTests K C R)) refl h
   where
-    go : (k : ℕ) → firstFailed (treeTests K C R) ≡ k → Unrefused (treeEnds K k (grownTree C) R .answer) → firstFailed (treeTests K C R) ≡ 0
-    go zero q h = q
-    go (suc k) q h = absurd h
+    go : (k : Checked) → checked (treeTests K C R) ≡ k → Unrefused (treeEnds K k (grownTree C) R .answer) → checked (treeTests K C R) ≡ Checked.Passed
+    go Checked.Passed q h = q
+    go (Checked.Refused r) q h = absurd h
 
-pub forest-passes : {W : Type 0} (K : WaitingForm W) (C : ForestCall) (R : ForestRooms W) → ForestUnrefused (fitForest K C R .answer) → firstFailed (forestTests K C R) ≡ 0
+pub forest-passes : {W : Type 0} (K : WaitingForm W) (C : ForestCall) (R : ForestRooms W) → ForestUnrefused (fitForest K C R .answer) → checked (forestTests K C R) ≡ Checked.Passed
 unfolding fitForest forestEnds
-forest-passes K C R h = go (firstFailed (forestTests K C R)) refl h
+forest-passes K C R h = go (checked (forestTests K C R)) refl h
   where
-    go : (k : ℕ) → firstFailed (forestTests K C R) ≡ k → ForestUnrefused (forestEnds K k (grownForest C) R .answer) → firstFailed (forestTests K C R) ≡ 0
-    go zero q h = q
-    go (suc k) q h = absurd h
+    go : (k : Checked) → checked (forestTests K C R) ≡ k → ForestUnrefused (forestEnds K k (grownForest C) R .answer) → checked (forestTests K C R) ≡ Checked.Passed
+    go Checked.Passed q h = q
+    go (Checked.Refused r) q h = absurd h

@@ -4,21 +4,23 @@
 -- It holds because the sixth test says just that. Assumes nothing.
 use Prim.Native.Nat.{ℕ, suc, _+_, _-_, _*_, _≤_, max}
 use native.Mathlib.Omega.{arith}
-use mathlib.Core.Path.{_≡_, sym, _∙_, subst}
-use mathlib.Core.Bool.{Bool, true, _&&_}
+use mathlib.Core.Path.{_≡_, refl, sym, _∙_, subst}
+use mathlib.Core.Logic.{_≢_}
+use mathlib.Core.Bool.{Bool, true, not, _&&_}
 use lib.ListN.{length}
-use lib.Dec.{T, leb, eqb, leb→le, le→leb, eqb→eq, eqb-refl, lit≤}
+use lib.Dec.{T, leb, eqb, leb→le, le→leb, eqb→eq, eqb-refl}
 use Rattle.rules.specs.declared.Shape.{Shape}
 use Rattle.rules.specs.declared.TreeAnswer.{TreeAnswer}
 use Rattle.rules.specs.declared.ForestAnswer.{ForestAnswer}
 use Rattle.rules.specs.Words.{from, total}
 use Rattle.rules.specs.Lent.{OneTree, Columns, Reports, WaitingRoom, waitingRoom, Work, TreeRooms, ForestRooms, keptRows, shortest}
-use Rattle.rules.specs.Checks.{firstFailed, roomFor, workEnough, reportsExact}
+use Rattle.rules.specs.Checks.{numbered, roomFor, workEnough, reportsExact}
 use Rattle.rules.specs.Fit.{TreeCall, oneTreeOf, treeTests, fitTree}
 use Rattle.rules.specs.Forest.{ForestCall, oneTreeAt, eachTree, roomsGood, forestTests, fitForest}
 use Rattle.lemmas.specs.Lists.{is-true, total-map}
 use Rattle.lemmas.specs.Passed.{and2, tree-passed, forest-passed}
-use Rattle.demands.specs.Refusals.{Unrefused, ForestUnrefused, tree-refused, forest-refused, failed-within, tree-passes, forest-passes}
+use Rattle.demands.specs.Refusals.{Unrefused, ForestUnrefused, tree-refused, forest-refused, tree-passes, forest-passes}
+use Rattle.demands.specs.Refused.{tree-number, forest-number}
 
 -- ---- the statements
 
@@ -65,13 +67,13 @@ abbrev pub TreeRoomsLong : Type 0
 TreeRoomsLong = (C : TreeCall) (R : TreeRooms WaitingRoom) → Unrefused (fitTree waitingRoom C R .answer) → TreeLong C R
 
 abbrev pub TreeRoomsTaken : Type 0
-TreeRoomsTaken = (C : TreeCall) (R : TreeRooms WaitingRoom) → TreeLong C R → fitTree waitingRoom C R .answer ≡ TreeAnswer.Refused 6 → ⊥
+TreeRoomsTaken = (C : TreeCall) (R : TreeRooms WaitingRoom) → TreeLong C R → fitTree waitingRoom C R .answer ≡ TreeAnswer.Refused (numbered 6) → ⊥
 
 abbrev pub ForestRoomsLong : Type 0
 ForestRoomsLong = (C : ForestCall) (R : ForestRooms WaitingRoom) → ForestUnrefused (fitForest waitingRoom C R .answer) → ForestLong C R
 
 abbrev pub ForestRoomsTaken : Type 0
-ForestRoomsTaken = (C : ForestCall) (R : ForestRooms WaitingRoom) → ForestLong C R → fitForest waitingRoom C R .answer ≡ ForestAnswer.Refused 6 → ⊥
+ForestRoomsTaken = (C : ForestCall) (R : ForestRooms WaitingRoom) → ForestLong C R → fitForest waitingRoom C R .answer ≡ ForestAnswer.Refused (numbered 6) → ⊥
 
 -- ---- what the tests say
 
@@ -140,9 +142,9 @@ unfolding reportsExact
 reports-fit trees c h =
     both (exact (h .nodes)) (both (exact (h .depth)) (both (exact (h .mass)) (both (exact (h .searches)) (both (exact (h .words)) (exact (h .thresholds))))))
 
--- six tests, of which the last passes: it is not the first to fail
-not-six : (k : ℕ) → k ≡ 6 → k ≤ 5 → ⊥
-not-six k h₁ h₂ = omega arith
+-- the number of a test that is not the last
+other : (n : ℕ) → T (not (eqb n 6)) → n ≢ 6
+other n t q = subst (λ k. T (not (eqb k 6))) q t
 
 -- ---- one tree
 
@@ -155,8 +157,8 @@ tree-rooms-long C R un =
 pub tree-rooms-taken : TreeRoomsTaken
 unfolding treeTests roomFor
 tree-rooms-taken C R long h =
-    not-six (firstFailed (treeTests waitingRoom C R)) (tree-refused WaitingRoom waitingRoom C R 6 h .1)
-    (failed-within 5 (treeTests waitingRoom C R) (λ f. lit≤ tt, (λ f. lit≤ tt, (λ f. lit≤ tt, (λ f. lit≤ tt, (λ f. lit≤ tt, (λ f. absurd (subst T (sym passes ∙ f) tt), tt)))))))
+    tree-number (λ n. n ≢ 6) (other 11 tt) (other 12 tt) (other 13 tt) waitingRoom (other 1 tt) (other 2 tt) (other 3 tt) (other 4 tt) C R (λ f. absurd (subst T (sym passes ∙ f) tt))
+    (numbered 6) (tree-refused WaitingRoom waitingRoom C R (numbered 6) h .1) refl
   where
     passes : leb (nodesAtMost (oneTreeOf C)) (shortest (R .nodes)) && workEnough waitingRoom (C .shape) (R .work) ≡ true
     passes = both (enough (nodes-fit (nodesAtMost (oneTreeOf C)) (R .nodes) (long .nodes))) (work-fits (C .shape) (R .work) (long .work))
@@ -181,8 +183,8 @@ forest-rooms-long C R un =
 pub forest-rooms-taken : ForestRoomsTaken
 unfolding forestTests roomsGood
 forest-rooms-taken C R long h =
-    not-six (firstFailed (forestTests waitingRoom C R)) (forest-refused WaitingRoom waitingRoom C R 6 h .1)
-    (failed-within 5 (forestTests waitingRoom C R) (λ f. lit≤ tt, (λ f. lit≤ tt, (λ f. lit≤ tt, (λ f. lit≤ tt, (λ f. lit≤ tt, (λ f. absurd (subst T (sym passes ∙ f) tt), tt)))))))
+    forest-number (λ n. n ≢ 6) (other 11 tt) (other 12 tt) (other 13 tt) waitingRoom (other 1 tt) (other 2 tt) (other 3 tt) (other 4 tt) C R (λ f. absurd (subst T (sym passes ∙ f) tt))
+    (numbered 6) (forest-refused WaitingRoom waitingRoom C R (numbered 6) h .1) refl
   where
     passes : leb (total roomFor (eachTree C)) (shortest (R .nodes)) && roomsGood waitingRoom C R ≡ true
     passes =

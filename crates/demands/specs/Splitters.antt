@@ -24,7 +24,7 @@ use Rattle.rules.specs.declared.Kind.{Kind}
 use Rattle.rules.specs.declared.Kind.the-variants.{Leaf, Split}
 use Rattle.rules.specs.Words.{eachOnce}
 use Rattle.rules.specs.Lent.{Data, OneTree, Entry, WaitingForm, TreeRooms, entriesAt, keptRows, kept}
-use Rattle.rules.specs.Checks.{firstFailed, roomFor}
+use Rattle.rules.specs.Checks.{checked, roomFor}
 use Rattle.rules.specs.Draws.{Out, ok, bind, Tapes, takeWords, takeThreshold, nextThreshold, tape}
 use Rattle.rules.specs.Totals.{less, proxy, valueOf}
 use Rattle.rules.specs.Search.{Column, at, NodeRows, onTrue, onFalse, better, judge, final, drawn, Tries, drawIn, randomIn, tryOne, tryAll, Found, noCut, cutFound, found, search}
@@ -144,7 +144,7 @@ plainly F node best =
 pub best-alone : BestAlone
 unfolding fitTree treeTests roomFor keptRows kept oneTreeOf paramsOf grownTree fit root column listing element plain
 best-alone W K C R best = (
-  (λ ts i. treeEnds K (firstFailed (treeTests K C R)) ((same ts ∙ sym (same (C .thresholds))) i) R),
+  (λ ts i. treeEnds K (checked (treeTests K C R)) ((same ts ∙ sym (same (C .thresholds))) i) R),
   (λ r h.
       let a : TreeAnswered K C R r = tree-answered K C R r h in
       ap (λ (x : Report). x .thresholds) (sym (a .reported))

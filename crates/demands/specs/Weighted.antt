@@ -10,17 +10,18 @@ use lib.ListN.{length, getD, length-map}
 use lib.Dec.{T, eqb→eq}
 use lib.Ieee.{Float, nan, isNan}
 use lib.Ieee.Fits.{and-r}
+use Rattle.rules.specs.declared.Checked.{Checked}
 use Rattle.rules.specs.declared.ForestAnswer.{ForestAnswer}
 use Rattle.rules.specs.declared.Reply.{Reply}
 use Rattle.rules.specs.declared.ErrorReply.{ErrorReply}
 use Rattle.rules.specs.Words.{from}
 use Rattle.rules.specs.Lent.{WaitingForm, ForestRooms, unweighted}
-use Rattle.rules.specs.Checks.{Test, test, firstFailed, treesIn, shapeIn, lengths, numbersGood, countsGood, countsOne}
+use Rattle.rules.specs.Checks.{Test, test, numbered, checked, treesIn, shapeIn, lengths, numbersGood, countsGood, countsOne}
 use Rattle.rules.specs.Reading.{reads}
 use Rattle.rules.specs.Forest.{ForestCall, grownForest, tapesGood, forestTests, forestEnds, fitForest}
 use Rattle.rules.specs.OutOfBag.{outOfBagMeans, outOfBagError}
 use Rattle.lemmas.specs.Lists.{or-other, Every, each, every-imp, every-at, length-from}
-use Rattle.lemmas.specs.Passed.{past, Passed, Binary64}
+use Rattle.lemmas.specs.Passed.{past-test, Passed, Binary64}
 use Rattle.lemmas.specs.Answered.{forest-answered, forest-right}
 use Rattle.demands.specs.Refusals.{ForestUnrefused, forest-passes}
 use Rattle.demands.specs.OutOfBag.{ownMeans, own-done}
@@ -50,7 +51,7 @@ abbrev pub OtherCount : Type 1
 OtherCount =
     (W : Type 0) (K : WaitingForm W) (C : ForestCall) (R : ForestRooms W) → unweighted (C .given .weights) ≡ false
     → T (shapeIn (C .shape) && treesIn (C .trees)) → T (lengths (C .shape) (C .trees) (C .given) && tapesGood C) → T (numbersGood (C .given))
-    → (k : ℕ) → k < length (C .given .counts) → (getD (C .given .counts) k 0 ≡ 1 → ⊥) → fitForest K C R .answer ≡ ForestAnswer.Refused 4
+    → (k : ℕ) → k < length (C .given .counts) → (getD (C .given .counts) k 0 ≡ 1 → ⊥) → fitForest K C R .answer ≡ ForestAnswer.Refused (numbered 4)
 
 -- ---- the counts
 
@@ -58,11 +59,11 @@ ones : (C : ForestCall) → unweighted (C .given .weights) ≡ false → T (coun
 unfolding countsOne
 ones C u t = every-imp _ _ (λ k h. eqb→eq k 1 h) (C .given .counts) (each _ (C .given .counts) (or-other (unweighted (C .given .weights)) _ u (and-r (countsGood (C .given)) _ t)))
 
-passed-ones : {W : Type 0} (K : WaitingForm W) (C : ForestCall) (R : ForestRooms W) → unweighted (C .given .weights) ≡ false → firstFailed (forestTests K C R) ≡ 0
+passed-ones : {W : Type 0} (K : WaitingForm W) (C : ForestCall) (R : ForestRooms W) → unweighted (C .given .weights) ≡ false → checked (forestTests K C R) ≡ Checked.Passed
     → Every (λ k. k ≡ 1) (C .given .counts)
 unfolding forestTests
 passed-ones K C R u h₁ =
-    let (t₁, h₂) = past 0 _ _ h₁ in let (t₂, h₃) = past 1 _ _ h₂ in let (t₃, h₄) = past 2 _ _ h₃ in let (t₄, h₅) = past 3 _ _ h₄ in ones C u t₄
+    let (t₁, h₂) = past-test _ _ h₁ in let (t₂, h₃) = past-test _ _ h₂ in let (t₃, h₄) = past-test _ _ h₃ in let (t₄, h₅) = past-test _ _ h₄ in ones C u t₄
 
 pub every-count-one : EveryCountOne
 every-count-one W K C R u h = passed-ones K C R u (forest-passes K C R h)
@@ -111,8 +112,8 @@ no-error W K C R u held h out o =
 
 -- ---- another count
 
-fourth : (a b c d : Bool) (ts : List Test) → T a → T b → T c → (T d → ⊥) → firstFailed (test 1 a ∷ test 2 b ∷ test 3 c ∷ test 4 d ∷ ts) ≡ 4
-unfolding firstFailed
+fourth : (a b c d : Bool) (ts : List Test) → T a → T b → T c → (T d → ⊥) → checked (test 1 a ∷ test 2 b ∷ test 3 c ∷ test 4 d ∷ ts) ≡ Checked.Refused (numbered 4)
+unfolding checked
 fourth true true true true ts p q r h = absurd (h tt)
 fourth true true true false ts p q r h = refl
 fourth true true false d ts p q r h = absurd r
@@ -123,5 +124,5 @@ pub other-count : OtherCount
 unfolding fitForest forestEnds forestTests
 other-count W K C R u p q r k b other = λ i. forestEnds K (failed i) (grownForest C) R .answer
   where
-    failed : firstFailed (forestTests K C R) ≡ 4
+    failed : checked (forestTests K C R) ≡ Checked.Refused (numbered 4)
     failed = fourth _ _ _ _ _ p q r (λ t. other (every-at (λ n. n ≡ 1) (C .given .counts) 0 k (ones C u t) b))

@@ -11,13 +11,13 @@ use Rattle.rules.specs.declared.TreeAnswer.{TreeAnswer}
 use Rattle.rules.specs.declared.ForestAnswer.{ForestAnswer}
 use Rattle.rules.specs.declared.Reply.{Reply}
 use Rattle.rules.specs.declared.TreeTold.{TreeTold}
-use Rattle.rules.specs.declared.ForestTold.{ForestTold}
+use Rattle.rules.specs.declared.Refusal.{Refusal}
 use Rattle.rules.specs.Lent.{Given, Columns, TreeRooms, ForestRooms, Outcome, WaitingRoom, waitingRoom}
 use Rattle.rules.specs.Fit.{treeCall, fitTree}
 use Rattle.rules.specs.Forest.{forestCall, fitForest}
 use Rattle.rules.specs.Reading.{treeImportances}
 use Rattle.rules.specs.Answers.{treeTold, forestTold, replyTold, told}
-use Rattle.rules.specs.Plain.{treeNumbers, forestNumbers}
+use Rattle.rules.specs.Plain.{treeNumbers}
 
 pub answer-told : {A B R : Type 0} (f : A → B) {a : A} {b : B} {rooms : R} {o : Outcome A R} → record { answer = a; rooms = rooms } ≡ o → b ≡ f a
     → record { answer = b; rooms = rooms } ≡ told f o
@@ -33,9 +33,9 @@ module _ (shape : Shape) (trees : ℕ) (given : Given) (words : List ℕ) (thres
   abbrev forestOf : Settings → Tried → Outcome ForestAnswer (ForestRooms WaitingRoom)
   forestOf S m = fitForest waitingRoom (forestCall shape trees S m given words thresholds wordStarts thresholdStarts) R
 
-  pub forest-linked : {S S′ : Settings} {m m′ : Tried} {a : ForestAnswer} {t : ForestTold} → S ≡ S′ → m ≡ m′
-      → record { answer = a; rooms = R′ } ≡ forestOf S m → forestNumbers t ≡ forestTold a
-      → record { answer = forestNumbers t; rooms = R′ } ≡ told forestTold (forestOf S′ m′)
+  pub forest-linked : {S S′ : Settings} {m m′ : Tried} {a : ForestAnswer} {t : Refusal} → S ≡ S′ → m ≡ m′
+      → record { answer = a; rooms = R′ } ≡ forestOf S m → t ≡ forestTold a
+      → record { answer = t; rooms = R′ } ≡ told forestTold (forestOf S′ m′)
   forest-linked es em e t = answer-told forestTold (e ∙ λ i. forestOf (es i) (em i)) t
 
 module _ (features : ℕ) (c : Columns) (out : List Float) where

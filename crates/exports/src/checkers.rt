@@ -1,11 +1,12 @@
 // Checks of listings and of tables, and a node read out.
 ghost use mathlib.Core.Path.{_≡_};
 ghost use Rattle.rules.specs.Lent.{columnsOf};
-ghost use Rattle.rules.specs.Answers.{replyTold, nodeTold};
+ghost use Rattle.rules.specs.Answers.{checkTold, replyTold, nodeTold};
 ghost use Rattle.rules.specs.Listing.{checkListings};
 ghost use Rattle.rules.specs.Table.{checkTree, checkForest, readNode, tableOf};
 ghost use Rattle.rules.specs.Plain.{nodeNumbers};
 use rules::NodeTold;
+use rules::Refusal;
 use rules::Shape;
 
 #[no_mangle]
@@ -14,11 +15,11 @@ pub extern "C" fn tailboardy_check_listings(
     features: usize,
     values: &[f64],
     listings: &[u32],
-) -> u32
-    ensures { λ r. ⌜ r ≡ replyTold (checkListings (record { rows = rows; features = features }) (now (values .entry)) (now (listings .entry))) ⌝ }
+) -> Refusal
+    ensures { λ r. ⌜ r ≡ checkTold (checkListings (record { rows = rows; features = features }) (now (values .entry)) (now (listings .entry))) ⌝ }
 {
-    let reply = checks::listing::check_listings(Shape { rows, features }, values, listings);
-    c_types::number_of(reply)
+    let answer = checks::listing::check_listings(Shape { rows, features }, values, listings);
+    c_types::check_told_of(answer)
 }
 
 #[no_mangle]

@@ -4,9 +4,9 @@ ghost use Rattle.rules.specs.Lent.{waitingRoom, givenOf, columnsOf, reportsOf, 
 ghost use Rattle.rules.specs.Answers.{treeTold, forestTold, told};
 ghost use Rattle.rules.specs.Fit.{fitTree, treeCall};
 ghost use Rattle.rules.specs.Forest.{fitForest, forestCall};
-ghost use Rattle.rules.specs.Plain.{treeSettingsOf, forestSettingsOf, triedFrom, treeNumbers, forestNumbers};
+ghost use Rattle.rules.specs.Plain.{treeSettingsOf, forestSettingsOf, triedFrom, treeNumbers};
 use rules::ForestSettings;
-use rules::ForestTold;
+use rules::Refusal;
 use rules::Shape;
 use rules::TreeSettings;
 use rules::TreeTold;
@@ -105,8 +105,8 @@ pub extern "C" fn tailboardy_fit_forest(
     features: usize,
     trees: usize,
     plain: ForestSettings,
-) -> ForestTold
-    ensures { λ r. ⌜ outcomeOf (forestNumbers r) (forestRoomsOf
+) -> Refusal
+    ensures { λ r. ⌜ outcomeOf r (forestRoomsOf
         (columnsOf (now (value .exit)) (now (feature .exit)) (now (threshold .exit)) (now (score .exit)) (now (truechild .exit)) (now (falsechild .exit)))
         (now (starts .exit))
         (reportsOf (now (nodes .exit)) (now (depth .exit)) (now (mass .exit)) (now (searches .exit)) (now (wordsused .exit)) (now (thresholdsused .exit)))

@@ -9,9 +9,10 @@ use lib.Seq.{length-take-le}
 use lib.Dec.{T, eqb, eqb→eq}
 use Rattle.rules.specs.declared.Params.{Params}
 use Rattle.rules.specs.declared.Report.{Report}
+use Rattle.rules.specs.declared.Checked.{Checked}
 use Rattle.rules.specs.Words.{from, stretch, total}
 use Rattle.rules.specs.Lent.{OneTree, Reports, ForestRooms, WaitingRoom, waitingRoom, kept, keptRows}
-use Rattle.rules.specs.Checks.{firstFailed, goodTapeStarts, roomFor, reportsExact}
+use Rattle.rules.specs.Checks.{checked, goodTapeStarts, roomFor, reportsExact}
 use Rattle.rules.specs.Fit.{paramsOf}
 use Rattle.rules.specs.Forest.{ForestCall, oneTreeAt, eachTree, tapesGood, forestTests}
 use Rattle.lemmas.specs.Lists.{every-all, every-map, total-under, keep-short, length-from}
@@ -40,7 +41,7 @@ room-low F h = low (length (keptRows F)) (F .rows) (omega (arith, keep-short (ke
     low : (k n : ℕ) → k ≤ n → n ≤ 65535 → max 1 (2 * k - 1) ≤ 131069
     low k n a b = omega arith
 
-module _ (C : ForestCall) (R : ForestRooms WaitingRoom) (e : firstFailed (forestTests waitingRoom C R) ≡ 0) where
+module _ (C : ForestCall) (R : ForestRooms WaitingRoom) (e : checked (forestTests waitingRoom C R) ≡ Checked.Passed) where
   right : ForestPassed waitingRoom C R
   right = forest-passed waitingRoom C R e
 

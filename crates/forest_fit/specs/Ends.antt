@@ -1,14 +1,15 @@
 -- How a fit of a forest ends: from what its trees leave to the outcome of the rules. Assumes nothing.
-use Prim.Native.Nat.{ℕ, zero, suc, _<_}
-use native.Mathlib.Omega.{arith}
+use Prim.Native.Nat.{ℕ}
 use mathlib.Core.Path.{_≡_, sym, ap, _∙_}
 use mathlib.Core.List.{List}
 use Rattle.rules.specs.declared.Params.{Params}
 use Rattle.rules.specs.declared.Report.{Report}
+use Rattle.rules.specs.declared.Refusal.{Refusal}
+use Rattle.rules.specs.declared.Checked.{Checked}
 use Rattle.rules.specs.declared.ForestAnswer.{ForestAnswer}
 use Rattle.rules.specs.Words.{front, filled}
 use Rattle.rules.specs.Lent.{Columns, Work, ForestRooms, WaitingRoom, waitingRoom, forestRoomsOf, outcomeOf, writeReports, zeroReports, zeroWork}
-use Rattle.rules.specs.Checks.{firstFailed}
+use Rattle.rules.specs.Checks.{checked}
 use Rattle.rules.specs.Forest.{ForestCall, oneTreeAt, eachTree, growTrees, grownForest, forestTests, forestDone, forestEnds, fitForest}
 use Rattle.forest_build.specs.declared.Grove.{Grove}
 use Rattle.forest_build.specs.declared.Grove.the-variants as U
@@ -16,7 +17,7 @@ use Rattle.forest_build.specs.declared.Told.{Told}
 use Rattle.forest_build.specs.Lot.{Lot, lotOf, lotTrees}
 use Rattle.forest_reports.specs.Reports.{Left, leaves}
 use Rattle.forest_grow.specs.Grown.{LeftBy, GrowDone}
-use Rattle.forest_ready.specs.Ready.{Made, Refuses}
+use Rattle.forest_ready.specs.Ready.{Made}
 
 -- what the trees of a call are grown from
 abbrev pub lot : ForestCall → Params → Lot
@@ -24,13 +25,9 @@ lot C p =
     lotOf (C .shape .rows) (C .shape .features) p (C .given .weights) (C .given .counts) (C .words) (C .thresholds) (C .wordStarts) (C .thresholdStarts) (C .given .inputs)
 
 module _ (C : ForestCall) (R : ForestRooms WaitingRoom) where
-  refused-is : (n : ℕ) → 0 < n → n ≡ firstFailed (forestTests waitingRoom C R) → outcomeOf (ForestAnswer.Refused n) R ≡ fitForest waitingRoom C R
+  pub fit-refused : (r : Refusal) → Checked.Refused r ≡ checked (forestTests waitingRoom C R) → outcomeOf (ForestAnswer.Refused r) R ≡ fitForest waitingRoom C R
   unfolding fitForest forestEnds
-  refused-is zero h e = absurd (omega arith)
-  refused-is (suc n) h e = ap (λ k. forestEnds waitingRoom k (grownForest C) R) e
-
-  pub fit-refused : (n : ℕ) → Refuses C R n → outcomeOf (ForestAnswer.Refused n) R ≡ fitForest waitingRoom C R
-  fit-refused n r = refused-is n (r .some) (r .first)
+  fit-refused r e = ap (λ k. forestEnds waitingRoom k (grownForest C) R) e
 
   trees-same : (p : Params) → Made C p → growTrees 0 (lotTrees (C .trees) (lot C p)) (C .given .inputs) ≡ grownForest C
   unfolding grownForest eachTree oneTreeAt
@@ -48,7 +45,7 @@ module _ (C : ForestCall) (R : ForestRooms WaitingRoom) where
         (λ i. outcomeOf ForestAnswer.Grown (forestRoomsOf (a .nodes i) (front (a .starts i) (R .starts)) (writeReports (a .reports i) (R .reports)) (ew i)))
         ∙ ap (λ f. forestDone waitingRoom f R) (sym (a .same) ∙ trees-same p m)
 
-  pub fit-finished : firstFailed (forestTests waitingRoom C R) ≡ 0 → (p : Params) → Made C p → (c : Columns) (w : Work WaitingRoom) (told : Told)
+  pub fit-finished : checked (forestTests waitingRoom C R) ≡ Checked.Passed → (p : Params) → Made C p → (c : Columns) (w : Work WaitingRoom) (told : Told)
       → GrowDone (C .trees) (lot C p) (R .nodes) c (R .work) w told
       → (l : Left) → l ≡ leaves (C .trees) (told .reports) (told .ends) (told .end) (R .starts) (R .reports)
       → outcomeOf (l .answer) (forestRoomsOf c (l .starts) (l .reports) w) ≡ fitForest waitingRoom C R

@@ -101,7 +101,7 @@ pub fn fit_forest(
         reports,
     );
     match plan {
-        Plan::Refused(n) => ForestAnswer::Refused(n),
+        Plan::Refused(r) => ForestAnswer::Refused(r),
         Plan::Grow(growing) => {
             let told = forest_grow::grow(
                 value,

@@ -1,8 +1,8 @@
 -- A refusal, or what is to be grown of a call whose checks have passed. Assumes nothing.
-use Prim.Native.Nat.{ℕ, _*_, _<_, _≤_, min}
+use Prim.Native.Nat.{ℕ, _*_, _≤_, min}
 use native.Mathlib.Nat.{mul-le-mul}
 use native.Mathlib.Omega.{arith}
-use mathlib.Core.Path.{_≡_, refl, sym, _∙_, subst}
+use mathlib.Core.Path.{_≡_, refl, sym, subst}
 use mathlib.Core.Bool.{false}
 use mathlib.Core.List.{List, []}
 use lib.ListN.{replicate, length-replicate}
@@ -10,16 +10,16 @@ use Rattle.rules.specs.declared.Params.{Params}
 use Rattle.rules.specs.declared.Settings.{Settings}
 use Rattle.rules.specs.declared.Shape.{Shape}
 use Rattle.rules.specs.declared.Tried.{Tried}
+use Rattle.rules.specs.declared.Checked.{Checked}
 use Rattle.rules.specs.Words.{nought}
 use Rattle.rules.specs.Lent.{Given, ForestRooms, WaitingRoom, waitingRoom, columnsOf, reportsOf, workOf, forestRoomsOf}
-use Rattle.rules.specs.Checks.{firstFailed}
+use Rattle.rules.specs.Checks.{checked}
 use Rattle.rules.specs.Forest.{ForestCall, forestCall, triedOf, forestTests}
 use Rattle.lemmas.specs.Passed.{ForestPassed, forest-passed}
 use Rattle.checks.specs.declared.Lengths.{Lengths}
 use Rattle.checks.specs.declared.ReportLengths.{ReportLengths}
 use Rattle.checks.specs.Verdicts.{ForestHas}
 use Rattle.params.specs.Params.{ParamsMade}
-use Rattle.rooms.specs.Enough.{none}
 use Rattle.forest_ready.specs.declared.Growing.{Growing}
 use Rattle.forest_ready.specs.declared.Plan.{Plan}
 use Rattle.forest_ready.specs.declared.Plan.the-variants as P
@@ -27,17 +27,13 @@ use Rattle.forest_ready.specs.declared.Plan.the-variants as P
 abbrev pub Made : ForestCall → Params → Type 0
 Made C p = ParamsMade (C .settings) (triedOf (C .shape .features) (C .tried)) (C .shape .features) p
 
-pub record Refuses (C : ForestCall) (R : ForestRooms WaitingRoom) (n : ℕ) : Type 0 where
-  pub some : 0 < n
-  pub first : n ≡ firstFailed (forestTests waitingRoom C R)
-
 pub record Grows (C : ForestCall) (R : ForestRooms WaitingRoom) (g : Growing) : Type 0 where
-  pub passed : firstFailed (forestTests waitingRoom C R) ≡ 0
+  pub passed : checked (forestTests waitingRoom C R) ≡ Checked.Passed
   pub size : g .size ≡ C .shape .features * C .shape .rows
   pub made : Made C (g .params)
 
 abbrev pub Ready : ForestCall → ForestRooms WaitingRoom → Plan → Type 0
-Ready C R (P.Refused n) = Refuses C R n
+Ready C R (P.Refused r) = Checked.Refused r ≡ checked (forestTests waitingRoom C R)
 Ready C R (P.Grow g) = Grows C R g
 
 -- ---- what is known of the shape alone: some rooms are as long as was said
@@ -91,10 +87,10 @@ module _ (S : Shape) (n : ℕ) (G : Given) (w t : ℕ) (ws ts : List ℕ) (L : L
       two : (k : ℕ) {a b : ℕ} → a ≡ k → b ≡ k → min a b ≡ k
       two k a b = omega arith
 
-  module _ (r : ℕ) (h : (C : ForestCall) (R : ForestRooms WaitingRoom) → ForestHas S n G w t ws ts L s P C R → r ≡ firstFailed (forestTests waitingRoom C R)) (z : r ≤ 0)
+  module _ (h : (C : ForestCall) (R : ForestRooms WaitingRoom) → ForestHas S n G w t ws ts L s P C R → Checked.Passed ≡ checked (forestTests waitingRoom C R))
       (settings : Settings) (tried : Tried) where
     right : ForestPassed waitingRoom (someCall settings tried) someRooms
-    right = forest-passed waitingRoom (someCall settings tried) someRooms (sym (h (someCall settings tried) someRooms (some-has settings tried)) ∙ none r z)
+    right = forest-passed waitingRoom (someCall settings tried) someRooms (sym (h (someCall settings tried) someRooms (some-has settings tried)))
 
     pub few-features : S .features ≤ 1024
     unfolding someCall

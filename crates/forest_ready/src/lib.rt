@@ -6,7 +6,9 @@ ghost use Rattle.checks.specs.Verdicts.{ForestHas};
 ghost use Rattle.forest_ready.specs.Ready.{Ready};
 use checks::Lengths;
 use checks::ReportLengths;
+use rules::Checked;
 use rules::Params;
+use rules::Refusal;
 use rules::Settings;
 use rules::Shape;
 use rules::Tried;
@@ -19,7 +21,7 @@ pub struct Growing {
 
 // A refusal, or what is to be grown.
 pub enum Plan {
-    Refused(u32),
+    Refused(Refusal),
     Grow(Growing),
 }
 
@@ -46,7 +48,7 @@ pub fn ready(
         words thresholds (now (wordstarts .entry)) (now (thresholdstarts .entry)) room starts reports C R
         → settings ≡ C .settings → tried ≡ C .tried → Ready C R r) ⌝ }
 {
-    let n = checks::forest::forest_verdict(
+    let verdict = checks::forest::forest_verdict(
         shape,
         trees,
         values,
@@ -62,8 +64,11 @@ pub fn ready(
         starts,
         reports,
     );
-    if 0 < n {
-        return Plan::Refused(n);
+    match verdict {
+        Checked::Refused(r) => {
+            return Plan::Refused(r);
+        }
+        Checked::Passed => {}
     }
     let rows = shape.rows;
     let features = shape.features;

@@ -6,11 +6,12 @@ use mathlib.Core.Path.{_≡_, refl, sym, ap, _∙_, subst}
 use mathlib.Core.List.{List, [], _∷_, _++_, map}
 use lib.ListN.{length, getD, length-map, length-append}
 use Rattle.rules.specs.declared.Report.{Report}
+use Rattle.rules.specs.declared.Checked.{Checked}
 use Rattle.rules.specs.declared.TreeAnswer.{TreeAnswer}
 use Rattle.rules.specs.declared.ForestAnswer.{ForestAnswer}
 use Rattle.rules.specs.Words.{from, front, total}
 use Rattle.rules.specs.Lent.{Data, OneTree, WaitingForm, TreeRooms, ForestRooms, shortest, writeEntries, writeReports, zeroWork}
-use Rattle.rules.specs.Checks.{firstFailed, roomFor}
+use Rattle.rules.specs.Checks.{checked, roomFor}
 use Rattle.rules.specs.Draws.{Out, bad, ok}
 use Rattle.rules.specs.Fit.{Tree, fit, entries, paramsOf, TreeCall, oneTreeOf, grownTree, treeTests, treeDone, treeEnds, fitTree}
 use Rattle.rules.specs.Forest.{ForestCall, oneTreeAt, eachTree, Forest, stopped, grownAll, withTree, nextTree, growTrees, grownForest, startsFrom, forestEntries, forestTests, forestDone, forestEnds, fitForest}
@@ -34,7 +35,7 @@ reportOr d (TreeAnswer.Grown r) = r
 
 module _ {W : Type 0} (K : WaitingForm W) where
   pub record TreeAnswered (C : TreeCall) (R : TreeRooms W) (r : Report) : Type 0 where
-    pub passed : firstFailed (treeTests K C R) ≡ 0
+    pub passed : checked (treeTests K C R) ≡ Checked.Passed
     pub tree : Tree
     pub grew : fit (oneTreeOf C) (C .given .inputs) ≡ ok tree
     pub reported : tree .report ≡ r
@@ -42,15 +43,15 @@ module _ {W : Type 0} (K : WaitingForm W) where
 
   pub tree-answered : (C : TreeCall) (R : TreeRooms W) (r : Report) → fitTree K C R .answer ≡ TreeAnswer.Grown r → TreeAnswered C R r
   unfolding fitTree treeEnds treeDone grownTree
-  tree-answered C R r h = go (firstFailed (treeTests K C R)) refl (fit (oneTreeOf C) (C .given .inputs)) refl h
+  tree-answered C R r h = go (checked (treeTests K C R)) refl (fit (oneTreeOf C) (C .given .inputs)) refl h
     where
-      go : (k : ℕ) → firstFailed (treeTests K C R) ≡ k → (o : Out Tree) → fit (oneTreeOf C) (C .given .inputs) ≡ o → treeEnds K k o R .answer ≡ TreeAnswer.Grown r → TreeAnswered C R r
-      go zero q (bad s) e h = absurd (subst IsGrown (sym h) tt)
-      go zero q (ok t) e h = record { passed = q; tree = t; grew = e; reported = ap (reportOr r) h; after = λ i. treeEnds K (q i) (e i) R .rooms }
-      go (suc k) q o e h = absurd (subst IsGrown (sym h) tt)
+      go : (k : Checked) → checked (treeTests K C R) ≡ k → (o : Out Tree) → fit (oneTreeOf C) (C .given .inputs) ≡ o → treeEnds K k o R .answer ≡ TreeAnswer.Grown r → TreeAnswered C R r
+      go Checked.Passed q (bad s) e h = absurd (subst IsGrown (sym h) tt)
+      go Checked.Passed q (ok t) e h = record { passed = q; tree = t; grew = e; reported = ap (reportOr r) h; after = λ i. treeEnds K (q i) (e i) R .rooms }
+      go (Checked.Refused r₀) q o e h = absurd (subst IsGrown (sym h) tt)
 
   -- its listings were in order
-  pub tree-listed : (C : TreeCall) (R : TreeRooms W) → Binary64 (C .given .inputs .values) → firstFailed (treeTests K C R) ≡ 0
+  pub tree-listed : (C : TreeCall) (R : TreeRooms W) → Binary64 (C .given .inputs .values) → checked (treeTests K C R) ≡ Checked.Passed
       → Listed (oneTreeOf C) (C .given .inputs) × (0 < oneTreeOf C .params .features)
   unfolding oneTreeOf paramsOf
   tree-listed C R held q =
@@ -131,7 +132,7 @@ ForestGrown ForestAnswer.Grown = Unit {0}
 
 module _ {W : Type 0} (K : WaitingForm W) where
   pub record ForestAnswered (C : ForestCall) (R : ForestRooms W) : Type 0 where
-    pub passed : firstFailed (forestTests K C R) ≡ 0
+    pub passed : checked (forestTests K C R) ≡ Checked.Passed
     pub trees : List Tree
     pub grew : Grew (eachTree C) (C .given .inputs) trees
     pub after : fitForest K C R .rooms ≡ record {
@@ -143,13 +144,13 @@ module _ {W : Type 0} (K : WaitingForm W) where
 
   pub forest-answered : (C : ForestCall) (R : ForestRooms W) → fitForest K C R .answer ≡ ForestAnswer.Grown → ForestAnswered C R
   unfolding fitForest forestEnds forestDone grownForest
-  forest-answered C R h = go (firstFailed (forestTests K C R)) refl (growTrees 0 (eachTree C) (C .given .inputs)) refl h
+  forest-answered C R h = go (checked (forestTests K C R)) refl (growTrees 0 (eachTree C) (C .given .inputs)) refl h
     where
-      go : (k : ℕ) → firstFailed (forestTests K C R) ≡ k → (f : Forest) → growTrees 0 (eachTree C) (C .given .inputs) ≡ f → forestEnds K k f R .answer ≡ ForestAnswer.Grown → ForestAnswered C R
-      go zero q (stopped d) e h = absurd (subst ForestGrown (sym h) tt)
-      go zero q (grownAll ts) e h =
+      go : (k : Checked) → checked (forestTests K C R) ≡ k → (f : Forest) → growTrees 0 (eachTree C) (C .given .inputs) ≡ f → forestEnds K k f R .answer ≡ ForestAnswer.Grown → ForestAnswered C R
+      go Checked.Passed q (stopped d) e h = absurd (subst ForestGrown (sym h) tt)
+      go Checked.Passed q (grownAll ts) e h =
           record { passed = q; trees = ts; grew = subst (GrewAll (eachTree C) (C .given .inputs)) e (trees-grew 0 (eachTree C) (C .given .inputs)); after = λ i. forestEnds K (q i) (e i) R .rooms }
-      go (suc k) q f e h = absurd (subst ForestGrown (sym h) tt)
+      go (Checked.Refused r₀) q f e h = absurd (subst ForestGrown (sym h) tt)
 
   module _ (C : ForestCall) (R : ForestRooms W) (a : ForestAnswered C R) where
     pub forest-right : ForestPassed K C R

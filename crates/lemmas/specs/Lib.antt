@@ -50,3 +50,5 @@ pub mod Marks
 pub mod Tests
 -- where a cell lies among the values, and a listing among the listings
 pub mod Cells
+-- the tests of listings: how they end
+pub mod Faults

@@ -12,6 +12,18 @@ use borrow.Author.Tests.{eq-eqb, eqb-true, eqb-false}
 use Rattle.rules.specs.Words.{member, fresh, eachOnce}
 use Rattle.lemmas.specs.Scans.{fresh-goes, fresh-out, fresh-twice, fresh-ends}
 
+-- one number more behind, and its mark
+pub mark-more : (n : ℕ) (seen : List Bool) (behind : List ℕ) (k : ℕ) → ((r : ℕ) → r < n → getD seen r false ≡ member r behind) → n ≤ length seen → k < n
+    → (r : ℕ) → r < n → getD (set seen k true) r false ≡ member r (k ∷ behind)
+unfolding member
+mark-more n seen behind k marks room b r g = go (eqb r k) refl
+  where
+    go : (t : Bool) → eqb r k ≡ t → getD (set seen k true) r false ≡ (eqb r k || member r behind)
+    go true t =
+        ap (λ j. getD (set seen k true) j false) (eqb-true r k t) ∙ getD-set-same seen k true false (lt-of-lt-of-le b room)
+        ∙ sym (ap (λ z. z || member r behind) t)
+    go false t = getD-set-other seen k r true false (eqb-false r k t) ∙ marks r g ∙ sym (ap (λ z. z || member r behind) t)
+
 module _ (n : ℕ) (l : List ℕ) where
   -- at place i: what is left to ask is what was asked, and the marks are the numbers behind
   pub record Met (seen : List Bool) (i : ℕ) : Type 0 where
@@ -30,24 +42,13 @@ module _ (n : ℕ) (l : List ℕ) where
 
   module _ (seen : List Bool) (i : ℕ) (m : Met seen i) where
     module _ (h : i < length l) where
-      -- one number more behind, and its mark
-      marked : n ≤ length seen → getD l i 0 < n → (r : ℕ) → r < n → getD (set seen (getD l i 0) true) r false ≡ member r (getD l i 0 ∷ m .behind)
-      unfolding member
-      marked room b r g = go (eqb r (getD l i 0)) refl
-        where
-          go : (t : Bool) → eqb r (getD l i 0) ≡ t → getD (set seen (getD l i 0) true) r false ≡ (eqb r (getD l i 0) || member r (m .behind))
-          go true t =
-              ap (λ k. getD (set seen (getD l i 0) true) k false) (eqb-true r (getD l i 0) t) ∙ getD-set-same seen (getD l i 0) true false (lt-of-lt-of-le b room)
-              ∙ sym (ap (λ z. z || member r (m .behind)) t)
-          go false t = getD-set-other seen (getD l i 0) r true false (eqb-false r (getD l i 0) t) ∙ m .marks r g ∙ sym (ap (λ z. z || member r (m .behind)) t)
-
       pub met-next : n ≤ length seen → getD l i 0 < n → getD seen (getD l i 0) false ≡ false → Met (set seen (getD l i 0) true) (i + 1)
       met-next room b e =
           record {
             behind = getD l i 0 ∷ m .behind;
             within = omega arith;
             left = fresh-goes n l (m .behind) i h (m .left) b (sym (m .marks (getD l i 0) b) ∙ e);
-            marks = marked room b;
+            marks = mark-more n seen (m .behind) (getD l i 0) (m .marks) room b;
           }
 
       pub met-out : length l ≡ n → n ≤ getD l i 0 → false ≡ eachOnce n l

@@ -4,8 +4,8 @@ use native.Mathlib.Nat.{zero-add, le-trans}
 use native.Mathlib.Decide.{ℕ-discrete}
 use native.Mathlib.Omega.{arith}
 use mathlib.Core.Path.{_≡_, refl, sym, ap, _∙_, subst}
-use mathlib.Core.Bool.{Bool, true, false, not, _&&_, _||_}
-use mathlib.Core.List.{List, [], _∷_}
+use mathlib.Core.Bool.{Bool, true, false, not, _&&_, _||_, cond}
+use mathlib.Core.List.{List, [], _∷_, _++_}
 use lib.ListN.{length, getD}
 use lib.Dec.{T, leb, eqb, leb→le, eqb→eq}
 use lib.Ieee.{Float, nan, binary64, fits, lt, le}
@@ -13,23 +13,27 @@ use lib.Ieee.Scale.{finite}
 use lib.Ieee.Fits.{and-l, and-r}
 use Rattle.floats.specs.Order.{le-trans64}
 use Rattle.rules.specs.declared.Shape.{Shape}
+use Rattle.rules.specs.declared.Checked.{Checked}
 use Rattle.rules.specs.Words.{from, every, along, total, eachOnce}
 use Rattle.rules.specs.Lent.{Given, OneTree, WaitingForm, TreeRooms, ForestRooms, valuesAt, listingAt, unweighted, shortest, cell}
-use Rattle.rules.specs.Checks.{Test, test, firstFailed, within, rowsIn, featuresIn, treesIn, shapeIn, lengths, goodTapeStarts, goodWeight, numbersGood, countsGood, countsOne, roomFor, workEnough, reportsExact}
-use Rattle.rules.specs.Listing.{neverFalls, goodListing, listingsGood}
+use Rattle.rules.specs.Checks.{Test, test, checked, firstFailed, within, rowsIn, featuresIn, treesIn, shapeIn, lengths, goodTapeStarts, goodWeight, numbersGood, countsGood, countsOne, roomFor, workEnough, reportsExact}
+use Rattle.rules.specs.Listing.{orderTests}
 use Rattle.rules.specs.Search.{at}
 use Rattle.rules.specs.Fit.{listing, elementIn, element, paramsOf, TreeCall, oneTreeOf, treeTests}
 use Rattle.rules.specs.Forest.{ForestCall, oneTreeAt, eachTree, tapesGood, roomsGood, forestTests}
-use Rattle.lemmas.specs.Lists.{or-other, Every, each, every-all, every-at, every-or, every-take, every-drop, every-from, same-default, Ordered, ordered-along, ordered-at}
+use Rattle.lemmas.specs.Lists.{is-true, or-other, Every, each, every-all, every-at, every-or, every-take, every-drop, every-from, same-default, Ordered, ordered-along, ordered-at}
 use Rattle.lemmas.specs.Cells.{cell-lies, cell-within}
 use Rattle.lemmas.specs.Once.{once-below}
 use Rattle.lemmas.specs.Values.{Value, not-falls}
 use Rattle.lemmas.specs.Root.{Before, Listed}
+use Rattle.lemmas.specs.Tests.{passes, none-failed, andThen, checked-append}
+use Rattle.lemmas.specs.Faults.{neverFalls, goodListing, listingsGood, isPassed, listings-sound}
 
 -- ---- lists of tests
 
+-- by numbers alone
 pub past : (n : ℕ) (b : Bool) (ts : List Test) → firstFailed (test (suc n) b ∷ ts) ≡ 0 → T b × (firstFailed ts ≡ 0)
-unfolding firstFailed
+unfolding checked
 past n true ts h = (tt, h)
 past n false ts h = absurd (no-zero h)
   where
@@ -37,13 +41,30 @@ past n false ts h = absurd (no-zero h)
     no-zero h = omega arith
 
 pub goes-on : (n : ℕ) (b : Bool) (ts : List Test) → T b → firstFailed ts ≡ 0 → firstFailed (test n b ∷ ts) ≡ 0
-unfolding firstFailed
-goes-on n true ts t h = h
-goes-on n false ts t h = absurd t
+goes-on n b ts t h = sym (passes n b ts (is-true b t) (sym h))
 
 pub none-fails : firstFailed [] ≡ 0
-unfolding firstFailed
-none-fails = refl
+none-fails = sym none-failed
+
+-- what they tell
+abbrev pub IsPassed : Checked → Type 0
+IsPassed Checked.Passed = Unit {0}
+IsPassed (Checked.Refused r) = ⊥
+
+pub past-test : (t : Test) (ts : List Test) → checked (t ∷ ts) ≡ Checked.Passed → T (t .passes) × (checked ts ≡ Checked.Passed)
+unfolding checked
+past-test t ts h = go (t .passes) h
+  where
+    go : (b : Bool) → cond b (checked ts) (Checked.Refused (t .tells)) ≡ Checked.Passed → T b × (checked ts ≡ Checked.Passed)
+    go true h = (tt, h)
+    go false h = absurd (subst IsPassed (sym h) tt)
+
+pub past-all : (us vs : List Test) → checked (us ++ vs) ≡ Checked.Passed → (checked us ≡ Checked.Passed) × (checked vs ≡ Checked.Passed)
+past-all us vs h = go (checked us) refl (sym (checked-append us vs) ∙ h)
+  where
+    go : (c : Checked) → checked us ≡ c → andThen c (checked vs) ≡ Checked.Passed → (checked us ≡ Checked.Passed) × (checked vs ≡ Checked.Passed)
+    go Checked.Passed e h = (e, h)
+    go (Checked.Refused r) e h = absurd (subst IsPassed (sym h) tt)
 
 pub and2 : (a b : Bool) → T (a && b) → T a × T b
 and2 a b t = (and-l a b t, and-r a b t)
@@ -76,7 +97,7 @@ pub record Passed (S : Shape) (trees : ℕ) (G : Given) : Type 0 where
   pub listings : T (listingsGood S (G .inputs .values) (G .inputs .listings))
 
 from-tests : (S : Shape) (trees : ℕ) (G : Given) → T (shapeIn S) → T (lengths S trees G) → T (numbersGood G) → T (countsGood G)
-    → T (listingsGood S (G .inputs .values) (G .inputs .listings)) → Passed S trees G
+    → checked (orderTests S (G .inputs .values) (G .inputs .listings)) ≡ Checked.Passed → Passed S trees G
 unfolding within lengths numbersGood countsGood
 from-tests S trees G i l n c g =
     let (r, f) = and2 (rowsIn (S .rows)) (featuresIn (S .features)) i in
@@ -97,7 +118,7 @@ from-tests S trees G i l n c g =
       targetsFinite = each finite (G .inputs .targets) n₂;
       weightsGood = each goodWeight (G .weights) n₃;
       countsLow = each (λ k. leb k 65535) (G .counts) c;
-      listings = g;
+      listings = subst T (listings-sound S (G .inputs .values) (G .inputs .listings) (eqb→eq (length (G .inputs .listings)) (S .features * S .rows) l₅)) (subst (λ c. T (isPassed c)) (sym g) tt);
     }
 
 module _ {W : Type 0} (K : WaitingForm W) where
@@ -106,11 +127,11 @@ module _ {W : Type 0} (K : WaitingForm W) where
     pub room : roomFor (oneTreeOf C) ≤ shortest (R .nodes)
     pub work : T (workEnough K (C .shape) (R .work))
 
-  pub tree-passed : (C : TreeCall) (R : TreeRooms W) → firstFailed (treeTests K C R) ≡ 0 → TreePassed C R
+  pub tree-passed : (C : TreeCall) (R : TreeRooms W) → checked (treeTests K C R) ≡ Checked.Passed → TreePassed C R
   unfolding treeTests
   tree-passed C R h₁ =
-      let (t₁, h₂) = past 0 _ _ h₁ in let (t₂, h₃) = past 1 _ _ h₂ in let (t₃, h₄) = past 2 _ _ h₃ in
-      let (t₄, h₅) = past 3 _ _ h₄ in let (t₅, h₆) = past 4 _ _ h₅ in let (t₆, h₇) = past 5 _ _ h₆ in
+      let (t₁, h₂) = past-test _ _ h₁ in let (t₂, h₃) = past-test _ _ h₂ in let (t₃, h₄) = past-test _ _ h₃ in
+      let (t₄, h₅) = past-test _ _ h₄ in let (t₅, h₆) = past-all _ _ h₅ in let (t₆, h₇) = past-test _ _ h₆ in
       let (a, b) = and2 (leb (roomFor (oneTreeOf C)) (shortest (R .nodes))) (workEnough K (C .shape) (R .work)) t₆ in
       record { passed = from-tests (C .shape) 1 (C .given) t₁ t₂ t₃ t₄ t₅; room = leb→le (roomFor (oneTreeOf C)) (shortest (R .nodes)) a; work = b }
 
@@ -126,11 +147,11 @@ module _ {W : Type 0} (K : WaitingForm W) where
     pub startsRoom : suc (C .trees) ≤ length (R .starts)
     pub reports : T (reportsExact (C .trees) (R .reports))
 
-  pub forest-passed : (C : ForestCall) (R : ForestRooms W) → firstFailed (forestTests K C R) ≡ 0 → ForestPassed C R
+  pub forest-passed : (C : ForestCall) (R : ForestRooms W) → checked (forestTests K C R) ≡ Checked.Passed → ForestPassed C R
   unfolding forestTests roomsGood within
   forest-passed C R h₁ =
-      let (t₁, h₂) = past 0 _ _ h₁ in let (t₂, h₃) = past 1 _ _ h₂ in let (t₃, h₄) = past 2 _ _ h₃ in
-      let (t₄, h₅) = past 3 _ _ h₄ in let (t₅, h₆) = past 4 _ _ h₅ in let (t₆, h₇) = past 5 _ _ h₆ in
+      let (t₁, h₂) = past-test _ _ h₁ in let (t₂, h₃) = past-test _ _ h₂ in let (t₃, h₄) = past-test _ _ h₃ in
+      let (t₄, h₅) = past-test _ _ h₄ in let (t₅, h₆) = past-all _ _ h₅ in let (t₆, h₇) = past-test _ _ h₆ in
       let (s, n) = and2 (shapeIn (C .shape)) (treesIn (C .trees)) t₁ in
       let (a, k, b, e) = and4 (leb (total roomFor (eachTree C)) (shortest (R .nodes))) (workEnough K (C .shape) (R .work))
       (leb (suc (C .trees)) (length (R .starts))) (reportsExact (C .trees) (R .reports)) t₆ in

@@ -4,16 +4,18 @@ use native.Mathlib.Nat.{mul-le-mul}
 use native.Mathlib.Omega.{arith}
 use mathlib.Core.Path.{_≡_, refl, sym, ap, _∙_, subst}
 use mathlib.Core.Bool.{Bool, true, false, _&&_, _||_, cond}
-use mathlib.Core.List.{List, [], _∷_}
+use mathlib.Core.List.{List, [], _∷_, _++_}
 use lib.ListN.{length}
 use lib.Dec.{T, leb, leb→le}
 use lib.Ieee.{Float}
 use lib.Ieee.Fits.{and-l, and-r}
 use Rattle.rules.specs.declared.Shape.{Shape}
+use Rattle.rules.specs.declared.Refusal.{Refusal}
+use Rattle.rules.specs.declared.Checked.{Checked}
 use Rattle.rules.specs.declared.Reply.{Reply}
 use Rattle.rules.specs.Lent.{unweighted}
 use Rattle.rules.specs.Reading.{reads}
-use Rattle.rules.specs.Checks.{Test, test, firstFailed, replies, within, rowsIn, featuresIn, shapeIn}
+use Rattle.rules.specs.Checks.{Test, test, checked, numberOf, firstFailed, replies, within, rowsIn, featuresIn, shapeIn}
 
 -- ---- bools
 
@@ -36,18 +38,51 @@ and-both false false h = (h, h)
 
 -- ---- lists of tests
 
+module _ (t : Test) (ts : List Test) where
+  pub goes-on : {c : Checked} → t .passes ≡ true → c ≡ checked ts → c ≡ checked (t ∷ ts)
+  unfolding checked
+  goes-on h e = e ∙ sym (ap (λ z. cond z (checked ts) (Checked.Refused (t .tells))) h)
+
+  pub stops : t .passes ≡ false → Checked.Refused (t .tells) ≡ checked (t ∷ ts)
+  unfolding checked
+  stops h = sym (ap (λ z. cond z (checked ts) (Checked.Refused (t .tells))) h)
+
+pub none-left : Checked.Passed ≡ checked []
+unfolding checked
+none-left = refl
+
+-- by numbers alone
 module _ (n : ℕ) (b : Bool) (ts : List Test) where
   pub passes : {r : ℕ} → b ≡ true → r ≡ firstFailed ts → r ≡ firstFailed (test n b ∷ ts)
-  unfolding firstFailed
-  passes h e = e ∙ sym (ap (λ z. cond z (firstFailed ts) n) h)
+  passes h e = e ∙ ap numberOf (goes-on (test n b) ts h refl)
 
   pub fails : b ≡ false → n ≡ firstFailed (test n b ∷ ts)
-  unfolding firstFailed
-  fails h = sym (ap (λ z. cond z (firstFailed ts) n) h)
+  fails h = ap numberOf (stops (test n b) ts h)
 
 pub none-failed : 0 ≡ firstFailed []
-unfolding firstFailed
-none-failed = refl
+none-failed = ap numberOf none-left
+
+-- one list of tests after another
+abbrev pub andThen : Checked → Checked → Checked
+andThen Checked.Passed c = c
+andThen (Checked.Refused r) c = Checked.Refused r
+
+pub checked-append : (us vs : List Test) → checked (us ++ vs) ≡ andThen (checked us) (checked vs)
+unfolding checked
+checked-append [] vs = refl
+checked-append (t ∷ us) vs = go (t .passes) (checked-append us vs)
+  where
+    go : (b : Bool) → checked (us ++ vs) ≡ andThen (checked us) (checked vs)
+        → cond b (checked (us ++ vs)) (Checked.Refused (t .tells)) ≡ andThen (cond b (checked us) (Checked.Refused (t .tells))) (checked vs)
+    go true e = e
+    go false e = refl
+
+module _ (us vs : List Test) where
+  pub all-go-on : {c : Checked} → checked us ≡ Checked.Passed → c ≡ checked vs → c ≡ checked (us ++ vs)
+  all-go-on h e = e ∙ sym (checked-append us vs ∙ ap (λ z. andThen z (checked vs)) h)
+
+  pub all-stop : (r : Refusal) → checked us ≡ Checked.Refused r → Checked.Refused r ≡ checked (us ++ vs)
+  all-stop r h = sym (checked-append us vs ∙ ap (λ z. andThen z (checked vs)) h)
 
 pub replies-done : (n : ℕ) → n ≡ 0 → Reply.Done ≡ replies n
 unfolding replies

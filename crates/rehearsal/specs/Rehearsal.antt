@@ -17,14 +17,15 @@ use Rattle.rules.specs.declared.Scale.{Scale}
 use Rattle.rules.specs.declared.Scale.the-variants.{Normalised, ByMass}
 use Rattle.rules.specs.declared.TreeAnswer.{TreeAnswer}
 use Rattle.rules.specs.declared.ForestAnswer.{ForestAnswer}
+use Rattle.rules.specs.declared.Refusal.{Refusal}
 use Rattle.rules.specs.declared.Reply.{Reply}
 use Rattle.rules.specs.declared.ErrorReply.{ErrorReply}
-use Rattle.rules.specs.Words.{float, from, putIf, keep, every, alongFrom, along, total, member, fresh, eachOnce}
+use Rattle.rules.specs.Words.{float, from, putIf, keep, every, alongFrom, along, joined, total, member, fresh, eachOnce}
 use Rattle.rules.specs.Totals.{takeIn, less, valueOf, massless, gap, proxy, score}
 use Rattle.rules.specs.Threshold.{midpoint, thresholdBetween}
 use Rattle.rules.specs.Lent.{Given, Columns, WaitingRoom, waitingRoom, Work, TreeRooms, ForestRooms, Outcome, valuesAt, listingAt, unweighted, entriesAt, kept, keptRows, cell, countIn, massIn, keptIn}
-use Rattle.rules.specs.Checks.{firstFailed, within, lengths, goodTapeStarts, goodWeight, numbersGood, countsGood, countsOne, roomFor, workEnough, reportsExact}
-use Rattle.rules.specs.Listing.{neverFalls, goodListing, listingsGood}
+use Rattle.rules.specs.Checks.{numbered, checked, within, lengths, goodTapeStarts, goodWeight, numbersGood, countsGood, countsOne, roomFor, workEnough, reportsExact}
+use Rattle.rules.specs.Listing.{falls, lackingFrom, lowestLacking, fault, testsFrom, columnTests, orderTests}
 use Rattle.rules.specs.Draws.{bind, takeWords, takeThreshold, nextThreshold, tape}
 use Rattle.rules.specs.Search.{at, totalsOf, goesTrue, better, judge, candidateAt, step, sweep, bestIn, final, drawn, drawIn, randomIn, tryOne, tryAll, search}
 use Rattle.rules.specs.Growth.{child, leafOf, splitting, splitOf, withChildren, searchable, joins, runs, searchIf, expand, grow, growAll, fromRoot}
@@ -49,9 +50,9 @@ pub data Seen : Type 0 where
   bagged : Outcome ForestAnswer (ForestRooms WaitingRoom) → Outcome Reply (List Float) → ErrorReply → Seen
 
 unfoldable pub run : Call → Seen
-unfolding from putIf keep every alongFrom along total member fresh eachOnce takeIn less valueOf massless gap proxy score midpoint thresholdBetween valuesAt cell listingAt
-    unweighted entriesAt firstFailed within lengths goodTapeStarts goodWeight numbersGood countsGood countsOne countIn massIn keptIn kept keptRows roomFor workEnough reportsExact
-    neverFalls goodListing listingsGood bind takeWords takeThreshold nextThreshold tape at totalsOf goesTrue better judge candidateAt step sweep bestIn final drawn drawIn
+unfolding from putIf keep every alongFrom along joined total member fresh eachOnce takeIn less valueOf massless gap proxy score midpoint thresholdBetween valuesAt cell listingAt
+    unweighted entriesAt checked within lengths goodTapeStarts goodWeight numbersGood countsGood countsOne countIn massIn keptIn kept keptRows roomFor workEnough reportsExact
+    falls lackingFrom lowestLacking testsFrom columnTests orderTests bind takeWords takeThreshold nextThreshold tape at totalsOf goesTrue better judge candidateAt step sweep bestIn final drawn drawIn
     randomIn tryOne tryAll search child leafOf splitting splitOf withChildren searchable joins runs searchIf expand grow growAll fromRoot listing elementIn element column
     root treeOf growFrom fit entryOf entries limitOf paramsOf oneTreeOf grownTree treeTests treeDone treeEnds fitTree isLeaf goodEntry goodFrom goodTree treeIn startsGood
     treeAt treesOf goodForest onto walked leafValue reads addTrees meanOf scored addScores sumFrom dividedIf normalised scoresOf scaled treeImportanceTests treeImportances
@@ -117,6 +118,10 @@ treeBy height depth leaf split G =
 
 abbrev tree : Depth → ℕ → ℕ → Given → TreeCall
 tree depth leaf split G = treeBy Midpoint depth leaf split G
+
+-- P1's, with another listing
+abbrev listed : List ℕ → TreeCall
+listed listing = tree Unlimited 1 2 (given rise flats ones listing)
 
 abbrev forest : Given → ForestCall
 forest G =
@@ -232,8 +237,8 @@ says n depth mass searches c =
     })
 
 -- refused, and all as it was
-abbrev no : ℕ → TreeRooms WaitingRoom → Seen
-no n R = fitted (record { answer = TreeAnswer.Refused n; rooms = R })
+abbrev no : Refusal → TreeRooms WaitingRoom → Seen
+no r R = fitted (record { answer = TreeAnswer.Refused r; rooms = R })
 
 abbrev results : List Float → Outcome Reply (List Float)
 results l = record { answer = Reply.Done; rooms = l }
@@ -290,15 +295,21 @@ cases =
     ∷ case (bags (forest (sampled deep)) (lentAll 5) (nineFloats 4)) (bagOfP8 (times 15625 6))
     -- P9: node room 1 is enough
     ∷ case (fits (tree Unlimited 1 2 (given rise flats (0 ∷ 0 ∷ 0 ∷ 0 ∷ []) sorted)) (lent 1)) (says 1 0 f0 0 (lone f0 0))
-    -- P10
-    ∷ case (fits (tree Unlimited 1 2 (given rise flats ones (0 ∷ 1 ∷ 1 ∷ 3 ∷ []))) (lent 7)) (no 5 (lent 7))
+    -- P10: row 1 again at place 2 of column 0, and row 2 is lacking
+    ∷ case (fits (listed (0 ∷ 1 ∷ 1 ∷ 3 ∷ [])) (lent 7)) (no (fault 12 0 2 2) (lent 7))
+    -- other faults: a row too large; a fall before a row met again; a row met again that also falls; lacking rows that other places do not hold, and the first
+    ∷ case (fits (listed (0 ∷ 1 ∷ 4 ∷ 1 ∷ [])) (lent 7)) (no (fault 11 0 2 0) (lent 7))
+    ∷ case (fits (listed (1 ∷ 0 ∷ 2 ∷ 1 ∷ [])) (lent 7)) (no (fault 13 0 1 0) (lent 7))
+    ∷ case (fits (listed (0 ∷ 2 ∷ 0 ∷ 3 ∷ [])) (lent 7)) (no (fault 12 0 2 1) (lent 7))
+    ∷ case (fits (listed (0 ∷ 0 ∷ 1 ∷ 2 ∷ [])) (lent 7)) (no (fault 12 0 1 3) (lent 7))
+    ∷ case (fits (listed (1 ∷ 1 ∷ 2 ∷ 3 ∷ [])) (lent 7)) (no (fault 12 0 1 0) (lent 7))
     -- P1's importance: 1 normalised, 25 not
     ∷ case (weighs Normalised (tree Unlimited 1 2 plain) (lent 7) (nineFloats 1)) (read (results (times 1 0 ∷ [])))
     ∷ case (weighs (ByMass (float 4)) (tree Unlimited 1 2 plain) (lent 7) (nineFloats 1)) (read (results (times 25 0 ∷ [])))
     -- P1's forest leaves no row out
     ∷ case (bags (forest plain) (lentAll 7) (nineFloats 4)) (oneTree 7 (seven 0) (replicate 4 nan) (ErrorReply.Refused 18))
     -- node room 6 for P1, and 7
-    ∷ case (fits (tree Unlimited 1 2 plain) (lent 6)) (no 6 (lent 6))
+    ∷ case (fits (tree Unlimited 1 2 plain) (lent 6)) (no (numbered 6) (lent 6))
     ∷ case (fits (tree Unlimited 1 2 plain) (lent 7)) (says 7 3 f4 3 (seven 0))
     -- P1 at the lower of two values: 2, then 3 and 1
     ∷ case (fits (treeBy Lower Unlimited 1 2 plain) (lent 7)) (says 7 3 f4 3 (sevenAt (times 1 1 ∷ times 1 0 ∷ times 3 0 ∷ []) 0))
@@ -313,7 +324,49 @@ Holds (c ∷ cs) = (run (c .call) ≡ c .leaves) × Holds cs
 
 pub rehearsal : Holds cases
 unfolding cases run
-rehearsal = (refl, (refl, (refl, (refl, (refl, (refl, (refl, (refl, (refl, (refl, (refl, (refl, (refl, (refl, (refl, (refl, (refl, (refl, (refl, (refl, (refl, (refl, tt))))))))))))))))))))))
+rehearsal = (
+  refl,
+  (
+    refl,
+    (
+      refl,
+      (
+        refl,
+        (
+          refl,
+          (
+            refl,
+            (
+              refl,
+              (
+                refl,
+                (
+                  refl,
+                  (
+                    refl,
+                    (
+                      refl,
+                      (
+                        refl,
+                        (
+                          refl,
+                          (
+                            refl,
+                            (refl, (refl, (refl, (refl, (refl, (refl, (refl, (refl, (refl, (refl, (refl, (refl, (refl, tt))))))))))))),
+                          ),
+                        ),
+                      ),
+                    ),
+                  ),
+                ),
+              ),
+            ),
+          ),
+        ),
+      ),
+    ),
+  ),
+)
 
 -- ---- the corners of the threshold
 

@@ -1,20 +1,12 @@
 // Kind 2: a fit of a forest.
-ghost use mathlib.Core.Path.{_≡_};
-ghost use lib.ListN.{length};
 use crate::calls;
 use crate::rooms;
 use crate::rooms::Check;
 use crate::rooms::Verdict;
-use rules::ForestTold;
+use rules::Refusal;
 use rules::Settings;
 use rules::Shape;
 use rules::Tried;
-
-fn told_of(t: ForestTold) -> [usize; 3]
-    ensures { λ r. ⌜ 3 ≡ length r ⌝ }
-{
-    [t.number as usize, t.tree as usize, t.search as usize]
-}
 
 // The start table and the six report columns.
 fn reports<'a>(
@@ -41,7 +33,7 @@ fn reports<'a>(
 fn compare<'a>(
     answer: &[usize],
     lengths: &[usize],
-    t: ForestTold,
+    t: Refusal,
     value: &'a [f64],
     feature: &'a [u32],
     threshold: &'a [f64],
@@ -61,8 +53,8 @@ fn compare<'a>(
     wholes: &'a [[u32; 6]],
     triples: &'a [[f64; 3]],
 ) -> Verdict {
-    let told = told_of(t);
-    let c = rooms::first(3);
+    let told = rooms::told_of(t);
+    let c = rooms::first(4);
     let d = rooms::nodes(
         answer,
         lengths,

@@ -122,6 +122,7 @@ fn replay(kind: usize, call: &[usize], reals: &[f64], words: &[u32], answer: &[u
         1 => tree_fits::replay(call, reals, words, answer),
         2 => forest_fits::replay(call, reals, words, answer),
         9 => readers::replay_error(call, reals, answer),
+        10 => readers::replay_listings(call, reals, words, answer),
         13 => nodes::replay(call, reals, words, answer),
         _ => readers::replay(kind, call, reals, words, answer),
     }

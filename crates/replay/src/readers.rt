@@ -52,7 +52,6 @@ fn ask(
     scale: Scale,
     values: &[f64],
     counts: &[u32],
-    listings: &[u32],
     value: &[f64],
     feature: &[u32],
     threshold: &[f64],
@@ -125,7 +124,6 @@ fn ask(
             falsechild,
             out,
         ),
-        10 => checks::listing::check_listings(shape, values, listings),
         11 => tables::check_tree(
             features,
             value,
@@ -166,7 +164,6 @@ fn lend(
         scale,
         calls::reals(reals, p.values, p.counts),
         calls::words(words, p.counts, p.listings),
-        calls::words(words, p.listings, c.value),
         calls::reals(reals, c.value, c.feature),
         calls::words(words, c.feature, c.threshold),
         calls::reals(reals, c.threshold, c.score),
@@ -229,4 +226,21 @@ pub fn replay_error(call: &[usize], reals: &[f64], answer: &[usize]) -> Verdict 
     let t = c_types::error_told_of(r);
     let told = [t.number as usize, rooms::pattern(t.error), t.rows as usize];
     rooms::judged(answer, &told, rooms::first(3))
+}
+
+// ---- the check of listings
+
+pub fn replay_listings(call: &[usize], reals: &[f64], words: &[u32], answer: &[usize]) -> Verdict {
+    let p = places_of(call);
+    let lengths = calls::rest(call, p.room);
+    if lengths.len() != 1 {
+        return Verdict::Malformed;
+    }
+    let c = checks::listing::check_listings(
+        calls::shape_of(call),
+        calls::reals(reals, p.values, p.counts),
+        calls::words(words, p.listings, p.columns.value),
+    );
+    let told = rooms::told_of(c_types::check_told_of(c));
+    rooms::judged(answer, &told, rooms::first(4))
 }

@@ -1,8 +1,10 @@
 // What a call tells and leaves, held against the answer.
 ghost use mathlib.Core.Path.{_≡_};
+ghost use lib.ListN.{length};
 ghost use lib.Ieee as Ieee;
 ghost use lib.Ieee.{binary64};
 use crate::calls;
+use rules::Refusal;
 
 // Numbers and rooms are counted from 1, in the order of the answer.
 pub enum Verdict {
@@ -340,6 +342,17 @@ pub fn work<'a>(
 // ---- the verdict
 
 // Rooms are written after what is told.
+pub fn told_of(t: Refusal) -> [usize; 4]
+    ensures { λ r. ⌜ 4 ≡ length r ⌝ }
+{
+    [
+        t.number as usize,
+        t.part as usize,
+        t.place as usize,
+        t.row as usize,
+    ]
+}
+
 pub fn first(told: usize) -> Check {
     Check {
         at: told,

@@ -8,13 +8,14 @@ use rules::Settings;
 use rules::Shape;
 use rules::TreeTold;
 
-fn told_of(t: TreeTold) -> [usize; 9]
-    ensures { λ r. ⌜ 9 ≡ length r ⌝ }
+fn told_of(t: TreeTold) -> [usize; 10]
+    ensures { λ r. ⌜ 10 ≡ length r ⌝ }
 {
     [
         t.number as usize,
-        t.tree as usize,
-        t.search as usize,
+        t.part as usize,
+        t.place as usize,
+        t.row as usize,
         t.nodes as usize,
         t.depth as usize,
         rooms::pattern(t.mass),
@@ -41,7 +42,7 @@ fn compare<'a>(
     triples: &'a [[f64; 3]],
 ) -> Verdict {
     let told = told_of(t);
-    let c = rooms::first(9);
+    let c = rooms::first(10);
     let d = rooms::nodes(
         answer,
         lengths,

@@ -1,8 +1,11 @@
--- Each case of each answer as numbers; 0 is no refusal.
+-- Each case of each answer as numbers; number 0 is no refusal.
 use Prim.Native.Nat.{ℕ}
 use mathlib.Core.Bool.{Bool, true, false}
 use lib.Ieee.{Float}
 use Rattle.rules.specs.declared.Report.{Report}
+use Rattle.rules.specs.declared.Place.{Place}
+use Rattle.rules.specs.declared.Refusal.{Refusal}
+use Rattle.rules.specs.declared.Checked.{Checked}
 use Rattle.rules.specs.declared.TreeAnswer.{TreeAnswer}
 use Rattle.rules.specs.declared.ForestAnswer.{ForestAnswer}
 use Rattle.rules.specs.declared.Reply.{Reply}
@@ -10,13 +13,16 @@ use Rattle.rules.specs.declared.ErrorReply.{ErrorReply}
 use Rattle.rules.specs.declared.NodeReply.{NodeReply}
 use Rattle.rules.specs.Words.{nought}
 use Rattle.rules.specs.Lent.{Entry, Outcome, leafEntry}
+use Rattle.rules.specs.Checks.{numbered}
 use Rattle.rules.specs.Fit.{entryOf}
 
--- R15.1: what a fit tells: zeros where it is refused, but for the place of a bad draw
+-- R15.1: what a bad draw tells: as a refusal, its tree and its search
+abbrev pub badDraw : Place → Refusal
+badDraw p = record { number = 7; part = p .tree; place = p .search; row = 0 }
+
+-- R15.1: what the fit of a tree tells: zeros but for one of the two
 pub record Told : Type 0 where
-  pub number : ℕ
-  pub tree : ℕ
-  pub search : ℕ
+  pub refusal : Refusal
   pub report : Report
 
 -- R15.1
@@ -25,15 +31,20 @@ noReport = record { nodes = 0; depth = 0; mass = nought; searches = 0; words = 0
 
 -- R15.2
 abbrev pub treeTold : TreeAnswer → Told
-treeTold (TreeAnswer.Refused n) = record { number = n; tree = 0; search = 0; report = noReport }
-treeTold (TreeAnswer.BadDraw p) = record { number = 7; tree = p .tree; search = p .search; report = noReport }
-treeTold (TreeAnswer.Grown r) = record { number = 0; tree = 0; search = 0; report = r }
+treeTold (TreeAnswer.Refused r) = record { refusal = r; report = noReport }
+treeTold (TreeAnswer.BadDraw p) = record { refusal = badDraw p; report = noReport }
+treeTold (TreeAnswer.Grown t) = record { refusal = numbered 0; report = t }
 
 -- R15.2: a forest's reports stand in its report columns
-abbrev pub forestTold : ForestAnswer → Told
-forestTold (ForestAnswer.Refused n) = record { number = n; tree = 0; search = 0; report = noReport }
-forestTold (ForestAnswer.BadDraw p) = record { number = 7; tree = p .tree; search = p .search; report = noReport }
-forestTold ForestAnswer.Grown = record { number = 0; tree = 0; search = 0; report = noReport }
+abbrev pub forestTold : ForestAnswer → Refusal
+forestTold (ForestAnswer.Refused r) = r
+forestTold (ForestAnswer.BadDraw p) = badDraw p
+forestTold ForestAnswer.Grown = numbered 0
+
+-- R15.2
+abbrev pub checkTold : Checked → Refusal
+checkTold Checked.Passed = numbered 0
+checkTold (Checked.Refused r) = r
 
 -- R15.3
 abbrev pub replyTold : Reply → ℕ

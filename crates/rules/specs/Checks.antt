@@ -1,4 +1,4 @@
--- How the first test that fails decides, and the tests behind refusals 1, 2, 3, 4 and 6. Those of 5 are in Listing, of 7 in Draws, of 8 in Table, of 9, 10 and 18 in OutOfBag.
+-- How the first test that fails decides, and the tests behind refusals 1, 2, 3, 4 and 6. Those of 11 to 13 are in Listing, of 7 in Draws, of 8 in Table, of 9, 10 and 18 in OutOfBag.
 use Prim.Native.Nat.{ℕ, zero, suc, _-_, _*_, max}
 use mathlib.Core.Bool.{Bool, not, _&&_, _||_, cond}
 use mathlib.Core.List.{List, [], _∷_}
@@ -7,25 +7,40 @@ use lib.Dec.{leb, eqb}
 use lib.Ieee.{Float, lt}
 use lib.Ieee.Scale.{finite}
 use Rattle.rules.specs.declared.Shape.{Shape}
+use Rattle.rules.specs.declared.Refusal.{Refusal}
+use Rattle.rules.specs.declared.Checked.{Checked}
 use Rattle.rules.specs.declared.Reply.{Reply}
 use Rattle.rules.specs.Words.{nought, every, along}
 use Rattle.rules.specs.Lent.{Given, OneTree, Reports, WaitingForm, Work, unweighted, keptRows}
 
--- R3.1: a test, with the number that its failing gives
+-- R3.1: a test, with what its failing tells
 pub record Test : Type 0 where
-  pub number : ℕ
+  pub tells : Refusal
   pub passes : Bool
+
+-- R3.1: most tell a number alone
+abbrev pub numbered : ℕ → Refusal
+numbered n = record { number = n; part = 0; place = 0; row = 0 }
 
 -- R3.1
 abbrev pub test : ℕ → Bool → Test
-test n b = record { number = n; passes = b }
+test n b = record { tells = numbered n; passes = b }
 
--- R3.1: 0 says that none fails
-unfoldable pub firstFailed : List Test → ℕ
-firstFailed [] = 0
-firstFailed (t ∷ ts) = cond (t .passes) (firstFailed ts) (t .number)
+-- R3.1: the first that fails decides
+unfoldable pub checked : List Test → Checked
+checked [] = Checked.Passed
+checked (t ∷ ts) = cond (t .passes) (checked ts) (Checked.Refused (t .tells))
 
--- R3.2: the answer of a call that only checks
+-- R3.2: for a call that tells a number alone; 0 says that none fails
+abbrev pub numberOf : Checked → ℕ
+numberOf Checked.Passed = 0
+numberOf (Checked.Refused r) = r .number
+
+-- R3.2
+abbrev pub firstFailed : List Test → ℕ
+firstFailed ts = numberOf (checked ts)
+
+-- R3.2: the answer of a call that only checks tables
 unfoldable pub replies : ℕ → Reply
 replies zero = Reply.Done
 replies (suc n) = Reply.Refused (suc n)

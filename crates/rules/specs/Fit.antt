@@ -1,7 +1,7 @@
 -- The fit of one tree: from what is lent to its answer and the rooms after.
-use Prim.Native.Nat.{ℕ, zero, suc, _-_}
+use Prim.Native.Nat.{ℕ, suc, _-_}
 use mathlib.Core.Bool.{_&&_}
-use mathlib.Core.List.{List, [], _∷_, map}
+use mathlib.Core.List.{List, [], _∷_, _++_, map}
 use lib.ListN.{length, getD}
 use lib.Dec.{leb}
 use lib.Ieee.{Float, nan}
@@ -13,12 +13,13 @@ use Rattle.rules.specs.declared.Shape.{Shape}
 use Rattle.rules.specs.declared.Kind.{Kind}
 use Rattle.rules.specs.declared.Kind.the-variants.{Leaf, Split}
 use Rattle.rules.specs.declared.Report.{Report}
+use Rattle.rules.specs.declared.Checked.{Checked}
 use Rattle.rules.specs.declared.TreeAnswer.{TreeAnswer}
 use Rattle.rules.specs.Words.{from, keep, total}
 use Rattle.rules.specs.Totals.{empty, valueOf}
 use Rattle.rules.specs.Lent.{Data, Given, OneTree, Entry, WaitingForm, TreeRooms, Outcome, valuesAt, listingAt, countIn, massIn, kept, keptRows, shortest, leafEntry, writeEntries, zeroColumns, zeroWork}
-use Rattle.rules.specs.Checks.{Test, test, firstFailed, shapeIn, lengths, numbersGood, countsGood, roomFor, workEnough}
-use Rattle.rules.specs.Listing.{listingsGood}
+use Rattle.rules.specs.Checks.{Test, test, checked, shapeIn, lengths, numbersGood, countsGood, roomFor, workEnough}
+use Rattle.rules.specs.Listing.{orderTests}
 use Rattle.rules.specs.Draws.{Out, bad, ok, bind, Tapes, tape}
 use Rattle.rules.specs.Search.{Element, Column, totalsOf, NodeRows, search}
 use Rattle.rules.specs.Growth.{TreeNode, State, fromRoot}
@@ -144,15 +145,15 @@ unfoldable pub grownTree : TreeCall → Out Tree
 grownTree C = fit (oneTreeOf C) (C .given .inputs)
 
 module _ {W : Type 0} (K : WaitingForm W) where
-  -- R10.10: 1 to 6, in this order
+  -- R10.10: 1 to 4, then 11 to 13 place by place, then 6
   unfoldable pub treeTests : TreeCall → TreeRooms W → List Test
   treeTests C R =
       test 1 (shapeIn (C .shape))
       ∷ test 2 (lengths (C .shape) 1 (C .given))
       ∷ test 3 (numbersGood (C .given))
       ∷ test 4 (countsGood (C .given))
-      ∷ test 5 (listingsGood (C .shape) (C .given .inputs .values) (C .given .inputs .listings))
-      ∷ test 6 (leb (roomFor (oneTreeOf C)) (shortest (R .nodes)) && workEnough K (C .shape) (R .work))
+      ∷ orderTests (C .shape) (C .given .inputs .values) (C .given .inputs .listings)
+      ++ test 6 (leb (roomFor (oneTreeOf C)) (shortest (R .nodes)) && workEnough K (C .shape) (R .work))
       ∷ []
 
   -- R10.11: a bad draw leaves all rooms zero; an answer leaves the nodes, and the work room zero
@@ -168,11 +169,11 @@ module _ {W : Type 0} (K : WaitingForm W) where
         rooms = record { nodes = writeEntries (entries (t .nodes)) (R .nodes); work = zeroWork K (R .work) };
       }
 
-  -- R10.12: a refusal by 1 to 6 leaves the rooms as they were
-  unfoldable pub treeEnds : ℕ → Out Tree → TreeRooms W → Outcome TreeAnswer (TreeRooms W)
-  treeEnds zero o R = treeDone o R
-  treeEnds (suc n) o R = record { answer = TreeAnswer.Refused (suc n); rooms = R }
+  -- R10.12: a refusal by one of these leaves the rooms as they were
+  unfoldable pub treeEnds : Checked → Out Tree → TreeRooms W → Outcome TreeAnswer (TreeRooms W)
+  treeEnds Checked.Passed o R = treeDone o R
+  treeEnds (Checked.Refused r) o R = record { answer = TreeAnswer.Refused r; rooms = R }
 
   -- R10.12
   unfoldable pub fitTree : TreeCall → TreeRooms W → Outcome TreeAnswer (TreeRooms W)
-  fitTree C R = treeEnds (firstFailed (treeTests C R)) (grownTree C) R
+  fitTree C R = treeEnds (checked (treeTests C R)) (grownTree C) R

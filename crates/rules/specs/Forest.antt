@@ -10,11 +10,12 @@ use Rattle.rules.specs.declared.Shape.{Shape}
 use Rattle.rules.specs.declared.Tried.{Tried}
 use Rattle.rules.specs.declared.Tried.the-variants.{Unsaid, Number}
 use Rattle.rules.specs.declared.Place.{Place}
+use Rattle.rules.specs.declared.Checked.{Checked}
 use Rattle.rules.specs.declared.ForestAnswer.{ForestAnswer}
 use Rattle.rules.specs.Words.{from, stretch, front, filled, total}
 use Rattle.rules.specs.Lent.{Data, Given, OneTree, Entry, WaitingForm, ForestRooms, Outcome, shortest, writeEntries, writeReports, zeroColumns, zeroReports, zeroWork}
-use Rattle.rules.specs.Checks.{Test, test, firstFailed, treesIn, shapeIn, lengths, goodTapeStarts, numbersGood, countsGood, countsOne, roomFor, workEnough, reportsExact}
-use Rattle.rules.specs.Listing.{listingsGood}
+use Rattle.rules.specs.Checks.{Test, test, checked, treesIn, shapeIn, lengths, goodTapeStarts, numbersGood, countsGood, countsOne, roomFor, workEnough, reportsExact}
+use Rattle.rules.specs.Listing.{orderTests}
 use Rattle.rules.specs.Draws.{Out, bad, ok}
 use Rattle.rules.specs.Fit.{Tree, fit, entries, paramsOf}
 
@@ -123,15 +124,15 @@ module _ {W : Type 0} (K : WaitingForm W) where
   roomsGood C R =
       workEnough K (C .shape) (R .work) && (leb (suc (C .trees)) (length (R .starts)) && reportsExact (C .trees) (R .reports))
 
-  -- R11.8: 1 to 6, in this order
+  -- R11.8: 1 to 4, then 11 to 13 place by place, then 6
   unfoldable pub forestTests : ForestCall → ForestRooms W → List Test
   forestTests C R =
       test 1 (shapeIn (C .shape) && treesIn (C .trees))
       ∷ test 2 (lengths (C .shape) (C .trees) (C .given) && tapesGood C)
       ∷ test 3 (numbersGood (C .given))
       ∷ test 4 (countsGood (C .given) && countsOne (C .given))
-      ∷ test 5 (listingsGood (C .shape) (C .given .inputs .values) (C .given .inputs .listings))
-      ∷ test 6 (leb (total roomFor (eachTree C)) (shortest (R .nodes)) && roomsGood C R)
+      ∷ orderTests (C .shape) (C .given .inputs .values) (C .given .inputs .listings)
+      ++ test 6 (leb (total roomFor (eachTree C)) (shortest (R .nodes)) && roomsGood C R)
       ∷ []
 
   -- R11.9: a bad draw leaves all rooms zero; an answer leaves nodes, starts and reports, and the work room zero
@@ -157,11 +158,11 @@ module _ {W : Type 0} (K : WaitingForm W) where
         };
       }
 
-  -- R11.10: a refusal by 1 to 6 leaves the rooms as they were
-  unfoldable pub forestEnds : ℕ → Forest → ForestRooms W → Outcome ForestAnswer (ForestRooms W)
-  forestEnds zero f R = forestDone f R
-  forestEnds (suc n) f R = record { answer = ForestAnswer.Refused (suc n); rooms = R }
+  -- R11.10: a refusal by one of these leaves the rooms as they were
+  unfoldable pub forestEnds : Checked → Forest → ForestRooms W → Outcome ForestAnswer (ForestRooms W)
+  forestEnds Checked.Passed f R = forestDone f R
+  forestEnds (Checked.Refused r) f R = record { answer = ForestAnswer.Refused r; rooms = R }
 
   -- R11.10
   unfoldable pub fitForest : ForestCall → ForestRooms W → Outcome ForestAnswer (ForestRooms W)
-  fitForest C R = forestEnds (firstFailed (forestTests C R)) (grownForest C) R
+  fitForest C R = forestEnds (checked (forestTests C R)) (grownForest C) R

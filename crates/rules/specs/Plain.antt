@@ -11,7 +11,6 @@ use Rattle.rules.specs.declared.Scale.{Scale}
 use Rattle.rules.specs.declared.TreeSettings.{TreeSettings}
 use Rattle.rules.specs.declared.ForestSettings.{ForestSettings}
 use Rattle.rules.specs.declared.TreeTold.{TreeTold}
-use Rattle.rules.specs.declared.ForestTold.{ForestTold}
 use Rattle.rules.specs.declared.ErrorTold.{ErrorTold}
 use Rattle.rules.specs.declared.NodeTold.{NodeTold}
 use Rattle.rules.specs.Answers as Answers
@@ -57,15 +56,9 @@ scaleOf massed mass = cond massed (Scale.ByMass mass) Scale.Normalised
 abbrev pub treeNumbers : TreeTold → Answers.Told
 treeNumbers t =
     record {
-      number = t .number;
-      tree = t .tree;
-      search = t .search;
+      refusal = record { number = t .number; part = t .part; place = t .place; row = t .row };
       report = record { nodes = t .nodes; depth = t .depth; mass = t .mass; searches = t .searches; words = t .words; thresholds = t .thresholds };
     }
-
--- R16.2
-abbrev pub forestNumbers : ForestTold → Answers.Told
-forestNumbers t = record { number = t .number; tree = t .tree; search = t .search; report = Answers.noReport }
 
 -- R16.2
 abbrev pub errorNumbers : ErrorTold → Answers.ErrorTold

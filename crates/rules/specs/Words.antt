@@ -49,6 +49,11 @@ unfoldable pub along {ℓ} : {A : Type ℓ} → (A → A → Bool) → List A �
 along p [] = true
 along p (x ∷ l) = alongFrom p x l
 
+-- R1.11: the lists that each entry gives, one after another
+unfoldable pub joined {ℓ} : {A B : Type ℓ} → (A → List B) → List A → List B
+joined f [] = []
+joined f (x ∷ l) = f x ++ joined f l
+
 -- R1.6: what the entries weigh together, by any weight
 unfoldable pub total {ℓ} : {A : Type ℓ} → (A → ℕ) → List A → ℕ
 total f [] = 0

@@ -117,21 +117,37 @@ pub struct Place {
     pub search: u32,
 }
 
+// R0.24: What a refusal tells: its number, where it was met, and a row. Of a listing the part is the column and the place is the place in
+// it, of a bad draw they are the tree and the search. What there is not to tell is 0.
+#[repr(C)]
+pub struct Refusal {
+    pub number: u32,
+    pub part: u32,
+    pub place: u32,
+    pub row: u32,
+}
+
+// R0.24: How the checks of a fit end, and that of listings.
+pub enum Checked {
+    Passed,
+    Refused(Refusal),
+}
+
 // R0.20
 pub enum TreeAnswer {
-    Refused(u32),
+    Refused(Refusal),
     BadDraw(Place),
     Grown(Report),
 }
 
 // R0.20
 pub enum ForestAnswer {
-    Refused(u32),
+    Refused(Refusal),
     BadDraw(Place),
     Grown,
 }
 
-// R0.21: The answer of a reader that writes its results, and of a check.
+// R0.21: The answer of a reader that writes its results, and of a check of tables.
 pub enum Reply {
     Refused(u32),
     Done,
@@ -184,26 +200,19 @@ pub struct ForestSettings {
     pub lower: bool,
 }
 
-// R0.23: What the fit of one tree tells: 0 or the number of a refusal, the place of a bad draw, the report of a grown tree.
+// R0.23: What the fit of one tree tells: a refusal, of number 0 where there is none, and the report of a grown tree.
 #[repr(C)]
 pub struct TreeTold {
     pub number: u32,
-    pub tree: u32,
-    pub search: u32,
+    pub part: u32,
+    pub place: u32,
+    pub row: u32,
     pub nodes: u32,
     pub depth: u32,
     pub mass: f64,
     pub searches: u32,
     pub words: u32,
     pub thresholds: u32,
-}
-
-// R0.23: What the fit of a forest tells: 0 or the number of a refusal, and the place of a bad draw.
-#[repr(C)]
-pub struct ForestTold {
-    pub number: u32,
-    pub tree: u32,
-    pub search: u32,
 }
 
 // R0.23: 0 or the number of a refusal, and the error with the number of rows that it is over.

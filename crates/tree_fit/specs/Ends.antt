@@ -1,19 +1,20 @@
 -- How a fit of one tree ends: from the passed checks to what growth asks, and from what growth leaves to the outcome of the rules. Assumes nothing.
-use Prim.Native.Nat.{ℕ, zero, suc, _*_, _<_, _≤_}
+use Prim.Native.Nat.{ℕ, _*_, _≤_}
 use native.Mathlib.Nat.{one-mul, mul-le-mul}
-use native.Mathlib.Omega.{arith}
 use mathlib.Core.Path.{_≡_, refl, sym, ap, _∙_, subst}
 use lib.ListN.{length}
 use Rattle.rules.specs.declared.Params.{Params}
+use Rattle.rules.specs.declared.Refusal.{Refusal}
+use Rattle.rules.specs.declared.Checked.{Checked}
 use Rattle.rules.specs.declared.TreeAnswer.{TreeAnswer}
 use Rattle.rules.specs.Lent.{OneTree, TreeRooms, Outcome, WaitingRoom, waitingRoom, treeRoomsOf, outcomeOf, zeroColumns, zeroWork}
-use Rattle.rules.specs.Checks.{firstFailed}
+use Rattle.rules.specs.Checks.{checked}
 use Rattle.rules.specs.Fit.{paramsOf, TreeCall, oneTreeOf, grownTree, treeTests, treeDone, treeEnds, fitTree}
 use Rattle.lemmas.specs.Passed.{TreePassed, tree-passed, Binary64}
 use Rattle.lemmas.specs.Answered.{tree-listed}
 use Rattle.params.specs.Params.{ParamsMade}
 use Rattle.rooms.specs.Zero.{NodesLong, WorkLong, nodes-zero, work-zero}
-use Rattle.rooms.specs.Enough.{none, WorkRoom, work-room}
+use Rattle.rooms.specs.Enough.{WorkRoom, work-room}
 use Rattle.work_columns.specs.Setup.{counted-passed}
 use Rattle.tree_report.specs.declared.Planted.{Planted}
 use Rattle.tree_report.specs.declared.Planted.the-variants.{BadDraw, Grown}
@@ -33,10 +34,9 @@ abbrev pub Made : TreeCall → Params → Type 0
 Made C p = ParamsMade (C .settings) (C .tried) (C .shape .features) p
 
 module _ (C : TreeCall) (R : TreeRooms WaitingRoom) where
-  pub fit-refused : (n : ℕ) → n ≡ firstFailed (treeTests waitingRoom C R) → 0 < n → outcomeOf (TreeAnswer.Refused n) R ≡ fitTree waitingRoom C R
+  pub fit-refused : (r : Refusal) → Checked.Refused r ≡ checked (treeTests waitingRoom C R) → outcomeOf (TreeAnswer.Refused r) R ≡ fitTree waitingRoom C R
   unfolding fitTree treeEnds
-  fit-refused zero e h = absurd (omega arith)
-  fit-refused (suc n) e h = ap (λ k. treeEnds waitingRoom k (grownTree C) R) e
+  fit-refused r e = ap (λ k. treeEnds waitingRoom k (grownTree C) R) e
 
   module _ (R′ : TreeRooms WaitingRoom) (ln : NodesLong (R .nodes) (R′ .nodes)) (lw : WorkLong (R .work) (R′ .work)) where
     finished-is : (r : Planted) → Answers (oneTreeOf C) (C .given .inputs) (R .nodes) (R′ .nodes) r → finished r R′ ≡ treeDone waitingRoom (grownTree C) R
@@ -48,18 +48,18 @@ module _ (C : TreeCall) (R : TreeRooms WaitingRoom) where
         (λ i. outcomeOf (TreeAnswer.Grown (sym (a .report) i)) (treeRoomsOf (a .written i) (work-zero (R .work) (R′ .work) lw i)))
         ∙ ap (λ o. treeDone waitingRoom o R) (sym (a .same))
 
-    pub fit-finished : (n : ℕ) → n ≡ firstFailed (treeTests waitingRoom C R) → n ≤ 0 → (p : Params) → Made C p → (r : Planted)
+    pub fit-finished : Checked.Passed ≡ checked (treeTests waitingRoom C R) → (p : Params) → Made C p → (r : Planted)
         → PlantDone (frame C p) (C .given .inputs) (R .nodes) (R′ .nodes) r → finished r R′ ≡ fitTree waitingRoom C R
     unfolding fitTree treeEnds oneTreeOf
-    fit-finished n e h p m r d =
+    fit-finished e p m r d =
         finished-is r (subst (λ q. PlantDone (frame C q) (C .given .inputs) (R .nodes) (R′ .nodes) r) (m .same) d .done)
-        ∙ ap (λ k. treeEnds waitingRoom k (grownTree C) R) (sym (none n h) ∙ e)
+        ∙ ap (λ k. treeEnds waitingRoom k (grownTree C) R) e
 
   -- ---- what growth asks
 
-  module _ (n : ℕ) (e : n ≡ firstFailed (treeTests waitingRoom C R)) (h : n ≤ 0) where
+  module _ (e : Checked.Passed ≡ checked (treeTests waitingRoom C R)) where
     all-passed : TreePassed waitingRoom C R
-    all-passed = tree-passed waitingRoom C R (sym e ∙ none n h)
+    all-passed = tree-passed waitingRoom C R (sym e)
 
     room : WorkRoom (C .shape) (R .work)
     room = work-room (C .shape) (R .work) (all-passed .work)
@@ -82,7 +82,7 @@ module _ (C : TreeCall) (R : TreeRooms WaitingRoom) where
         subst (λ p′. PlantAsks (C .shape .features) (frame C p′) (C .given .inputs) (R .nodes)
         k (length (R .work .scratch)) (length (R .work .flags)) (length (R .work .waiting .wholes)) (length (R .work .waiting .reals))) (sym (m .same))
         (record {
-          listed = tree-listed waitingRoom C R held (sym e ∙ none n h) .0;
+          listed = tree-listed waitingRoom C R held (sym e) .0;
           same = refl;
           rows = q .someRows;
           few = q .fewRows;

@@ -4,6 +4,7 @@ ghost use Rattle.rules.specs.Lent.{waitingRoom, givenOf, columnsOf, workOf, tre
 ghost use Rattle.rules.specs.Fit.{fitTree, treeCall};
 ghost use Rattle.tree_fit.specs.Ends.{finished};
 use checks::Lengths;
+use rules::Checked;
 use rules::Settings;
 use rules::Shape;
 use rules::TreeAnswer;
@@ -90,9 +91,20 @@ pub fn fit_tree(
         flags: flags.len(),
         waiting,
     };
-    let n = checks::tree::tree_verdict(shape, values, targets, weights, counts, listings, room);
-    if 0 < n {
-        return TreeAnswer::Refused(n);
+    let verdict = checks::tree::tree_verdict(
+        shape,
+        values,
+        targets,
+        weights,
+        counts,
+        listings,
+        room,
+    );
+    match verdict {
+        Checked::Refused(r) => {
+            return TreeAnswer::Refused(r);
+        }
+        Checked::Passed => {}
     }
     let rows = shape.rows;
     let features = shape.features;

@@ -1,19 +1,24 @@
 //! Compares both judges on generated inputs or on the fixed list.
 
 use crate::call::calls::Call;
+use crate::call::fault::Fault;
 use crate::damage::faults;
 use crate::damage::fit as damage_fit;
+use crate::damage::listing;
+use crate::damage::places;
 use crate::damage::read as damage_read;
 use crate::differences;
 use crate::judge::case::{self, Case};
 use crate::left_out;
 use crate::limits::fit as limits_fit;
+use crate::limits::listings as limits_listings;
 use crate::limits::read as limits_read;
 use crate::make::chance::Chance;
 use crate::make::crafted;
 use crate::make::exhaustive;
 use crate::make::fit as make_fit;
 use crate::make::fit::{SMALL, Size};
+use crate::make::listed;
 use crate::make::lower;
 use crate::make::read as make_read;
 use crate::make::rehearsal;
@@ -39,27 +44,27 @@ const MIDDLING: Size = Size {
 pub fn make(chance: &mut Chance, size: Size) -> Case {
     if chance.one_in(3) {
         let mut read = make_read::read(chance);
-        let refusal = match chance.one_in(2) {
+        let fault = match chance.one_in(2) {
             true => damage_read::damage(chance, &mut read),
-            false => 0,
+            false => Fault::default(),
         };
-        return Case::read(read, refusal);
+        return Case::read(read, fault);
     }
     let forest = chance.one_in(3);
     let mut fit = make_fit::fit(chance, forest, size);
-    let mut refusal = 0;
+    let mut fault = Fault::default();
     match chance.below(6) {
-        0 => refusal = damage_fit::damage(chance, &mut fit),
+        0 => fault = damage_fit::damage(chance, &mut fit),
         1 => damage_fit::draws(chance, &mut fit),
         _ => {}
     }
-    Case::fit(fit, refusal)
+    Case::fit(fit, fault)
 }
 
 /// A case that is made again, up to three times, if none of its trees has more than the search of its root.
 fn make_growing(chance: &mut Chance, size: Size) -> Case {
     let bare = |case: &Case| match &case.call {
-        Call::Fit(fit) => case.refusal == 0 && fit.words.len() <= fit.trees * fit.features,
+        Call::Fit(fit) => case.fault.none() && fit.words.len() <= fit.trees * fit.features,
         Call::Read(_) => false,
     };
     let mut case = make(chance, size);
@@ -77,6 +82,7 @@ pub fn fixed() -> Vec<Case> {
     cases.extend(crafted::cases());
     cases.extend(lower::cases());
     cases.extend(faults::cases());
+    cases.extend(places::cases());
     cases
 }
 
@@ -88,8 +94,8 @@ fn random(tally: &mut Tally, chance: &mut Chance, count: usize) {
     }
 }
 
-/// Compares generated cases, `count` of them random, what docs/DIFFERENCES.md says, smartcore's own `fit`s, trees with others that differ
-/// in rows left out, and small fits that cut at measured values.
+/// Compares generated cases, `count` of them random, damaged listings, what docs/DIFFERENCES.md says, smartcore's own `fit`s, trees with
+/// others that differ in rows left out, and small fits that cut at measured values.
 pub fn compare(mut tally: Tally, count: usize, least: &Counts) -> ExitCode {
     let mut chance = Chance::new(1);
     fixed().iter().for_each(|case| tally.hold(case));
@@ -97,11 +103,14 @@ pub fn compare(mut tally: Tally, count: usize, least: &Counts) -> ExitCode {
     exhaustive::random(|case| tally.hold(&case));
     exhaustive::words(|case| tally.hold(&case));
     exhaustive::tables(|case| tally.hold(&case));
-    exhaustive::checks(|case| tally.hold(&case));
+    listed::each(|case| tally.hold(&case));
+    places::wide(|case| tally.hold(&case));
     exhaustive::errors(|case| tally.hold(&case));
     limits_fit::each(&mut chance, |case| tally.hold(&case));
     limits_read::each(&mut Chance::new(5), |case| tally.hold(&case));
+    limits_listings::each(&mut Chance::new(8), |case| tally.hold(&case));
     random(&mut tally, &mut chance, count);
+    listing::each(&mut Chance::new(9), count / 10, |case| tally.hold(&case));
     differences::hold(&mut tally);
     own::hold(&mut tally, &mut chance, count / 100);
     left_out::hold(&mut tally, &mut Chance::new(6), count / 100);
@@ -110,10 +119,11 @@ pub fn compare(mut tally: Tally, count: usize, least: &Counts) -> ExitCode {
     tally.end("compare", least)
 }
 
-/// The cases that are not random, and `count` random ones, for a short run.
+/// The cases that are not random, `count` random ones and some damaged listings, for a short run.
 pub fn sample(mut tally: Tally, count: usize, least: &Counts) -> ExitCode {
     fixed().iter().for_each(|case| tally.hold(case));
     random(&mut tally, &mut Chance::new(4), count);
+    listing::each(&mut Chance::new(10), count / 10, |case| tally.hold(&case));
     tally.end("sample", least)
 }
 
@@ -124,7 +134,7 @@ pub fn longest(mut tally: Tally) -> ExitCode {
 }
 
 /// Who answers the list: the library of the tally, or the copy, which answers the cases marked as smartcore's and those that follow
-/// from its answers.
+/// from its answers. Where listings are damaged, the driver takes its place.
 #[derive(Clone, Copy)]
 pub enum By {
     Library,
@@ -140,7 +150,7 @@ pub fn replay(mut tally: Tally, by: &[By], file: &str, each: bool, least: &Count
         for by in by {
             let answer = match by {
                 By::Library => caught(|| listed.case.answer(library)),
-                By::Copy if listed.copied() => caught(|| listed.case.expected()),
+                By::Copy if listed.found_again() => caught(|| listed.case.expected()),
                 _ => continue,
             };
             if each && answer != listed.answer {

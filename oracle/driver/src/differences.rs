@@ -29,12 +29,17 @@ fn rows(x: &[f64], y: &[f64]) -> Fit {
     }
 }
 
-/// The library's answer: the refusal and the number of nodes.
-fn ours(library: &dyn Library, fit: &Fit) -> (u64, u64) {
+/// What the library returns.
+fn told(library: &dyn Library, fit: &Fit) -> Vec<u64> {
     let mut fit = fit.clone();
     make_fit::rooms(&mut Chance::new(0), &mut fit);
-    let told = run::run(library, &Call::Fit(fit)).told;
-    (told[0], told[3])
+    run::run(library, &Call::Fit(fit)).told
+}
+
+/// The library's answer: the number of the refusal and that of the nodes.
+fn ours(library: &dyn Library, fit: &Fit) -> (u64, u64) {
+    let told = told(library, fit);
+    (told[0], told[4])
 }
 
 fn copy(fit: &Fit) -> Grown {
@@ -49,7 +54,7 @@ fn panics<T>(judge: impl Fn() -> T) -> bool {
 }
 
 fn listings(library: &dyn Library) -> Vec<(&'static str, bool)> {
-    let paper = |fit: &Fit| ours(library, fit);
+    let refused = |fit: &Fit, fault: [u64; 4]| told(library, fit).starts_with(&fault);
     let mut tenth = rows(&[1.0, 2.0, 3.0, 4.0], &[0.0, 0.0, 10.0, 10.0]);
     tenth.listings = vec![0, 1, 1, 3];
     let grown = copy(&tenth);
@@ -61,18 +66,18 @@ fn listings(library: &dyn Library) -> Vec<(&'static str, bool)> {
     let mut outside = rows(&[1.0], &[0.0]);
     outside.listings = vec![1];
     vec![
-        ("P10's listing", as_said && paper(&tenth) == (5, 0)),
+        ("P10's listing", as_said && refused(&tenth, [12, 0, 2, 2])),
         (
             "a row twice",
-            copy(&twice).nodes().len() == 1 && paper(&twice) == (5, 0),
+            copy(&twice).nodes().len() == 1 && refused(&twice, [12, 0, 1, 1]),
         ),
         (
             "a value that falls",
-            copy(&falls).nodes().len() == 1 && paper(&falls) == (5, 0),
+            copy(&falls).nodes().len() == 1 && refused(&falls, [13, 0, 1, 0]),
         ),
         (
             "a row that is not there",
-            panics(|| copy(&outside)) && paper(&outside) == (5, 0),
+            panics(|| copy(&outside)) && refused(&outside, [11, 0, 0, 0]),
         ),
     ]
 }

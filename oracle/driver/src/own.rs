@@ -2,6 +2,7 @@
 //! that the harness calls `fit_weak_learner` as smartcore itself does.
 
 use crate::call::calls::{Call, Fit, Read, Reader, Table};
+use crate::call::fault::Fault;
 use crate::call::outcome::{Outcome, bits};
 use crate::judge::copied::{data, params};
 use crate::judge::expect;
@@ -83,7 +84,7 @@ fn forest(library: &dyn Library, chance: &mut Chance) -> (Fit, bool) {
         ..Read::default()
     };
     let mut rooms = left.rooms.iter().zip(&columns);
-    let same = left.told == [0; 3]
+    let same = left.told == [0; 4]
         && rooms.all(|(room, column)| room.entries.starts_with(column))
         && reads(library, &read, Reader::ForestMeans, &own.means)
         && reads(library, &read, Reader::OutOfBagMeans, &own.means_oob)
@@ -124,7 +125,7 @@ fn error_told(library: &dyn Library, fit: &Fit, means: &[f64]) -> bool {
         means: means.to_vec(),
         ..Read::default()
     });
-    run::run(library, &error) == expect::expect(&error, 0)
+    run::run(library, &error) == expect::expect(&error, Fault::default())
 }
 
 fn tree(library: &dyn Library, chance: &mut Chance) -> (Fit, bool) {
@@ -137,8 +138,8 @@ fn tree(library: &dyn Library, chance: &mut Chance) -> (Fit, bool) {
         rows: fit.rows,
         features: fit.features,
         x: fit.x.clone(),
-        table: table(left_columns(&left, left.told[3] as usize)),
-        root_mass: f64::from_bits(left.told[5]),
+        table: table(left_columns(&left, left.told[4] as usize)),
+        root_mass: f64::from_bits(left.told[6]),
         ..Read::default()
     };
     let same = left.told[0] == 0

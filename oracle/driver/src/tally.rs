@@ -4,12 +4,13 @@ use crate::call::calls::{Call, Reader};
 use crate::call::splits;
 use crate::judge::case::Case;
 use crate::judge::library::Library;
+use crate::judge::listings::{self, SHOWN};
 use std::fmt;
 use std::process::ExitCode;
 use std::time::Instant;
 
 /// The numbers of the refusals, except that of a bad draw.
-const REFUSALS: [u64; 10] = [1, 2, 3, 4, 5, 6, 8, 9, 10, 18];
+const REFUSALS: [u64; 12] = [1, 2, 3, 4, 6, 8, 9, 10, 11, 12, 13, 18];
 
 /// How many calls were answered, by kind, and how many refused, by number.
 #[derive(Clone, Copy)]
@@ -21,13 +22,21 @@ pub struct Counts {
     pub nodes: usize,
     pub checks: usize,
     pub bad_draws: usize,
-    /// 1 to 6, then 8 to 10, then 18.
+    /// 1 to 4, 6, 8 to 13, then 18.
     pub refusals: [usize; REFUSALS.len()],
+    /// Among those refused by 11, 12 and 13, what `listings::shown` finds.
+    pub damaged: [usize; SHOWN.len()],
     /// Among the trees and forests, those with cuts at measured values and a split: all, those with ties, with both zeros, and with
     /// one of the two as a threshold (`splits::shown`).
     pub measured: [usize; 4],
     /// Pairs of trees with a split that differ in rows left out: with cuts halfway, and at measured values.
     pub pairs: [usize; 2],
+}
+
+fn count<const N: usize>(counts: &mut [usize; N], shown: [bool; N]) {
+    for (count, shown) in counts.iter_mut().zip(shown) {
+        *count += usize::from(shown);
+    }
 }
 
 impl Counts {
@@ -41,6 +50,7 @@ impl Counts {
             checks: count,
             bad_draws: count,
             refusals: [count; REFUSALS.len()],
+            damaged: [count; SHOWN.len()],
             measured: [count; 4],
             pairs: [0; 2],
         }
@@ -51,10 +61,10 @@ impl Counts {
         if let (0, Call::Fit(fit)) = (refusal, call)
             && fit.measured()
         {
-            let shown = splits::shown(fit, answer);
-            for (count, shown) in self.measured.iter_mut().zip(shown) {
-                *count += usize::from(shown);
-            }
+            count(&mut self.measured, splits::shown(fit, answer));
+        }
+        if (11..=13).contains(&refusal) {
+            count(&mut self.damaged, listings::shown(call, answer));
         }
         let count = match (refusal, call) {
             (0, Call::Fit(fit)) if fit.forest => &mut self.forests,
@@ -83,8 +93,8 @@ impl Counts {
 
     /// Every number that has a minimum.
     fn all(&self) -> impl Iterator<Item = usize> {
-        let further = self.measured.into_iter().chain(self.pairs);
-        self.kinds().chain(further)
+        let damaged = self.kinds().chain(self.damaged);
+        damaged.chain(self.measured).chain(self.pairs)
     }
 
     fn reach(&self, least: &Counts) -> bool {
@@ -92,10 +102,22 @@ impl Counts {
         both.all(|(count, least)| count >= least)
     }
 
+    fn tell_refused(&self, to: &mut fmt::Formatter) -> fmt::Result {
+        write!(to, "refusals by number:")?;
+        for (number, count) in REFUSALS.iter().zip(self.refusals) {
+            write!(to, " {number}: {count},")?;
+        }
+        write!(to, " of damaged listings:")?;
+        for (what, count) in SHOWN.iter().zip(self.damaged) {
+            write!(to, " {count} {what},")?;
+        }
+        Ok(())
+    }
+
     fn tell_measured(&self, to: &mut fmt::Formatter) -> fmt::Result {
         let [cut, ties, zeros, at_zero] = self.measured;
         let [halfway, measured] = self.pairs;
-        write!(to, "cut at measured values: {cut} fits with a split, ")?;
+        write!(to, " cut at measured values: {cut} fits with a split, ")?;
         write!(to, "{ties} of these with ties, {zeros} with both zeros, ")?;
         write!(to, "{at_zero} cut at one of the two; ")?;
         write!(to, "pairs with a split that differ in rows left out: ")?;
@@ -117,21 +139,16 @@ impl fmt::Display for Counts {
             nodes,
             checks,
             bad_draws,
-            refusals,
             ..
         } = self;
-        let (beside, (first, rest)) = (self.beside_trees(), refusals.split_at(6));
-        let (next, last) = rest.split_at(3);
+        let beside = self.beside_trees();
         write!(
             to,
             "{trees} trees grown; {beside} others: {forests} forests grown, "
         )?;
         write!(to, "{readers} answers of readers, {nodes} nodes read out, ")?;
         write!(to, "{checks} checks passed, {bad_draws} bad draws, ")?;
-        write!(
-            to,
-            "refusals 1 to 6 {first:?}, 8 to 10 {next:?}, 18 {last:?}; "
-        )?;
+        self.tell_refused(to)?;
         self.tell_measured(to)
     }
 }

@@ -78,18 +78,30 @@ pub struct Numbers {
     pub thresholds_used: u32,
 }
 
-/// Tree and search are given only with refusal 7, and are 0 otherwise.
-#[derive(Clone, Copy, Debug, Default)]
-pub struct TreeAnswer {
-    pub refusal: u32,
-    pub tree: u32,
-    pub search: u32,
-    pub numbers: Numbers,
+/// What a refusal tells; the number is 0 if there is none. Whatever is not told is 0.
+#[derive(Clone, Copy, Debug, Default, PartialEq)]
+pub struct Refusal {
+    pub number: u32,
+    /// With 11, 12 and 13 the column whose listing has the fault; with 7 the tree.
+    pub part: u32,
+    /// With 11, 12 and 13 the place in the listing; with 7 the search within the tree.
+    pub place: u32,
+    /// With 12 the lowest row that the whole column lacks.
+    pub row: u32,
 }
 
-#[derive(Clone, Copy, Debug, Default, PartialEq)]
-pub struct ForestAnswer {
-    pub refusal: u32,
-    pub tree: u32,
-    pub search: u32,
+impl Refusal {
+    /// One that tells its number only.
+    pub(crate) fn of(number: u32) -> Self {
+        Refusal {
+            number,
+            ..Refusal::default()
+        }
+    }
+}
+
+#[derive(Clone, Copy, Debug, Default)]
+pub struct TreeAnswer {
+    pub refusal: Refusal,
+    pub numbers: Numbers,
 }

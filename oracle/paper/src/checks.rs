@@ -1,4 +1,4 @@
-//! Refusals 1 to 6 of the fits, each as a test that passes or fails, and the listing check alone.
+//! Refusals 1 to 4 of the fits, each as a test that passes or fails.
 
 use crate::calls::{Cuts, Given};
 
@@ -55,35 +55,4 @@ pub fn counts_small(given: &Given) -> bool {
 
 pub fn counts_one_if_weighted(given: &Given) -> bool {
     given.weights.is_empty() || given.counts.iter().all(|count| *count == 1)
-}
-
-/// Each row exactly once, and no value lower than the one before it.
-fn listing_good(listing: &[u32], value: impl Fn(u32) -> f64) -> bool {
-    let mut met = vec![false; listing.len()];
-    for row in listing {
-        match met.get_mut(*row as usize) {
-            Some(seen) if !*seen => *seen = true,
-            _ => return false,
-        }
-    }
-    let falls = |pair: &[u32]| value(pair[1]) < value(pair[0]);
-    !listing.windows(2).any(falls)
-}
-
-pub fn listings_good(rows: usize, features: usize, x: &[f64], listings: &[u32]) -> bool {
-    (0..features).all(|feature| {
-        let listing = &listings[feature * rows..(feature + 1) * rows];
-        listing_good(listing, |row| x[row as usize * features + feature])
-    })
-}
-
-/// The listing check alone: refusals 1, 2, 5.
-pub fn check_listings(rows: usize, features: usize, x: &[f64], listings: &[u32]) -> u32 {
-    first_failed(&[
-        (1, &|| rows_in_range(rows) && features_in_range(features)),
-        (2, &|| {
-            x.len() == rows * features && listings.len() == features * rows
-        }),
-        (5, &|| listings_good(rows, features, x, listings)),
-    ])
 }

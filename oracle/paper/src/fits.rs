@@ -1,8 +1,9 @@
 //! The fit of one tree and the fit of a forest: the checks in order, growth, and what is left in each room.
 
-use crate::calls::{Draws, ForestAnswer, ForestCall, Given, TreeAnswer, TreeCall};
+use crate::calls::{Draws, ForestCall, Given, Refusal, TreeAnswer, TreeCall};
 use crate::checks;
 use crate::growth::{Grown, Record, Seed};
+use crate::listings::listings_fault;
 use crate::rooms::{Columns, ForestRooms, TreeRooms};
 
 /// The number of nodes that a tree requires room for: max(1, 2 x kept rows - 1).
@@ -13,20 +14,37 @@ fn asked(seed: &Seed) -> usize {
     }
 }
 
-fn tree_refusal(seed: &Seed, rooms: &TreeRooms) -> u32 {
+/// The checks of a fit in order: those before the listings, the listings, and the rooms.
+fn first_refusal(
+    before: &[(u32, &dyn Fn() -> bool)],
+    given: &Given,
+    rooms: &dyn Fn() -> bool,
+) -> Refusal {
+    let number = checks::first_failed(before);
+    if number != 0 {
+        return Refusal::of(number);
+    }
+    let fault = listings_fault(given.rows, given.features, given.x, given.listings);
+    match fault.number {
+        0 => Refusal::of(checks::first_failed(&[(6, rooms)])),
+        _ => fault,
+    }
+}
+
+fn tree_refusal(seed: &Seed, rooms: &TreeRooms) -> Refusal {
     let given = seed.given;
-    checks::first_failed(&[
-        (1, &|| {
-            checks::rows_in_range(given.rows) && checks::features_in_range(given.features)
-        }),
-        (2, &|| checks::lengths_fit(given, 1)),
-        (3, &|| checks::numbers_good(given)),
-        (4, &|| checks::counts_small(given)),
-        (5, &|| listed(given)),
-        (6, &|| {
-            rooms.nodes.room() >= asked(seed) && rooms.work.enough(given.rows, given.features)
-        }),
-    ])
+    first_refusal(
+        &[
+            (1, &|| {
+                checks::rows_in_range(given.rows) && checks::features_in_range(given.features)
+            }),
+            (2, &|| checks::lengths_fit(given, 1)),
+            (3, &|| checks::numbers_good(given)),
+            (4, &|| checks::counts_small(given)),
+        ],
+        given,
+        &|| rooms.nodes.room() >= asked(seed) && rooms.work.enough(given.rows, given.features),
+    )
 }
 
 pub fn fit_tree(call: &TreeCall, rooms: &mut TreeRooms) -> TreeAnswer {
@@ -38,7 +56,7 @@ pub fn fit_tree(call: &TreeCall, rooms: &mut TreeRooms) -> TreeAnswer {
         draws: call.draws,
     };
     let refusal = tree_refusal(&seed, rooms);
-    if refusal != 0 {
+    if refusal.number != 0 {
         return TreeAnswer {
             refusal,
             ..TreeAnswer::default()
@@ -56,16 +74,20 @@ pub fn fit_tree(call: &TreeCall, rooms: &mut TreeRooms) -> TreeAnswer {
         Err(bad) => {
             rooms.nodes.zero();
             TreeAnswer {
-                refusal: 7,
-                search: bad.search,
+                refusal: bad_draw(0, bad.search),
                 ..TreeAnswer::default()
             }
         }
     }
 }
 
-fn listed(given: &Given) -> bool {
-    checks::listings_good(given.rows, given.features, given.x, given.listings)
+fn bad_draw(tree: usize, search: u32) -> Refusal {
+    Refusal {
+        number: 7,
+        part: tree as u32,
+        place: search,
+        row: 0,
+    }
 }
 
 fn write(nodes: &[Record], columns: &mut Columns, from: usize) {
@@ -103,41 +125,40 @@ fn seed_of<'a>(call: &'a ForestCall<'a>, tree: usize) -> Seed<'a> {
     }
 }
 
-fn forest_refusal(call: &ForestCall, rooms: &ForestRooms) -> u32 {
+fn forest_refusal(call: &ForestCall, rooms: &ForestRooms) -> Refusal {
     let (given, trees) = (&call.given, call.trees);
     let (words, thresholds) = (call.draws.words.len(), call.draws.thresholds.len());
-    checks::first_failed(&[
-        (1, &|| {
-            checks::rows_in_range(given.rows)
-                && checks::features_in_range(given.features)
-                && checks::trees_in_range(trees)
-        }),
-        (2, &|| {
-            checks::lengths_fit(given, trees)
-                && checks::cuts_fit(&call.cuts, trees, words, thresholds)
-        }),
-        (3, &|| checks::numbers_good(given)),
-        (4, &|| {
-            checks::counts_small(given) && checks::counts_one_if_weighted(given)
-        }),
-        (5, &|| listed(given)),
-        (6, &|| {
+    first_refusal(
+        &[
+            (1, &|| {
+                checks::rows_in_range(given.rows)
+                    && checks::features_in_range(given.features)
+                    && checks::trees_in_range(trees)
+            }),
+            (2, &|| {
+                checks::lengths_fit(given, trees)
+                    && checks::cuts_fit(&call.cuts, trees, words, thresholds)
+            }),
+            (3, &|| checks::numbers_good(given)),
+            (4, &|| {
+                checks::counts_small(given) && checks::counts_one_if_weighted(given)
+            }),
+        ],
+        given,
+        &|| {
             let asked: usize = (0..trees).map(|tree| asked(&seed_of(call, tree))).sum();
             rooms.nodes.room() >= asked
                 && rooms.starts.len() > trees
                 && rooms.reports.lengths() == [trees; 6]
                 && rooms.work.enough(given.rows, given.features)
-        }),
-    ])
+        },
+    )
 }
 
-pub fn fit_forest(call: &ForestCall, rooms: &mut ForestRooms) -> ForestAnswer {
+pub fn fit_forest(call: &ForestCall, rooms: &mut ForestRooms) -> Refusal {
     let refusal = forest_refusal(call, rooms);
-    if refusal != 0 {
-        return ForestAnswer {
-            refusal,
-            ..ForestAnswer::default()
-        };
+    if refusal.number != 0 {
+        return refusal;
     }
     rooms.work.zero();
     let mut grown: Vec<Grown> = Vec::new();
@@ -148,16 +169,12 @@ pub fn fit_forest(call: &ForestCall, rooms: &mut ForestRooms) -> ForestAnswer {
                 rooms.nodes.zero();
                 rooms.starts.fill(0);
                 rooms.reports.zero();
-                return ForestAnswer {
-                    refusal: 7,
-                    tree: tree as u32,
-                    search: bad.search,
-                };
+                return bad_draw(tree, bad.search);
             }
         }
     }
     lay_out(&grown, rooms);
-    ForestAnswer::default()
+    Refusal::default()
 }
 
 /// Writes the trees one after another, where each starts, and what is reported about each.

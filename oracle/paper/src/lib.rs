@@ -2,23 +2,24 @@
 //! It shares no code with the copy of smartcore, and works in memory of its own: of the rooms for work it only uses the lengths,
 //! and it leaves in them what the rules say.
 //!
-//! A call returns the number of a refusal, or 0.
+//! A call returns the number of a refusal, or 0. The fits and the listing check also return what that refusal tells.
 
 mod calls;
 mod checks;
 mod fits;
 mod growth;
+mod listings;
 mod readers;
 mod rooms;
 mod tables;
 mod totals;
 
 pub use calls::{
-    CutAt, Cuts, Draws, ForestAnswer, ForestCall, Given, Numbers, Settings, Splitter, TreeAnswer,
+    CutAt, Cuts, Draws, ForestCall, Given, Numbers, Refusal, Settings, Splitter, TreeAnswer,
     TreeCall,
 };
-pub use checks::check_listings;
 pub use fits::{fit_forest, fit_tree};
+pub use listings::check_listings;
 pub use readers::{
     Divisor, forest_importances, forest_means, out_of_bag_error, out_of_bag_means, predictions,
     tree_importances,

@@ -10,8 +10,8 @@ mod waiting;
 use driver::call::outcome::bits;
 use driver::judge::library::Library;
 use paper::{
-    CutAt, Divisor, ForestAnswer, ForestCall, ForestRooms, Given, Numbers, Splitter, Table,
-    TreeAnswer, TreeCall, TreeRooms,
+    CutAt, Divisor, ForestCall, ForestRooms, Given, Numbers, Refusal, Splitter, Table, TreeAnswer,
+    TreeCall, TreeRooms,
 };
 pub use served::named as served;
 use tailboardy_sys::{ForestSettings, TreeSettings};
@@ -65,9 +65,7 @@ impl Library for Proved {
         );
         stack.told(work.waiting);
         TreeAnswer {
-            refusal: told.number,
-            tree: told.tree,
-            search: told.search,
+            refusal: refusal([told.number, told.part, told.place, told.row]),
             numbers: Numbers {
                 nodes: told.nodes,
                 depth: told.depth,
@@ -79,7 +77,7 @@ impl Library for Proved {
         }
     }
 
-    fn fit_forest(&self, call: &ForestCall, rooms: &mut ForestRooms) -> ForestAnswer {
+    fn fit_forest(&self, call: &ForestCall, rooms: &mut ForestRooms) -> Refusal {
         let ForestRooms {
             nodes,
             starts,
@@ -122,11 +120,7 @@ impl Library for Proved {
             forest_settings(call),
         );
         stack.told(work.waiting);
-        ForestAnswer {
-            refusal: told.number,
-            tree: told.tree,
-            search: told.search,
-        }
+        refusal([told.number, told.part, told.place, told.row])
     }
 
     fn predictions(
@@ -187,8 +181,9 @@ impl Library for Proved {
         (told.number, told.error, told.rows)
     }
 
-    fn check_listings(&self, rows: usize, features: usize, x: &[f64], listings: &[u32]) -> u32 {
-        either::check_listings(rows, features, x, listings)
+    fn check_listings(&self, rows: usize, features: usize, x: &[f64], listings: &[u32]) -> Refusal {
+        let told = either::check_listings(rows, features, x, listings);
+        refusal([told.number, told.part, told.place, told.row])
     }
 
     fn check_tree(&self, features: usize, t: &Table) -> u32 {
@@ -215,6 +210,15 @@ impl Library for Proved {
             true_child,
             false_child,
         ]
+    }
+}
+
+fn refusal([number, part, place, row]: [u32; 4]) -> Refusal {
+    Refusal {
+        number,
+        part,
+        place,
+        row,
     }
 }
 

@@ -123,9 +123,9 @@ macro_rules! fields {
 }
 fields! {
     TreeSettings: limited limit leaf split tried random lower;
-    TreeTold: number tree search nodes depth mass searches words thresholds;
+    TreeTold: number part place row nodes depth mass searches words thresholds;
     ForestSettings: limited limit leaf split said tried random lower;
-    ForestTold: number tree search;
+    Refusal: number part place row;
     ErrorTold: number error rows;
     NodeTold: number there value feature threshold score true_child false_child;
 }

@@ -41,7 +41,7 @@ impl Faults {
         let mut all = std::mem::take(self);
         match last {
             Stop::Usage(_) => last,
-            Stop::Refused(lines) => {
+            Stop::Refused(lines) | Stop::Damaged(lines, _) => {
                 lines.into_iter().for_each(|line| all.add_line(line));
                 Stop::Refused(all.lines())
             }

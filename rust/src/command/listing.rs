@@ -3,8 +3,8 @@
 use crate::csv::Csv;
 use crate::number::quoted;
 use crate::show::Show;
-use crate::stop::Stop;
-use tailboardy::{Breach, ListingFault, Listings, Refusal};
+use crate::stop::{Damage, Stop};
+use tailboardy::{Breach, Cause, DenseMatrix, ListingFault, Listings, Refusal};
 
 /// What may have happened if each row is there once, but the order is not that of the show's values.
 const OTHER: &str = "the listing looks like that of another version of the show; `tailboardy list` writes a fresh one";
@@ -41,18 +41,27 @@ impl Listing {
 
     /// What is wrong, as a fault of the whole listing if it can be told as that, and for every column that is wrong.
     pub fn refused(&self, refusal: &Refusal, show: &Show) -> Stop {
-        let (number, name) = (refusal.number(), refusal.cause().name());
-        let line = |told| format!("{told} (refusal {number}, {name})");
-        let told = self.told(show).into_iter();
-        Stop::Refused(told.map(line).collect())
+        let line = |(told, cause): (String, Cause)| {
+            format!("{told} (refusal {}, {})", cause.number(), cause.name())
+        };
+        let features = 0..self.columns.len();
+        let faults = features.filter_map(|it| self.listings.fault(&show.x, it));
+        let faults: Vec<ListingFault> = faults.collect();
+        let told = self.told(refusal.cause(), &faults, show).into_iter();
+        let lines = told.map(line).collect();
+        match refusal.cause() {
+            Cause::Lengths => Stop::Refused(lines),
+            _ => Stop::Damaged(lines, faults.iter().map(|it| self.damage(it)).collect()),
+        }
     }
 
-    fn told(&self, show: &Show) -> Vec<String> {
+    /// Lines, each with its refusal. A listing of another length is refused as that, whatever is wrong in its columns.
+    fn told(&self, cause: Cause, faults: &[ListingFault], show: &Show) -> Vec<(String, Cause)> {
         let features = 0..self.columns.len();
         let firsts: Vec<Option<u32>> = features.clone().map(|it| self.counted(it, show)).collect();
         match firsts[..] {
             [Some(first), ..] if firsts.iter().all(|it| *it == Some(first)) => {
-                return vec![format!("{}: {}", self.file(), counts_from(first))];
+                return vec![(format!("{}: {}", self.file(), counts_from(first)), cause)];
             }
             _ => (),
         }
@@ -60,14 +69,28 @@ impl Listing {
         if self.csv.rows() != show.csv.rows() && whole {
             let falls = features.filter_map(|it| self.fall(it, 0, show));
             let falls = falls.map(|fault| self.fault(&fault, show));
-            return [self.other_length(show)].into_iter().chain(falls).collect();
+            let lines = [self.other_length(show)].into_iter().chain(falls);
+            return lines.map(|line| (line, cause)).collect();
         }
-        let faults = features.filter_map(|it| self.listings.fault(&show.x, it));
-        let told = |fault: ListingFault| match firsts[fault.feature] {
-            Some(first) => format!("{}: {}", self.place(&fault), counts_from(first)),
-            None => self.fault(&fault, show),
+        let told = |fault: &ListingFault| match firsts[fault.feature] {
+            Some(first) => format!("{}: {}", self.place(fault), counts_from(first)),
+            None => self.fault(fault, show),
         };
-        faults.map(told).collect()
+        let own = |fault: &ListingFault| match cause {
+            Cause::Lengths => cause,
+            _ => fault.breach.cause(),
+        };
+        faults.iter().map(|it| (told(it), own(it))).collect()
+    }
+
+    fn damage(&self, fault: &ListingFault) -> Damage {
+        let column = self.columns[fault.feature];
+        Damage {
+            column: self.csv.names()[column].clone(),
+            refusal: fault.breach.cause().number(),
+            place: fault.place,
+            missing: fault.missing,
+        }
     }
 
     /// That the listing is not as long as the show, but otherwise complete.
@@ -139,27 +162,23 @@ impl Listing {
         counted.all(|(row, at)| row - first == at).then_some(first)
     }
 
-    /// The first place where a value falls, if the row numbers count from `first`. Rows that the show does not have are passed over.
+    /// The first place where a value falls, of a listing that has each row once and counts from `first`. Rows that the show does not have
+    /// are passed over: the library is asked about the others.
     fn fall(&self, feature: usize, first: u32, show: &Show) -> Option<ListingFault> {
-        let mut before: Option<(u32, f64)> = None;
-        for (place, row) in self.listings.column(feature)?.iter().enumerate() {
-            let row = row - first;
-            let Some(value) = show.x.get((row as usize, feature)) else {
-                continue;
-            };
-            match before {
-                Some((after, higher)) if value < higher => {
-                    return Some(ListingFault {
-                        feature,
-                        place,
-                        breach: Breach::Falls { row, after },
-                        missing: None,
-                    });
-                }
-                _ => before = Some((row, value)),
-            }
-        }
-        None
+        let (rows, features) = show.x.shape();
+        let column = self.listings.column(feature)?.iter().map(|row| row - first);
+        let others = column.enumerate().filter(|(_, row)| (*row as usize) < rows);
+        let (places, others): (Vec<usize>, Vec<u32>) = others.unzip();
+        let values = show.x.values().iter().skip(feature).step_by(features);
+        let x = DenseMatrix::new(rows, 1, values.copied().collect(), false).ok()?;
+        let fault = Listings::from_columns(&[others]).ok()?.fault(&x, 0)?;
+        let falls = matches!(fault.breach, Breach::Falls { .. });
+        falls.then(|| ListingFault {
+            feature,
+            place: places[fault.place],
+            missing: None,
+            ..fault
+        })
     }
 }
 

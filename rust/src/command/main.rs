@@ -52,7 +52,7 @@ fn main() -> ExitCode {
             output::say(&format!("tailboardy: {}\n", why.trim_end()));
             ExitCode::from(2)
         }
-        Err(Stop::Refused(lines)) => {
+        Err(Stop::Refused(lines) | Stop::Damaged(lines, _)) => {
             for line in lines {
                 output::say(&format!("tailboardy: {line}\n"));
             }
@@ -96,8 +96,9 @@ fn started(command: &Command, words: &[String]) -> Result<Output, Stop> {
         return Ok(Output::told(command.help()));
     };
     let ran = (command.run)(&args);
-    if let (Err(Stop::Refused(lines)), true) = (&ran, args.has("--json")) {
-        Output::told(summary::refused(lines).line(None)).write()?;
+    let refused = ran.as_ref().err().and_then(summary::refused);
+    if let (Some(refused), true) = (refused, args.has("--json")) {
+        Output::told(refused.line(None)).write()?;
     }
     ran
 }

@@ -11,6 +11,17 @@ pub enum Stop {
     Usage(String),
     /// The files that it names cannot be used: status 1. One line for each thing that is wrong.
     Refused(Vec<String>),
+    /// The same for a damaged listing, with what programs are told of each column that is wrong.
+    Damaged(Vec<String>, Vec<Damage>),
+}
+
+/// Where a column of a listing is damaged.
+#[derive(Debug)]
+pub struct Damage {
+    pub column: String,
+    pub refusal: u32,
+    pub place: usize,
+    pub missing: Option<usize>,
 }
 
 impl Stop {
@@ -57,7 +68,7 @@ impl fmt::Display for Stop {
     fn fmt(&self, f: &mut fmt::Formatter<'_>) -> fmt::Result {
         match self {
             Stop::Usage(why) => f.write_str(why),
-            Stop::Refused(lines) => f.write_str(&lines.join("\n")),
+            Stop::Refused(lines) | Stop::Damaged(lines, _) => f.write_str(&lines.join("\n")),
         }
     }
 }

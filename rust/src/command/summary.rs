@@ -5,15 +5,33 @@ use crate::json::Json;
 use crate::number::{Style, write};
 use crate::output::Output;
 use crate::show::Show;
-use crate::stop::Stop;
+use crate::stop::{Damage, Stop};
 use tailboardy::{
     Cause, Cuts, OutOfBagError, OutOfBagMeans, RandomForestRegressor,
     RandomForestRegressorParameters, Refusal, Splitter,
 };
 
-/// What `--json` writes if the input is refused: each line that is also on standard error.
-pub fn refused(lines: &[String]) -> Json {
-    Json::object([("ok", false.into()), ("faults", Json::list(lines))])
+/// What `--json` writes if the input is refused: each line that is also on standard error, and where a listing is damaged.
+pub fn refused(stop: &Stop) -> Option<Json> {
+    let (lines, damage) = match stop {
+        Stop::Usage(_) => return None,
+        Stop::Refused(lines) => (lines, None),
+        Stop::Damaged(lines, damage) => (lines, Some(damage)),
+    };
+    let faults = [("ok", false.into()), ("faults", Json::list(lines))];
+    let damage = damage.map(|all| ("damage", Json::list(all)));
+    Some(Json::object(faults.into_iter().chain(damage)))
+}
+
+impl From<&Damage> for Json {
+    fn from(damage: &Damage) -> Self {
+        Json::object([
+            ("column", Json::from(&damage.column)),
+            ("refusal", Json::from(u64::from(damage.refusal))),
+            ("place", damage.place.into()),
+            ("missing", damage.missing.map_or(Json::Null, Json::from)),
+        ])
+    }
 }
 
 /// One thing that is reported: its key and value in JSON, and a line of text that says the same.

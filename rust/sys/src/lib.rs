@@ -40,30 +40,34 @@ pub struct ForestSettings {
     pub lower: bool,
 }
 
-/// 0 or the number of a refusal, the place of a bad draw, and the report on a grown tree.
+/// A refusal: its number, or 0 if there is none, and where it is. With 11, 12 and 13 `part` is the feature whose listing is damaged and
+/// `place` the place in it; with 12 `row` is the lowest row that is missing from it. With 7 `part` is the tree and `place` the search of
+/// the bad draw. All other fields are 0.
+#[repr(C)]
+#[derive(Debug, Clone, Copy, PartialEq, Eq)]
+#[allow(missing_docs)]
+pub struct Refusal {
+    pub number: u32,
+    pub part: u32,
+    pub place: u32,
+    pub row: u32,
+}
+
+/// The four fields of a refusal, and the report on a grown tree.
 #[repr(C)]
 #[derive(Debug, Clone, Copy)]
 #[allow(missing_docs)]
 pub struct TreeTold {
     pub number: u32,
-    pub tree: u32,
-    pub search: u32,
+    pub part: u32,
+    pub place: u32,
+    pub row: u32,
     pub nodes: u32,
     pub depth: u32,
     pub mass: f64,
     pub searches: u32,
     pub words: u32,
     pub thresholds: u32,
-}
-
-/// 0 or the number of a refusal, and the place of a bad draw.
-#[repr(C)]
-#[derive(Debug, Clone, Copy)]
-#[allow(missing_docs)]
-pub struct ForestTold {
-    pub number: u32,
-    pub tree: u32,
-    pub search: u32,
 }
 
 /// 0 or the number of a refusal, and the error with the number of rows that it is over.
@@ -109,7 +113,7 @@ macro_rules! calls {
                     order: u32, scratch: u32, flags: bool, wholes: [u32; 6], reals: [f64; 3])
                 reads(values: f64, targets: f64, weights: f64, counts: u32, listings: u32, words: u32, thresholds: f64,
                     word_starts: usize, threshold_starts: usize)
-                writes() (rows: usize, features: usize, trees: usize, plain: ForestSettings) -> ForestTold;
+                writes() (rows: usize, features: usize, trees: usize, plain: ForestSettings) -> Refusal;
             3 predict_tree = tailboardy_predict_tree(rows: usize, features: usize)
                 fills() reads(values: f64, value: f64, feature: u32, threshold: f64, score: f64, true_child: u32, false_child: u32)
                 writes(out: f64) () -> u32;
@@ -131,7 +135,7 @@ macro_rules! calls {
                 writes() () -> ErrorTold;
             10 check_listings = tailboardy_check_listings(rows: usize, features: usize)
                 fills() reads(values: f64, listings: u32)
-                writes() () -> u32;
+                writes() () -> Refusal;
             11 check_tree = tailboardy_check_tree(features: usize)
                 fills() reads(value: f64, feature: u32, threshold: f64, score: f64, true_child: u32, false_child: u32)
                 writes() () -> u32;

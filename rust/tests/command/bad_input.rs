@@ -285,11 +285,11 @@ const LISTINGS: &[[&str; 2]] = &[
     ],
     [
         "x,z\n0,0\n2,1\n2,2\n",
-        "LIST, line 4, column x: row 2 appears twice, first in line 3, and row 1 is missing, which is line 3 of OLD (refusal 5, listing)",
+        "LIST, line 4, column x: row 2 appears twice, first in line 3, and row 1 is missing, which is line 3 of OLD (refusal 12, row twice)",
     ],
     [
         "x,z\n0,0\n1,1\n2,3\n",
-        "LIST, line 4, column z: there is no row 3; the last row is 2, and row 2 is missing, which is line 4 of OLD (refusal 5, listing)",
+        "LIST, line 4, column z: there is no row 3; the last row is 2, and row 2 is missing, which is line 4 of OLD (refusal 11, no such row)",
     ],
     [
         "x\n0\n1\n2\n0\n",

@@ -152,6 +152,23 @@ fn a_check_is_reported_in_json() {
     assert_eq!((usage.status, usage.out.as_str()), (Some(2), ""));
 }
 
+/// The names of members, and of those of objects in a list.
+fn names(members: &[(String, Value)]) -> Vec<&str> {
+    let mut names = Vec::new();
+    for (name, value) in members {
+        names.push(name.as_str());
+        let Value::List(values) = value else {
+            continue;
+        };
+        for value in values {
+            if let Value::Object(members) = value {
+                names.extend(members.iter().map(|(name, _)| name.as_str()));
+            }
+        }
+    }
+    names
+}
+
 /// Every member is explained in docs/COMMAND.md.
 #[test]
 fn members_are_on_the_page() {
@@ -166,24 +183,27 @@ fn members_are_on_the_page() {
     let words = [&show, "--target", "pan", "--weight", "w", "--json"];
     let (check, fit) = (["check", "--listing", &listing], ["fit", "--n-trees", "5"]);
     let bad = ["check", &listing, "--target", "y", "--json"];
+    let twice = folder.write("twice.csv", "x\n0\n2\n2\n");
+    let damaged = ["check", &show, "--listing", &twice, "--json"];
     for words in [
         [&check[..], &words].concat(),
         [&fit[..], &words].concat(),
         bad.into(),
+        damaged.into(),
     ] {
         let told = run(&words);
         let Value::Object(members) = parse(&told.out) else {
             panic!("{told:?}");
         };
         assert!(members.len() > 1);
-        for (name, _) in members {
+        for name in names(&members) {
             let row = part.lines().filter(|line| line.starts_with("| `"));
             let named = |line: &str| line.contains(&format!("`{name}`"));
             assert!(row.clone().any(named), "{name}");
         }
         assert_eq!(
             told.out.contains("\"notes\": [\""),
-            words[1] != bad[1],
+            told.status == Some(0),
             "{told:?}"
         );
     }

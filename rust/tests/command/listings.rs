@@ -70,20 +70,20 @@ fn a_fresh_listing_is_accepted() {
 const TOLD: &[[&str; 2]] = &[
     [
         "x,z\n2,1\n3,3\n1,2\n",
-        "LIST: row numbers are counted from 1 instead of 0; `tailboardy list` writes a fresh listing (refusal 5, listing)",
+        "LIST: row numbers are counted from 1 instead of 0; `tailboardy list` writes a fresh listing (refusal 11, no such row)",
     ],
     [
         "x,z\n3,2\n4,4\n2,3\n",
-        "LIST: row numbers are counted from 2 instead of 0; `tailboardy list` writes a fresh listing (refusal 5, listing)",
+        "LIST: row numbers are counted from 2 instead of 0; `tailboardy list` writes a fresh listing (refusal 11, no such row)",
     ],
     [
         "x,z\n2,0\n3,2\n1,1\n",
-        "LIST, line 3, column x: row numbers are counted from 1 instead of 0; `tailboardy list` writes a fresh listing (refusal 5, listing)",
+        "LIST, line 3, column x: row numbers are counted from 1 instead of 0; `tailboardy list` writes a fresh listing (refusal 11, no such row)",
     ],
     [
         "x,z\n1,0\n2,1\n0,2\n",
         "LIST, line 4, column z: row 2 (6.5 in line 4 of SHOW) follows row 1 (7 in line 3 of SHOW), which is higher; \
-         the listing looks like that of another version of the show; `tailboardy list` writes a fresh one (refusal 5, listing)",
+         the listing looks like that of another version of the show; `tailboardy list` writes a fresh one (refusal 13, value falls)",
     ],
     [
         "x,z\n1,0\n0,1\n",
@@ -100,14 +100,20 @@ const TOLD: &[[&str; 2]] = &[
     [
         "x,z\n0,0\n1,1\n1,2\n",
         "LIST, line 3, column x: row 1 (1 in line 3 of SHOW) follows row 0 (3.5 in line 2 of SHOW), which is higher, \
-         and row 2 is missing, which is line 4 of SHOW (refusal 5, listing)\n\
+         and row 2 is missing, which is line 4 of SHOW (refusal 13, value falls)\n\
          LIST, line 4, column z: row 2 (6.5 in line 4 of SHOW) follows row 1 (7 in line 3 of SHOW), which is higher; \
-         the listing looks like that of another version of the show; `tailboardy list` writes a fresh one (refusal 5, listing)",
+         the listing looks like that of another version of the show; `tailboardy list` writes a fresh one (refusal 13, value falls)",
+    ],
+    [
+        "x,z\n1,0\n1,1\n0,2\n",
+        "LIST, line 3, column x: row 1 appears twice, first in line 2, and row 2 is missing, which is line 4 of SHOW (refusal 12, row twice)\n\
+         LIST, line 4, column z: row 2 (6.5 in line 4 of SHOW) follows row 1 (7 in line 3 of SHOW), which is higher; \
+         the listing looks like that of another version of the show; `tailboardy list` writes a fresh one (refusal 13, value falls)",
     ],
     [
         "x,z\n3,2\n2,1\n1,3\n",
-        "LIST, line 2, column x: there is no row 3; the last row is 2, and row 0 is missing, which is line 2 of SHOW (refusal 5, listing)\n\
-         LIST, line 4, column z: there is no row 3; the last row is 2, and row 0 is missing, which is line 2 of SHOW (refusal 5, listing)",
+        "LIST, line 2, column x: there is no row 3; the last row is 2, and row 0 is missing, which is line 2 of SHOW (refusal 11, no such row)\n\
+         LIST, line 4, column z: there is no row 3; the last row is 2, and row 0 is missing, which is line 2 of SHOW (refusal 11, no such row)",
     ],
 ];
 
@@ -123,4 +129,30 @@ fn listings_that_do_not_fit_are_explained() {
         );
         assert_eq!((told.status, told.out.as_str()), (Some(1), ""));
     }
+}
+
+/// What programs are told of a damaged listing: each column that is wrong, whatever the lines say.
+#[test]
+fn damage_is_told_to_programs() {
+    let folder = Folder::new("damage");
+    let show = folder.write("show.csv", SHOW);
+    let damage = |listing: &str| {
+        let listing = folder.write("list.csv", listing);
+        let words = ["--target", "pan", "--listing", &listing, "--json"];
+        let [check, fit] =
+            ["check", "fit"].map(|it| run(&[&[it, show.as_str()], &words[..]].concat()));
+        assert_eq!((check.status, &check.out), (Some(1), &fit.out));
+        let (_, damage) = check.out.split_once("], \"damage\": ").unwrap_or_default();
+        damage.trim_end().to_owned()
+    };
+    assert_eq!(
+        damage("x,z\n1,0\n1,1\n0,2\n"),
+        "[{\"column\": \"x\", \"refusal\": 12, \"place\": 1, \"missing\": 2}, \
+          {\"column\": \"z\", \"refusal\": 13, \"place\": 2, \"missing\": null}]}"
+    );
+    assert_eq!(
+        damage("x,z\n2,0\n3,2\n1,1\n"),
+        "[{\"column\": \"x\", \"refusal\": 11, \"place\": 1, \"missing\": 0}]}"
+    );
+    assert_eq!(damage("x,z\n1,0\n0,1\n"), "");
 }

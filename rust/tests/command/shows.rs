@@ -150,7 +150,7 @@ fn the_damaged_listing_is_refused() {
     let listing = show("old-house-listing-damaged.csv");
     let line = format!(
         "tailboardy: {listing}, line 46, column trim_height: row 13 appears twice, first in line 45, \
-         and row 12 is missing, which is line 14 of {old} (refusal 5, listing)\n"
+         and row 12 is missing, which is line 14 of {old} (refusal 12, row twice)\n"
     );
     let out = folder.path("out.csv");
     for words in [

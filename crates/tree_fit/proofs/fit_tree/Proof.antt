@@ -1,5 +1,5 @@
 -- `tree_fit::fit_tree` meets its contract: the verdict decides, and a tree that passes is grown and told of. Assumes nothing.
-use Prim.Native.Nat.{ℕ, _-_, _*_, _≤_}
+use Prim.Native.Nat.{ℕ, _-_, _*_}
 use native.Mathlib.Omega.{arith}
 use mathlib.Core.Path.{_≡_, refl, sym, _∙_}
 use denote.Ref.{now}
@@ -7,8 +7,9 @@ use borrow.Author.Needs.{needs}
 use lib.Seq.{length-front}
 use lib.Dec.{T}
 use lib.Ieee.{nan, binary64, fits}
+use Rattle.rules.specs.declared.Checked.{Checked}
 use Rattle.rules.specs.Lent.{TreeRooms, WaitingRoom, waitingRoom, givenOf, columnsOf, workOf, treeRoomsOf}
-use Rattle.rules.specs.Checks.{firstFailed}
+use Rattle.rules.specs.Checks.{checked}
 use Rattle.rules.specs.Fit.{TreeCall, treeCall, treeTests}
 use Rattle.rooms.specs.Enough.{every-each, lent-long}
 use Rattle.tree_fit.specs.Ends.{fit-refused, fit-finished, few-features, size-low, size-room, plant-asks}
@@ -33,20 +34,20 @@ size s = s .args .shape .features * s .args .shape .rows - 0
 abbrev start-of-tree-verdict : tie.After-tree-verdict → tie.Start
 start-of-tree-verdict c = c .before .before .before .before .before .before .before .before .before .before .before .before .before .before .before .before .before .before .before
 
-abbrev else1-of-plant-arg6 : tie.After-plant-arg6 → tie.Else1
-else1-of-plant-arg6 c = c .before .before .before .before .before .before .before
+abbrev passed-of-plant-arg6 : tie.After-plant-arg6 → tie.After-enum-told
+passed-of-plant-arg6 c = c .before .before .before .before .before .before .before
 
 abbrev tree-verdict-of-plant-arg6 : tie.After-plant-arg6 → tie.After-tree-verdict
-tree-verdict-of-plant-arg6 c = else1-of-plant-arg6 c .before
+tree-verdict-of-plant-arg6 c = passed-of-plant-arg6 c .before .before
 
 abbrev params-of-of-plant-arg11 : tie.After-plant-arg11 → tie.After-params-of
 params-of-of-plant-arg11 c = c .before .before .before .before .before .before .before .before .before .before .before
 
-abbrev else1-of-plant-arg11 : tie.After-plant-arg11 → tie.Else1
-else1-of-plant-arg11 c = params-of-of-plant-arg11 c .before
+abbrev passed-of-plant-arg11 : tie.After-plant-arg11 → tie.After-enum-told
+passed-of-plant-arg11 c = params-of-of-plant-arg11 c .before
 
 abbrev tree-verdict-of-plant-arg11 : tie.After-plant-arg11 → tie.After-tree-verdict
-tree-verdict-of-plant-arg11 c = else1-of-plant-arg11 c .before
+tree-verdict-of-plant-arg11 c = passed-of-plant-arg11 c .before .before
 
 abbrev shared-slice-known-place : tie.After-plant-arg11 → tie.After-shared-slice-known
 shared-slice-known-place c = tree-verdict-of-plant-arg11 c .before .before .before .before .before .before .before .before .before
@@ -65,8 +66,8 @@ plant-place c =
 abbrev params-of-of-reals2 : tie.After-reals2 → tie.After-params-of
 params-of-of-reals2 c = params-of-of-plant-arg11 (plant-place c .before)
 
-abbrev else1-of-reals2 : tie.After-reals2 → tie.Else1
-else1-of-reals2 c = else1-of-plant-arg11 (plant-place c .before)
+abbrev passed-of-reals2 : tie.After-reals2 → tie.After-enum-told
+passed-of-reals2 c = passed-of-plant-arg11 (plant-place c .before)
 
 abbrev tree-verdict-of-reals2 : tie.After-reals2 → tie.After-tree-verdict
 tree-verdict-of-reals2 c = tree-verdict-of-plant-arg11 (plant-place c .before)
@@ -77,7 +78,7 @@ start-of-reals2 c = start-of-tree-verdict (tree-verdict-of-reals2 c)
 abbrev begun : tie.After-tree-verdict → tie.Start
 begun b = start-of-tree-verdict b
 
-verdict : (b : tie.After-tree-verdict) → b .tree-verdict .result ≡ firstFailed (treeTests waitingRoom (call (begun b)) (rooms (begun b)))
+verdict : (b : tie.After-tree-verdict) → b .tree-verdict .result ≡ checked (treeTests waitingRoom (call (begun b)) (rooms (begun b)))
 verdict b =
     b .tree-verdict .ensures (call (begun b)) (rooms (begun b))
     (record {
@@ -88,8 +89,14 @@ verdict b =
           { order = refl; scratch = refl; flags = refl; waiting = sym (b .before .least .ensures) };
     })
 
-passed : (e : tie.Else1) → e .before .tree-verdict .result ≤ 0
-passed e = omega (arith, e .if1 .left)
+passed : (e : tie.After-enum-told) → let s = begun (e .before .before) in Checked.Passed ≡ checked (treeTests waitingRoom (call s) (rooms s))
+passed e = sym (e .enum-told .given .1) ∙ verdict (e .before .before)
+
+enum-known-verdict : tie.Need-enum-known-verdict
+enum-known-verdict c = search needs
+
+enum-told : tie.Need-enum-told
+enum-told c = search needs
 
 shortest-of-requires : tie.Need-shortest-of-requires
 shortest-of-requires c κs = tt
@@ -101,13 +108,15 @@ tree-verdict-requires : tie.Need-tree-verdict-requires
 tree-verdict-requires c κs = tt
 
 returns : tie.Need-returns
-returns c = fit-refused (call (begun (c .before))) (rooms (begun (c .before))) _ (verdict (c .before)) (c .if1 .taken)
+returns c =
+    let at = c .before .before .before in
+    fit-refused (call (begun at)) (rooms (begun at)) _ (sym (c .before .verdict .given .1) ∙ verdict at)
 
 mul-size : tie.Need-mul-size
-mul-size c = omega (arith, size-low _ _ _ (verdict (c .before)) (passed c))
+mul-size c = omega (arith, size-low _ _ (passed c))
 
 params-of-requires : tie.Need-params-of-requires
-params-of-requires c κs = omega (arith, few-features _ _ _ (verdict (c .before)) (passed c))
+params-of-requires c κs = omega (arith, few-features _ _ (passed c))
 
 sub-plant : tie.Need-sub-plant
 sub-plant c = search needs
@@ -117,17 +126,17 @@ part-plant-start c = search needs
 
 part-plant-end : tie.Need-part-plant-end
 part-plant-end c =
-    size-room (call (begun (tree-verdict-of-plant-arg6 c))) (rooms (begun (tree-verdict-of-plant-arg6 c))) _ (verdict (tree-verdict-of-plant-arg6 c))
-    (passed (else1-of-plant-arg6 c))
+    size-room (call (begun (tree-verdict-of-plant-arg6 c))) (rooms (begun (tree-verdict-of-plant-arg6 c)))
+    (passed (passed-of-plant-arg6 c))
 
 plant-requires : tie.Need-plant-requires
 plant-requires c κs =
-    plant-asks (call (begun (tree-verdict-of-plant-arg11 c))) (rooms (begun (tree-verdict-of-plant-arg11 c))) _ (verdict (tree-verdict-of-plant-arg11 c))
-    (passed (else1-of-plant-arg11 c))
+    plant-asks (call (begun (tree-verdict-of-plant-arg11 c))) (rooms (begun (tree-verdict-of-plant-arg11 c)))
+    (passed (passed-of-plant-arg11 c))
     (every-each (λ x. T (fits binary64 x)) (now (start-of-plant-arg11 c .args .values)) nan (λ i. shared-slice-known-place c .shared-slice-known .given i)) _
     (params-of-of-plant-arg11 c .params-of .ensures) _
-    (lent-long _ _ (size-room (call (begun (tree-verdict-of-plant-arg11 c))) (rooms (begun (tree-verdict-of-plant-arg11 c))) _ (verdict (tree-verdict-of-plant-arg11 c))
-    (passed (else1-of-plant-arg11 c))))
+    (lent-long _ _ (size-room (call (begun (tree-verdict-of-plant-arg11 c))) (rooms (begun (tree-verdict-of-plant-arg11 c)))
+    (passed (passed-of-plant-arg11 c))))
 
 finish-requires : tie.Need-finish-requires
 finish-requires c κs = tt
@@ -188,11 +197,11 @@ returns-2 c =
       wholes = plant-place c .plant .kept .1 .1 .1 .1 .1 .1 .1 .1 .1 .0;
       reals = plant-place c .plant .kept .1 .1 .1 .1 .1 .1 .1 .1 .1 .1 .0;
     })
-    _ (verdict (tree-verdict-of-reals2 c)) (passed (else1-of-reals2 c)) _ (params-of-of-reals2 c .params-of .ensures) _ (plant-place c .plant .ensures)
+    (passed (passed-of-reals2 c)) _ (params-of-of-reals2 c .params-of .ensures) _ (plant-place c .plant .ensures)
 
 pub fit-tree-spec : {M : Type 1} → statement M
 fit-tree-spec =
     tie.close
-    (tie.spec shortest-of-requires least-requires tree-verdict-requires returns mul-size params-of-requires sub-plant part-plant-start part-plant-end
+    (tie.spec shortest-of-requires least-requires tree-verdict-requires enum-known-verdict returns enum-told mul-size params-of-requires sub-plant part-plant-start part-plant-end
     plant-requires finish-requires same-length same-length-2 same-length-3 same-length-4 same-length-5 same-length-6 same-length-7 same-length-8
     same-length-9 same-length-10 same-length-11 returns-2)

@@ -7,7 +7,7 @@ use std::collections::BTreeSet;
 
 /// Each tree with each feature by which it is split, and whether it is split there at a zero.
 fn splits(fit: &Fit, answer: &[u64]) -> BTreeSet<(usize, usize, bool)> {
-    let told = if fit.forest { 3 } else { 9 };
+    let told = if fit.forest { 4 } else { 10 };
     let rooms = outcome::written(&answer[told..]);
     let entry = |room: usize, node: usize| rooms[room].get(node).copied().unwrap_or(0);
     let starts: &[u64] = if fit.forest { rooms[6] } else { &[0] };

@@ -1,12 +1,13 @@
 //! One fault at a time: each length off by one, each room too short by one, each kind of bad number.
 
 use crate::call::calls::Fit;
+use crate::call::fault::Fault;
 use crate::judge::case::Case;
 use crate::make::chance::Chance;
 use crate::make::fit as make_fit;
 
 /// A valid forest of two trees with two rows and three features, in rooms that are just long enough, or only its first tree.
-fn good(forest: bool, weighted: bool) -> Fit {
+pub fn good(forest: bool, weighted: bool) -> Fit {
     let trees = if forest { 2 } else { 1 };
     let mut fit = Fit {
         forest,
@@ -41,10 +42,10 @@ fn good(forest: bool, weighted: bool) -> Fit {
 struct Faults(Vec<Case>);
 
 impl Faults {
-    fn add(&mut self, base: &Fit, refusal: u32, change: impl FnOnce(&mut Fit)) {
+    fn add(&mut self, base: &Fit, fault: impl Into<Fault>, change: impl FnOnce(&mut Fit)) {
         let mut fit = base.clone();
         change(&mut fit);
-        self.0.push(Case::fit(fit, refusal));
+        self.0.push(Case::fit(fit, fault));
     }
 }
 
@@ -106,9 +107,9 @@ fn numbers(faults: &mut Faults) {
         faults.add(&good(true, true), 4, |fit| fit.counts[3] = count);
         faults.add(&good(false, true), 0, |fit| fit.counts[1] = count);
     }
-    faults.add(&base, 5, |fit| fit.listings[5] = 0);
-    faults.add(&base, 5, |fit| fit.listings[5] = 2);
-    faults.add(&base, 5, |fit| fit.listings.swap(2, 3));
+    faults.add(&base, [12, 2, 1, 1], |fit| fit.listings[5] = 0);
+    faults.add(&base, [11, 2, 1, 0], |fit| fit.listings[5] = 2);
+    faults.add(&base, [13, 1, 1, 0], |fit| fit.listings.swap(2, 3));
     // equal values may be in either order
     faults.add(&base, 0, |fit| fit.listings.swap(4, 5));
 }
@@ -145,7 +146,7 @@ fn lower(faults: &mut Faults) {
         faults.add(&base, 2, |fit| off(&mut fit.y, true));
         faults.add(&base, 3, |fit| fit.x[5] = f64::NAN);
         faults.add(&base, 4, |fit| fit.counts[1] = 65_536);
-        faults.add(&base, 5, |fit| fit.listings.swap(2, 3));
+        faults.add(&base, [13, 1, 1, 0], |fit| fit.listings.swap(2, 3));
         faults.add(&base, 6, |fit| fit.rooms.nodes[2] -= 1);
     }
 }

@@ -1,32 +1,46 @@
 //! Damaged copies of valid fits, each with the refusal that it should give.
 
 use crate::call::calls::Fit;
+use crate::call::fault::Fault;
+use crate::damage::listing;
 use crate::make::chance::Chance;
 
-/// Damages a valid fit in one to three ways. Higher numbers are done first, so that no damage undoes another;
-/// the checks are made in order, so the lowest number is expected.
-pub fn damage(chance: &mut Chance, fit: &mut Fit) -> u32 {
-    let mut numbers: Vec<u32> = (0..chance.within(1, 3))
-        .map(|_| chance.within(1, 6) as u32)
+/// The refusals in the order of the checks. 11 stands for all three of a listing.
+const ORDER: [u32; 6] = [1, 2, 3, 4, 11, 6];
+
+/// Damages a valid fit in one to three ways, starting with the last check, so that no damage undoes another; the fault that the first
+/// check finds is expected.
+pub fn damage(chance: &mut Chance, fit: &mut Fit) -> Fault {
+    let mut checks: Vec<usize> = (0..chance.within(1, 3))
+        .map(|_| chance.below(ORDER.len()))
         .collect();
-    // each number once: a second damage of one kind could undo the first
-    numbers.sort_unstable_by(|a, b| b.cmp(a));
-    numbers.dedup();
-    let mut refusal = 0;
-    for number in numbers {
-        let done = match number {
-            1 => sizes(chance, fit),
-            2 => lengths(chance, fit),
-            3 => numbers_bad(chance, fit),
-            4 => counts(chance, fit),
-            5 => listings(chance, fit),
-            _ => rooms(chance, fit),
-        };
-        if done {
-            refusal = number;
+    // each check once: a second damage of one kind could undo the first
+    checks.sort_unstable_by(|a, b| b.cmp(a));
+    checks.dedup();
+    let mut fault = Fault::default();
+    for check in checks {
+        let next = one(chance, fit, ORDER[check]);
+        if !next.none() {
+            fault = next;
         }
     }
-    refusal
+    fault
+}
+
+/// Damage for one check, which may not be possible.
+fn one(chance: &mut Chance, fit: &mut Fit, number: u32) -> Fault {
+    let done = match number {
+        1 => sizes(chance, fit),
+        2 => lengths(chance, fit),
+        3 => numbers_bad(chance, fit),
+        4 => counts(chance, fit),
+        11 => {
+            let shape = [fit.rows, fit.features];
+            return listing::damage(chance, shape, &fit.x, &mut fit.listings);
+        }
+        _ => rooms(chance, fit),
+    };
+    Fault::from(if done { number } else { 0 })
 }
 
 fn sizes(chance: &mut Chance, fit: &mut Fit) -> bool {
@@ -113,34 +127,6 @@ fn counts(chance: &mut Chance, fit: &mut Fit) -> bool {
         true => chance.pick(&[0, 2, 65_535]),
         false => chance.pick(&[65_536, 65_537, u32::MAX]),
     };
-    true
-}
-
-fn listings(chance: &mut Chance, fit: &mut Fit) -> bool {
-    let rows = fit.rows;
-    let feature = chance.below(fit.features);
-    let value = |row: u32| fit.x[row as usize * fit.features + feature];
-    let listing = &fit.listings[feature * rows..(feature + 1) * rows];
-    let place = chance.below(rows);
-    let found = match chance.below(3) {
-        0 => Some((place, chance.pick(&[rows as u32, u32::MAX]))),
-        // a row twice, next to itself or far away
-        1 if rows > 1 => Some((place, listing[(place + chance.within(1, rows - 1)) % rows])),
-        _ => None,
-    };
-    if let Some((place, row)) = found {
-        fit.listings[feature * rows + place] = row;
-        return true;
-    }
-    // two rows swapped, so that a value decreases
-    let falls: Vec<usize> = (1..rows)
-        .filter(|&at| value(listing[at - 1]) < value(listing[at]))
-        .collect();
-    if falls.is_empty() {
-        return false;
-    }
-    let at = feature * rows + chance.pick(&falls);
-    fit.listings.swap(at - 1, at);
     true
 }
 

@@ -2,4 +2,6 @@
 
 pub mod faults;
 pub mod fit;
+pub mod listing;
+pub mod places;
 pub mod read;

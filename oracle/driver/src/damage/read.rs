@@ -1,11 +1,13 @@
 //! Damaged copies of valid reader calls, each with the refusal that it should give.
 
 use crate::call::calls::{Read, Reader};
+use crate::call::fault::Fault;
+use crate::damage::listing;
 use crate::make::chance::Chance;
 use crate::make::floats;
 use crate::make::read::is_forest;
 
-/// The refusals that a call can give, in the order of its checks.
+/// The refusals that a call can give, in the order of its checks. 11 stands for all three of a listing.
 fn order(reader: Reader) -> &'static [u32] {
     match reader {
         Reader::Predictions | Reader::ForestMeans => &[1, 2, 6, 8],
@@ -14,14 +16,14 @@ fn order(reader: Reader) -> &'static [u32] {
             &[1, 6, 8]
         }
         Reader::OutOfBagError => &[1, 2, 18],
-        Reader::CheckListings => &[1, 2, 5],
+        Reader::CheckListings => &[1, 2, 11],
         Reader::CheckTree | Reader::Node => &[1, 8],
         Reader::CheckForest => &[1, 6, 8],
     }
 }
 
-/// Damages a call in one to three ways, starting with the last check; the expected refusal is that of the first check.
-pub fn damage(chance: &mut Chance, read: &mut Read) -> u32 {
+/// Damages a call in one to three ways, starting with the last check; the fault that the first check finds is expected.
+pub fn damage(chance: &mut Chance, read: &mut Read) -> Fault {
     let order = order(read.reader);
     let mut checks: Vec<usize> = (0..chance.within(1, 3))
         .map(|_| chance.below(order.len()))
@@ -29,33 +31,44 @@ pub fn damage(chance: &mut Chance, read: &mut Read) -> u32 {
     // each check once: a second damage of one kind could undo the first
     checks.sort_unstable_by(|a, b| b.cmp(a));
     checks.dedup();
-    let mut refusal = 0;
+    let mut fault = Fault::default();
     for check in checks {
-        let done = match order[check] {
-            1 => sizes(chance, read),
-            2 => lengths(chance, read),
-            5 => listing(chance, read),
-            6 => rooms(chance, read),
-            8 => table(chance, read),
-            18 => no_mean(chance, read),
-            9 => {
-                read.counts.clear();
-                true
-            }
-            _ => {
-                match chance.below(4) {
-                    0 => read.rows = 65_535,
-                    1 => read.trees = 1_024,
-                    _ => wrong_length(chance, &mut read.counts, true),
-                }
-                true
-            }
-        };
-        if done {
-            refusal = order[check];
+        let next = one(chance, read, order[check]);
+        if !next.none() {
+            fault = next;
         }
     }
-    refusal
+    fault
+}
+
+/// Damage for one check, which may not be possible.
+fn one(chance: &mut Chance, read: &mut Read, number: u32) -> Fault {
+    let done = match number {
+        1 => sizes(chance, read),
+        2 => lengths(chance, read),
+        11 => {
+            let shape = [read.rows, read.features];
+            return listing::damage(chance, shape, &read.x, &mut read.listings);
+        }
+        6 => rooms(chance, read),
+        8 => table(chance, read),
+        18 => no_mean(chance, read),
+        9 => {
+            read.counts.clear();
+            true
+        }
+        _ => other_counts(chance, read),
+    };
+    Fault::from(if done { number } else { 0 })
+}
+
+fn other_counts(chance: &mut Chance, read: &mut Read) -> bool {
+    match chance.below(4) {
+        0 => read.rows = 65_535,
+        1 => read.trees = 1_024,
+        _ => wrong_length(chance, &mut read.counts, true),
+    }
+    true
 }
 
 fn wrong_length<T: Clone + Default>(chance: &mut Chance, list: &mut Vec<T>, not_empty: bool) {
@@ -116,29 +129,6 @@ fn no_mean(chance: &mut Chance, read: &mut Read) -> bool {
     if chance.one_in(4) {
         read.targets = floats::anything(chance, read.rows);
     }
-    true
-}
-
-fn listing(chance: &mut Chance, read: &mut Read) -> bool {
-    let (rows, features) = (read.rows, read.features);
-    let feature = chance.below(features);
-    let from = feature * rows;
-    let value = |row: u32| read.x[row as usize * features + feature];
-    let places = &read.listings[from..from + rows];
-    let falls: Vec<usize> = (1..rows)
-        .filter(|&at| value(places[at - 1]) < value(places[at]))
-        .collect();
-    if !falls.is_empty() && chance.one_in(2) {
-        let at = from + chance.pick(&falls);
-        read.listings.swap(at - 1, at);
-        return true;
-    }
-    let place = chance.below(rows);
-    let row = match rows > 1 && chance.one_in(2) {
-        true => places[(place + 1) % rows],
-        false => rows as u32,
-    };
-    read.listings[from + place] = row;
     true
 }
 

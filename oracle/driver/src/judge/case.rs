@@ -1,35 +1,37 @@
-//! A case: a call, the refusal that is expected because of a fault, and the expected answer.
+//! A case: a call, the fault in it, and the expected answer.
 
 use crate::call::calls::{Call, Fit, Read};
+use crate::call::fault::Fault;
 use crate::call::wire;
 use crate::judge::expect;
 use crate::judge::library::Library;
+use crate::judge::listings::Listings;
 use crate::judge::run;
 
 pub struct Case {
     pub call: Call,
-    /// 0 if there is no fault, although a draw may be bad, or every mean NaN.
-    pub refusal: u32,
+    /// None if only a draw is bad, or every mean NaN.
+    pub fault: Fault,
 }
 
 impl Case {
-    pub fn fit(fit: Fit, refusal: u32) -> Self {
+    pub fn fit(fit: Fit, fault: impl Into<Fault>) -> Self {
         Case {
             call: Call::Fit(fit),
-            refusal,
+            fault: fault.into(),
         }
     }
 
-    pub fn read(read: Read, refusal: u32) -> Self {
+    pub fn read(read: Read, fault: impl Into<Fault>) -> Self {
         Case {
             call: Call::Read(read),
-            refusal,
+            fault: fault.into(),
         }
     }
 
-    /// The first judge's answer, or the expected refusal. The first number is the refusal.
+    /// The first judge's answer, or the refusal for the fault. The first number is that of the refusal.
     pub fn expected(&self) -> Vec<u64> {
-        expect::expect(&self.call, self.refusal).encode()
+        expect::expect(&self.call, self.fault).encode()
     }
 
     pub fn answer(&self, library: &dyn Library) -> Vec<u64> {
@@ -46,7 +48,7 @@ impl Case {
         let (call, answer) = (wire::down(&self.call), self.expected());
         let head = [
             wire::kind(&self.call),
-            expect::judge(&self.call, self.refusal, &answer),
+            expect::judge(&self.call, self.fault, &answer),
             call.len() as u64,
         ];
         let length = [answer.len() as u64];
@@ -68,10 +70,15 @@ impl Listed {
         expect::measures(&self.case.call, &self.answer)
     }
 
-    /// Whether the copy answers it, alone or with thresholds put in the place of its own.
-    pub fn copied(&self) -> bool {
-        self.judge == 1 || self.measures()
+    /// Whether the answer is found again without the list: by the copy, alone or with thresholds put in the place of its own, or by the
+    /// definition of the faults of listings.
+    pub fn found_again(&self) -> bool {
+        self.judge == 1 || self.measures() || of_listings(&self.answer)
     }
+}
+
+fn of_listings(answer: &[u64]) -> bool {
+    (11..=13).contains(&answer[0])
 }
 
 pub fn parse(line: &str) -> Listed {
@@ -82,14 +89,15 @@ pub fn parse(line: &str) -> Listed {
     let call = 3 + numbers[2] as usize;
     let answer = numbers[call + 1..].to_vec();
     assert_eq!(numbers[call] as usize, answer.len(), "an answer cut short");
-    let judge = numbers[1];
-    // for a refusal, the first judge can only be compared with the answer in the list
-    let refusal = if judge == 1 { 0 } else { answer[0] as u32 };
+    let (judge, call) = (numbers[1], wire::up(numbers[0], &numbers[3..call]));
+    let fault = match judge {
+        1 => Fault::default(),
+        _ if of_listings(&answer) => Listings::from(&call).fault(),
+        // any other fault is known from the list alone
+        _ => Fault::from(answer[0] as u32),
+    };
     Listed {
-        case: Case {
-            call: wire::up(numbers[0], &numbers[3..call]),
-            refusal,
-        },
+        case: Case { call, fault },
         judge,
         answer,
     }

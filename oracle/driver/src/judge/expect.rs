@@ -2,21 +2,22 @@
 //! refusal for the fault in the input, with every room unchanged.
 
 use crate::call::calls::{Call, Fit, Read, Reader};
+use crate::call::fault::Fault;
 use crate::call::outcome::{FILL, FILL_FLOAT, Outcome, Room, bits};
 use crate::judge::copied::{data, params, tree_counts};
 use crate::judge::measured;
 use copy::harness::{self, Grown, NodeRecord, Readable, Tape};
 
-/// `refusal` is the one for the fault in the input: 0 for none, although a draw may be bad, or every mean NaN.
-pub fn expect(call: &Call, refusal: u32) -> Outcome {
+/// Without a fault a draw may still be bad, or every mean NaN.
+pub fn expect(call: &Call, fault: Fault) -> Outcome {
     match call {
-        Call::Fit(fit) => expect_fit(fit, refusal),
-        Call::Read(read) => expect_read(read, refusal),
+        Call::Fit(fit) => expect_fit(fit, fault),
+        Call::Read(read) => expect_read(read, fault),
     }
 }
 
-/// Which judge an answer comes from: 1 for smartcore, 2 for the rules. `refusal` is the one for a fault.
-pub fn judge(call: &Call, refusal: u32, answer: &[u64]) -> u64 {
+/// Which judge an answer comes from: 1 for smartcore, 2 for the rules.
+pub fn judge(call: &Call, fault: Fault, answer: &[u64]) -> u64 {
     let has = |read: &Read| {
         !matches!(
             read.reader,
@@ -28,8 +29,8 @@ pub fn judge(call: &Call, refusal: u32, answer: &[u64]) -> u64 {
         )
     };
     match call {
-        Call::Fit(_) if refusal == 0 && !measures(call, answer) => 1,
-        Call::Read(read) if refusal == 0 && has(read) => 1,
+        Call::Fit(_) if fault.none() && !measures(call, answer) => 1,
+        Call::Read(read) if fault.none() && has(read) => 1,
         _ => 2,
     }
 }
@@ -125,11 +126,11 @@ fn put(room: &mut Room, entries: &[u64]) {
     room.entries[..entries.len()].copy_from_slice(entries);
 }
 
-fn expect_fit(fit: &Fit, refusal: u32) -> Outcome {
+fn expect_fit(fit: &Fit, fault: Fault) -> Outcome {
     let mut rooms = rooms_before(fit);
-    let mut told = vec![0; if fit.forest { 3 } else { 9 }];
-    if refusal != 0 {
-        told[0] = u64::from(refusal);
+    let mut told = fault.told().to_vec();
+    told.resize(if fit.forest { 4 } else { 10 }, 0);
+    if !fault.none() {
         return Outcome { told, rooms };
     }
     let mut trees = Vec::new();
@@ -173,7 +174,7 @@ fn answered(fit: &Fit, trees: &[Grown], told: &mut [u64], rooms: &mut [Room]) {
             put(&mut rooms[7 + column], &entries);
         }
     } else {
-        told[3..].copy_from_slice(&reports[0]);
+        told[4..].copy_from_slice(&reports[0]);
     }
     let work = rooms.len() - 4;
     for room in &mut rooms[work..] {
@@ -211,16 +212,17 @@ fn readable(read: &Read, forest: bool) -> Readable {
     Readable::from_tables(&tables, read.features, read.root_mass)
 }
 
-fn expect_read(read: &Read, refusal: u32) -> Outcome {
-    let mut told = vec![u64::from(refusal)];
+fn expect_read(read: &Read, fault: Fault) -> Outcome {
+    let mut told = vec![u64::from(fault.number())];
     let mut rooms = Vec::new();
     match read.reader {
-        Reader::OutOfBagError => told = expect_error(read, refusal).to_vec(),
-        Reader::Node => told.extend(expect_node(read, refusal)),
-        Reader::CheckListings | Reader::CheckTree | Reader::CheckForest => (),
+        Reader::OutOfBagError => told = expect_error(read, fault).to_vec(),
+        Reader::Node => told.extend(expect_node(read, fault)),
+        Reader::CheckListings => told = fault.told().to_vec(),
+        Reader::CheckTree | Reader::CheckForest => (),
         _ => {
             let mut room = untouched(read.out, true);
-            if refusal == 0 {
+            if fault.none() {
                 put(&mut room, &Room::floats(&results(read)).entries);
             }
             rooms.push(room);
@@ -245,9 +247,9 @@ fn results(read: &Read) -> Vec<f64> {
 
 /// smartcore does not compute this error, so the driver does: the refusal, the error, and over how many rows it is. Whether a forest
 /// left any row out is seen only in its means, so 18 is found here even if no fault was put into the input.
-fn expect_error(read: &Read, refusal: u32) -> [u64; 3] {
-    if refusal != 0 {
-        return [u64::from(refusal), 0, 0];
+fn expect_error(read: &Read, fault: Fault) -> [u64; 3] {
+    if !fault.none() {
+        return [u64::from(fault.number()), 0, 0];
     }
     let mut left_out: Vec<usize> = (0..read.rows).collect();
     left_out.retain(|row| !read.means[*row].is_nan());
@@ -263,8 +265,8 @@ fn expect_error(read: &Read, refusal: u32) -> [u64; 3] {
 }
 
 /// What follows the refusal: whether the node exists, and its entries; for a leaf only the value.
-fn expect_node(read: &Read, refusal: u32) -> [u64; 7] {
-    if refusal != 0 || read.node >= read.table.room() {
+fn expect_node(read: &Read, fault: Fault) -> [u64; 7] {
+    if !fault.none() || read.node >= read.table.room() {
         return [0; 7];
     }
     let column = columns(&records(read, read.node, read.node + 1));

@@ -2,14 +2,14 @@
 
 use crate::call::outcome::bits;
 use paper::{
-    Divisor, ForestAnswer, ForestCall, ForestRooms, Kind, NodeRead, Table, TreeAnswer, TreeCall,
+    Divisor, ForestCall, ForestRooms, Kind, NodeRead, Refusal, Table, TreeAnswer, TreeCall,
     TreeRooms,
 };
 
 /// All public calls.
 pub trait Library {
     fn fit_tree(&self, call: &TreeCall, rooms: &mut TreeRooms) -> TreeAnswer;
-    fn fit_forest(&self, call: &ForestCall, rooms: &mut ForestRooms) -> ForestAnswer;
+    fn fit_forest(&self, call: &ForestCall, rooms: &mut ForestRooms) -> Refusal;
     fn predictions(
         &self,
         rows: usize,
@@ -46,7 +46,7 @@ pub trait Library {
     ) -> u32;
     /// The refusal, the error, and over how many rows it is.
     fn out_of_bag_error(&self, rows: usize, targets: &[f64], means: &[f64]) -> (u32, f64, u32);
-    fn check_listings(&self, rows: usize, features: usize, x: &[f64], listings: &[u32]) -> u32;
+    fn check_listings(&self, rows: usize, features: usize, x: &[f64], listings: &[u32]) -> Refusal;
     fn check_tree(&self, features: usize, t: &Table) -> u32;
     fn check_forest(&self, features: usize, trees: usize, t: &Table, starts: &[u32]) -> u32;
     /// The refusal, 1 if the node exists, then its value, feature, threshold, score, true child and false child.
@@ -60,7 +60,7 @@ impl Library for Paper {
     fn fit_tree(&self, call: &TreeCall, rooms: &mut TreeRooms) -> TreeAnswer {
         paper::fit_tree(call, rooms)
     }
-    fn fit_forest(&self, call: &ForestCall, rooms: &mut ForestRooms) -> ForestAnswer {
+    fn fit_forest(&self, call: &ForestCall, rooms: &mut ForestRooms) -> Refusal {
         paper::fit_forest(call, rooms)
     }
     fn predictions(
@@ -110,7 +110,7 @@ impl Library for Paper {
     fn out_of_bag_error(&self, rows: usize, targets: &[f64], means: &[f64]) -> (u32, f64, u32) {
         paper::out_of_bag_error(rows, targets, means)
     }
-    fn check_listings(&self, rows: usize, features: usize, x: &[f64], listings: &[u32]) -> u32 {
+    fn check_listings(&self, rows: usize, features: usize, x: &[f64], listings: &[u32]) -> Refusal {
         paper::check_listings(rows, features, x, listings)
     }
     fn check_tree(&self, features: usize, t: &Table) -> u32 {

@@ -1,8 +1,10 @@
-//! How a call is answered: by a library of the public calls, or by the copy, which gives the expected answer or what it follows from.
+//! How a call is answered: by a library of the public calls, or by the copy, which gives the expected answer or what it follows from. What
+//! damaged listings give follows from a definition.
 
 pub mod case;
 pub mod copied;
 pub mod expect;
 pub mod library;
+pub mod listings;
 mod measured;
 pub mod run;

@@ -4,8 +4,8 @@ use crate::call::calls::{Call, Fit, Lengths, Read, Reader, Table};
 use crate::call::outcome::{FILL, FILL_FLOAT, Outcome, Room, bits};
 use crate::judge::library::Library;
 use paper::{
-    Columns, CutAt, Cuts, Divisor, Draws, ForestCall, ForestRooms, Given, Reports, Settings,
-    Splitter, TreeCall, TreeRooms, Waiting, Work,
+    Columns, CutAt, Cuts, Divisor, Draws, ForestCall, ForestRooms, Given, Refusal, Reports,
+    Settings, Splitter, TreeCall, TreeRooms, Waiting, Work,
 };
 
 pub fn run(library: &dyn Library, call: &Call) -> Outcome {
@@ -157,6 +157,16 @@ fn draws(fit: &Fit) -> Draws<'_> {
     }
 }
 
+fn told(refusal: Refusal) -> Vec<u64> {
+    let Refusal {
+        number,
+        part,
+        place,
+        row,
+    } = refusal;
+    [number, part, place, row].map(u64::from).to_vec()
+}
+
 fn run_tree(library: &dyn Library, fit: &Fit) -> Outcome {
     let mut owned = Owned::new(&fit.rooms);
     let call = TreeCall {
@@ -168,13 +178,11 @@ fn run_tree(library: &dyn Library, fit: &Fit) -> Outcome {
     let ForestRooms { nodes, work, .. } = owned.lend();
     let answer = library.fit_tree(&call, &mut TreeRooms { nodes, work });
     let n = answer.numbers;
-    let told = [
-        [answer.refusal, answer.tree, answer.search].map(u64::from),
-        [u64::from(n.nodes), u64::from(n.depth), bits(n.root_mass)],
-        [n.searches, n.words_used, n.thresholds_used].map(u64::from),
-    ];
+    let mut told = told(answer.refusal);
+    told.extend([u64::from(n.nodes), u64::from(n.depth), bits(n.root_mass)]);
+    told.extend([n.searches, n.words_used, n.thresholds_used].map(u64::from));
     Outcome {
-        told: told.concat(),
+        told,
         rooms: owned.rooms(false),
     }
 }
@@ -192,11 +200,9 @@ fn run_forest(library: &dyn Library, fit: &Fit) -> Outcome {
             thresholds: &fit.threshold_starts,
         },
     };
-    let answer = library.fit_forest(&call, &mut owned.lend());
+    let refusal = library.fit_forest(&call, &mut owned.lend());
     Outcome {
-        told: [answer.refusal, answer.tree, answer.search]
-            .map(u64::from)
-            .to_vec(),
+        told: told(refusal),
         rooms: owned.rooms(true),
     }
 }
@@ -238,7 +244,7 @@ fn run_read(library: &dyn Library, read: &Read) -> Outcome {
         }
         Reader::CheckListings => {
             let refusal = library.check_listings(rows, features, &read.x, &read.listings);
-            return told_only(vec![u64::from(refusal)]);
+            return told_only(told(refusal));
         }
         Reader::CheckTree => return told_only(vec![u64::from(library.check_tree(features, &t))]),
         Reader::CheckForest => {

@@ -1,4 +1,5 @@
 //! Inputs at the limits of rows, features, trees, counts and nodes.
 
 pub mod fit;
+pub mod listings;
 pub mod read;

@@ -3,7 +3,6 @@
 use crate::call::calls::{Read, Reader, Table};
 use crate::judge::case::Case;
 use crate::make::chance::Chance;
-use crate::make::fit as make_fit;
 use crate::make::floats;
 use crate::make::read as make_read;
 use crate::make::read::is_forest;
@@ -37,8 +36,6 @@ pub fn each(chance: &mut Chance, mut hold: impl FnMut(Case)) {
     for reader in [CheckTree, Node] {
         over(chance, reader, [3, FEATURES, 1], NODES, &mut hold);
     }
-    listings(chance, ROWS, 2, &mut hold);
-    listings(chance, 2, FEATURES, &mut hold);
     errors(chance, &mut hold);
     hold(chain());
 }
@@ -86,25 +83,6 @@ fn over(
         *child = 1;
     }
     hold(Case::read(read, 8));
-}
-
-/// Valid listings, and ones whose last entry repeats the first, or is one past the last row.
-fn listings(chance: &mut Chance, rows: usize, features: usize, hold: &mut impl FnMut(Case)) {
-    let x: Vec<f64> = (0..rows * features).map(|_| chance.unit()).collect();
-    let mut read = Read {
-        reader: Reader::CheckListings,
-        rows,
-        features,
-        listings: make_fit::listings(chance, rows, features, &x),
-        x,
-        ..Read::default()
-    };
-    hold(Case::read(read.clone(), 0));
-    let last = read.listings.len() - 1;
-    for row in [read.listings[last + 1 - rows], rows as u32] {
-        read.listings[last] = row;
-        hold(Case::read(read.clone(), 5));
-    }
 }
 
 /// Every node except the last two is split into the two after it, so the path along the true children is the longest possible.

@@ -33,7 +33,7 @@ fn sort(listed: &case::Listed) -> Sort {
 fn bare(listed: &case::Listed) -> bool {
     matches!(&listed.case.call, Call::Fit(fit) if !fit.forest)
         && listed.answer[0] == 0
-        && listed.answer[3] == 1
+        && listed.answer[4] == 1
 }
 
 /// `found` has, for each edit, the positions in the pool of the cases that detect it.

@@ -6,7 +6,7 @@ use crate::make::chance::Chance;
 use crate::make::fit as make_fit;
 
 /// Every list of `n` entries from `from`.
-fn lists<T: Clone>(from: &[T], n: usize) -> Vec<Vec<T>> {
+pub fn lists<T: Clone>(from: &[T], n: usize) -> Vec<Vec<T>> {
     (0..n).fold(vec![Vec::new()], |lists, _| {
         let longer = |list: &Vec<T>| {
             let list = list.clone();
@@ -28,14 +28,14 @@ fn permutations(n: u32) -> Vec<Vec<u32>> {
         .collect()
 }
 
-/// Every listing of a column.
-fn listings(column: &[f64]) -> Vec<Vec<u32>> {
-    let rising = |listing: &Vec<u32>| {
+/// Every valid listing of a column.
+pub fn listings(column: &[f64]) -> Vec<Vec<u32>> {
+    let falls = |listing: &Vec<u32>| {
         let values = listing.iter().map(|row| column[*row as usize]);
-        values.clone().zip(values.skip(1)).all(|(a, b)| a <= b)
+        values.clone().zip(values.skip(1)).any(|(a, b)| b < a)
     };
     let mut all = permutations(column.len() as u32);
-    all.retain(rising);
+    all.retain(|listing| !falls(listing));
     all
 }
 
@@ -180,27 +180,6 @@ fn table(tree: &[(u32, u32, u32)]) -> Table {
         score: floats(20.5),
         true_child: tree.iter().map(|entry| entry.0).collect(),
         false_child: tree.iter().map(|entry| entry.1).collect(),
-    }
-}
-
-/// Every listing of up to three rows with row numbers 0 to 3; the valid ones are known because they are also made separately.
-pub fn checks(mut each: impl FnMut(Case)) {
-    for rows in 1..=3 {
-        for x in lists(&[0.0, -0.0, 1.0], rows) {
-            let good = listings(&x);
-            for listing in lists(&[0, 1, 2, 3], rows) {
-                let refusal = if good.contains(&listing) { 0 } else { 5 };
-                let read = Read {
-                    reader: Reader::CheckListings,
-                    rows,
-                    features: 1,
-                    x: x.clone(),
-                    listings: listing,
-                    ..Read::default()
-                };
-                each(Case::read(read, refusal));
-            }
-        }
     }
 }
 

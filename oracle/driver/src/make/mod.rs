@@ -5,6 +5,7 @@ pub mod crafted;
 pub mod exhaustive;
 pub mod fit;
 pub mod floats;
+pub mod listed;
 pub mod lower;
 pub mod read;
 pub mod rehearsal;

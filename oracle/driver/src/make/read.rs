@@ -16,10 +16,8 @@ pub fn read(chance: &mut Chance) -> Read {
     match reader {
         Reader::OutOfBagError => error(chance, &mut read, rows),
         Reader::CheckListings => {
-            (read.rows, read.features) = (rows, chance.within(1, 3));
-            read.x = floats::finite(chance, rows * read.features);
-            read.listings = make_fit::listings(chance, rows, read.features, &read.x);
-            nan_somewhere(chance, &mut read);
+            read = check(chance, [rows, 3]);
+            not_finite(chance, &mut read);
         }
         Reader::Node => {
             over_table(chance, &mut read, rows);
@@ -41,11 +39,30 @@ fn node(chance: &mut Chance, nodes: usize) -> usize {
     }
 }
 
-/// Only the listing check accepts NaN values, and nothing is lower than a NaN.
-fn nan_somewhere(chance: &mut Chance, read: &mut Read) {
+/// Valid listings of finite values, in up to so many columns.
+pub fn check(chance: &mut Chance, [rows, most]: [usize; 2]) -> Read {
+    let features = chance.within(1, most);
+    let x = floats::finite(chance, rows * features);
+    Read {
+        reader: Reader::CheckListings,
+        rows,
+        features,
+        listings: make_fit::listings(chance, rows, features, &x),
+        x,
+        ..Read::default()
+    }
+}
+
+/// Only the listing check accepts infinite values, here in the place of high and low ones, whose order they keep, and NaN, which is neither
+/// below nor above anything.
+pub fn not_finite(chance: &mut Chance, read: &mut Read) {
+    if chance.one_in(4) {
+        let far = read.x.iter_mut().filter(|value| value.abs() > 1.0);
+        far.for_each(|value| *value *= f64::INFINITY);
+    }
     if chance.one_in(4) {
         let at = chance.below(read.x.len());
-        read.x[at] = f64::NAN;
+        read.x[at] = floats::nan(chance);
     }
 }
 

@@ -55,7 +55,7 @@ pub fn cases() -> Vec<Case> {
     .map(|fit| Case::fit(fit, 0))
     .collect();
     let refused = with(|fit| fit.listings = vec![0, 1, 1, 3]);
-    cases.push(Case::fit(refused, 5));
+    cases.push(Case::fit(refused, [12, 0, 2, 2]));
     for room in [7, 6] {
         let mut fit = with(|_| ());
         fit.rooms.nodes = [room; 6];
