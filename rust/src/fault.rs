@@ -78,8 +78,8 @@ pub enum Fault {
     },
 }
 
-/// The first position where a feature's listing is wrong. Feature and position come from the proved library, and so does the missing row
-/// if a row appears twice.
+/// The first position where a feature's listing is wrong. If the listing is as long as the matrix has rows, feature and position come from
+/// the proved library, and so does the missing row if a row appears twice.
 ///
 /// ```
 /// use tailboardy::{Cause, DenseMatrix, Fault, Listings};

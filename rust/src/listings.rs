@@ -155,7 +155,8 @@ impl Listings {
         own.resize(rows, u32::MAX);
         let mut told = linked::check_listings(rows, 1, &values, &own);
         told.part = feature as u32;
-        if let (0, Some(row)) = (told.number, column.get(rows)) {
+        // 1 is told of a matrix without rows
+        if let (0 | 1, Some(row)) = (told.number, column.get(rows)) {
             told.number = if (*row as usize) < rows { 12 } else { 11 };
             told.place = rows as u32;
         }

@@ -286,6 +286,24 @@ fn nothing_else_is_told() {
     assert_eq!(told(3, &[0, 1, 2, 0, 1, 2]), [0, 0, 0, 0]);
 }
 
+/// A matrix without rows has none of a listing's.
+#[test]
+fn no_rows() {
+    let x = DenseMatrix::new(0, 1, Vec::new(), false).unwrap();
+    let fault = Listings::from_columns(&[[5]])
+        .unwrap()
+        .fault(&x, 0)
+        .unwrap();
+    assert_eq!(
+        (fault.place, fault.breach, fault.missing),
+        (0, Breach::NoSuchRow(5), None)
+    );
+    assert_eq!(
+        Listings::from_columns(&[[0u32; 0]]).unwrap().fault(&x, 0),
+        None
+    );
+}
+
 /// A listing of another length is refused as that, with the place where it goes wrong.
 #[test]
 fn another_length() {

@@ -1,4 +1,4 @@
--- A forest's first bad draw. A forest that is not refused by 1 to 6 meets a bad draw exactly where the first of its trees that meets one does, and at the search at
+-- A forest's first bad draw. A forest that is not refused before growth meets a bad draw exactly where the first of its trees that meets one does, and at the search at
 -- which that tree's own fit meets it; each tree's own fit in rooms of its own that are not too small, or in those lent to the forest. It holds because trees are grown
 -- in their order, each as it would be alone, and the first bad draw ends all. Assumes nothing.
 use Prim.Native.Nat.{ℕ, zero, suc, _+_, _<_, _≤_}

@@ -1,4 +1,4 @@
--- Demand 3. Two fits of one tree, neither refused by 1 to 6, that are alike except in the targets and features of rows that the tree leaves out, each listing
+-- Demand 3. Two fits of one tree, neither refused before growth, that are alike except in the targets and features of rows that the tree leaves out, each listing
 -- reading the same with those rows struck, grow the same nodes and report the same depth, root mass, searches and draws used, or meet the same bad draw.
 -- It holds because a left-out row adds a zero, of either sign, to totals that never come to -0. Assumes nothing.
 use Prim.Native.Nat.{ℕ, zero, suc, _+_, _*_, _<_, _≤_}

@@ -56,7 +56,7 @@ member-at k (x ∷ l) h = go (eqb k x) refl (member-at k l) h
     go true e later h = record { place = 0; within = omega arith; is = sym (eqb-true k x e) }
     go false e later h = let a = later h in record { place = suc (a .place); within = omega (arith, a .within); is = a .is }
 
-pub at-member : (l : List ℕ) (t : ℕ) → t < length l → member (getD l t 0) l ≡ true
+at-member : (l : List ℕ) (t : ℕ) → t < length l → member (getD l t 0) l ≡ true
 unfolding member
 at-member [] t h = absurd (not-suc-le-zero h)
 at-member (x ∷ l) zero h = ap (λ b. b || member x l) (eq-eqb x x refl)

@@ -19,7 +19,7 @@ use Rattle.lemmas.specs.Lists.{Every, every-append}
 use Rattle.lemmas.specs.Passed.{IsPassed}
 
 -- what holds of the number of each test that fails holds of the number told
-told-number : (Q : ℕ → Type 0) (ts : List Test) → Every (λ (t : Test). t .passes ≡ false → Q (t .tells .number)) ts
+pub told-number : (Q : ℕ → Type 0) (ts : List Test) → Every (λ (t : Test). t .passes ≡ false → Q (t .tells .number)) ts
     → (r : Refusal) → checked ts ≡ Checked.Refused r → Q (r .number)
 unfolding checked
 told-number Q [] e r h = absurd (subst IsPassed h tt)

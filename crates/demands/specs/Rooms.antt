@@ -1,20 +1,21 @@
--- No fit answers in short rooms. Where a fit is not refused by 1 to 6, every slice that is lent to it is as long as R3.11 to R3.13 and R11.8 require: the order features x rows, the scratch
+-- No fit answers in short rooms. Where a fit is not refused before growth, every slice that is lent to it is as long as R3.11 to R3.13 and R11.8 require: the order features x rows, the scratch
 -- rows, the flags as many as the rows and as many as the features, both slices of the waiting list rows, each node column what the trees may come to,
 -- max(1, 2 x kept rows - 1) a tree, the starts trees + 1; and each report column is as long as there are trees, no longer. And no fit is refused by 6 whose rooms are so.
--- It holds because the sixth test says just that. Assumes nothing.
+-- It holds because the last test says just that. Assumes nothing.
 use Prim.Native.Nat.{ℕ, suc, _+_, _-_, _*_, _≤_, max}
 use native.Mathlib.Omega.{arith}
-use mathlib.Core.Path.{_≡_, refl, sym, _∙_, subst}
+use mathlib.Core.Path.{_≡_, sym, _∙_, subst}
 use mathlib.Core.Logic.{_≢_}
 use mathlib.Core.Bool.{Bool, true, not, _&&_}
 use lib.ListN.{length}
 use lib.Dec.{T, leb, eqb, leb→le, le→leb, eqb→eq, eqb-refl}
 use Rattle.rules.specs.declared.Shape.{Shape}
+use Rattle.rules.specs.declared.Refusal.{Refusal}
 use Rattle.rules.specs.declared.TreeAnswer.{TreeAnswer}
 use Rattle.rules.specs.declared.ForestAnswer.{ForestAnswer}
 use Rattle.rules.specs.Words.{from, total}
 use Rattle.rules.specs.Lent.{OneTree, Columns, Reports, WaitingRoom, waitingRoom, Work, TreeRooms, ForestRooms, keptRows, shortest}
-use Rattle.rules.specs.Checks.{numbered, roomFor, workEnough, reportsExact}
+use Rattle.rules.specs.Checks.{roomFor, workEnough, reportsExact}
 use Rattle.rules.specs.Fit.{TreeCall, oneTreeOf, treeTests, fitTree}
 use Rattle.rules.specs.Forest.{ForestCall, oneTreeAt, eachTree, roomsGood, forestTests, fitForest}
 use Rattle.lemmas.specs.Lists.{is-true, total-map}
@@ -67,13 +68,13 @@ abbrev pub TreeRoomsLong : Type 0
 TreeRoomsLong = (C : TreeCall) (R : TreeRooms WaitingRoom) → Unrefused (fitTree waitingRoom C R .answer) → TreeLong C R
 
 abbrev pub TreeRoomsTaken : Type 0
-TreeRoomsTaken = (C : TreeCall) (R : TreeRooms WaitingRoom) → TreeLong C R → fitTree waitingRoom C R .answer ≡ TreeAnswer.Refused (numbered 6) → ⊥
+TreeRoomsTaken = (C : TreeCall) (R : TreeRooms WaitingRoom) → TreeLong C R → (r : Refusal) → fitTree waitingRoom C R .answer ≡ TreeAnswer.Refused r → r .number ≢ 6
 
 abbrev pub ForestRoomsLong : Type 0
 ForestRoomsLong = (C : ForestCall) (R : ForestRooms WaitingRoom) → ForestUnrefused (fitForest waitingRoom C R .answer) → ForestLong C R
 
 abbrev pub ForestRoomsTaken : Type 0
-ForestRoomsTaken = (C : ForestCall) (R : ForestRooms WaitingRoom) → ForestLong C R → fitForest waitingRoom C R .answer ≡ ForestAnswer.Refused (numbered 6) → ⊥
+ForestRoomsTaken = (C : ForestCall) (R : ForestRooms WaitingRoom) → ForestLong C R → (r : Refusal) → fitForest waitingRoom C R .answer ≡ ForestAnswer.Refused r → r .number ≢ 6
 
 -- ---- what the tests say
 
@@ -156,9 +157,9 @@ tree-rooms-long C R un =
 
 pub tree-rooms-taken : TreeRoomsTaken
 unfolding treeTests roomFor
-tree-rooms-taken C R long h =
+tree-rooms-taken C R long r h =
     tree-number (λ n. n ≢ 6) (other 11 tt) (other 12 tt) (other 13 tt) waitingRoom (other 1 tt) (other 2 tt) (other 3 tt) (other 4 tt) C R (λ f. absurd (subst T (sym passes ∙ f) tt))
-    (numbered 6) (tree-refused WaitingRoom waitingRoom C R (numbered 6) h .1) refl
+    r (tree-refused WaitingRoom waitingRoom C R r h .1)
   where
     passes : leb (nodesAtMost (oneTreeOf C)) (shortest (R .nodes)) && workEnough waitingRoom (C .shape) (R .work) ≡ true
     passes = both (enough (nodes-fit (nodesAtMost (oneTreeOf C)) (R .nodes) (long .nodes))) (work-fits (C .shape) (R .work) (long .work))
@@ -182,9 +183,9 @@ forest-rooms-long C R un =
 
 pub forest-rooms-taken : ForestRoomsTaken
 unfolding forestTests roomsGood
-forest-rooms-taken C R long h =
+forest-rooms-taken C R long r h =
     forest-number (λ n. n ≢ 6) (other 11 tt) (other 12 tt) (other 13 tt) waitingRoom (other 1 tt) (other 2 tt) (other 3 tt) (other 4 tt) C R (λ f. absurd (subst T (sym passes ∙ f) tt))
-    (numbered 6) (forest-refused WaitingRoom waitingRoom C R (numbered 6) h .1) refl
+    r (forest-refused WaitingRoom waitingRoom C R r h .1)
   where
     passes : leb (total roomFor (eachTree C)) (shortest (R .nodes)) && roomsGood waitingRoom C R ≡ true
     passes =

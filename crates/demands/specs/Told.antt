@@ -1,6 +1,6 @@
 -- What the number of a fit says. A refusal before growth says which rule was broken first: the sizes, the lengths, the numbers, the counts, the listings or the rooms, 1 to 4, 11
 -- to 13 and 6 in this order, and those before it hold. And no answer is told as another: a tree that has grown is told as 0, a refusal before growth by what it tells, a bad draw
--- as 7 with its tree and its search. Assumes nothing.
+-- as 7 with its tree and its search. Nor is a refusal of the check of listings told as none. Assumes nothing.
 use Prim.Native.Nat.{ℕ, suc}
 use native.Mathlib.Omega.{arith}
 use mathlib.Core.Path.{_≡_, refl, sym, ap, _∙_, subst}
@@ -8,20 +8,24 @@ use mathlib.Core.Bool.{Bool, true, false, _&&_}
 use mathlib.Core.List.{List, [], _∷_}
 use lib.ListN.{getD, take}
 use lib.Dec.{T, leb}
+use lib.Ieee.{Float}
+use Rattle.rules.specs.declared.Shape.{Shape}
 use Rattle.rules.specs.declared.Place.{Place}
 use Rattle.rules.specs.declared.Refusal.{Refusal}
+use Rattle.rules.specs.declared.Checked.{Checked}
 use Rattle.rules.specs.declared.Report.{Report}
 use Rattle.rules.specs.declared.TreeAnswer.{TreeAnswer}
 use Rattle.rules.specs.declared.ForestAnswer.{ForestAnswer}
 use Rattle.rules.specs.Words.{every, member, total}
 use Rattle.rules.specs.Lent.{WaitingForm, TreeRooms, ForestRooms, shortest}
 use Rattle.rules.specs.Checks.{test, checked, firstFailed, shapeIn, treesIn, lengths, numbersGood, countsGood, countsOne, roomFor, workEnough}
+use Rattle.rules.specs.Listing.{listingTests, checkListings}
 use Rattle.rules.specs.Fit.{TreeCall, oneTreeOf, fitTree}
 use Rattle.rules.specs.Forest.{ForestCall, eachTree, tapesGood, roomsGood, fitForest}
-use Rattle.rules.specs.Answers.{treeTold, forestTold}
+use Rattle.rules.specs.Answers.{treeTold, forestTold, checkTold}
 use Rattle.lemmas.specs.Faults.{listingsGood}
 use Rattle.demands.specs.Refusals.{tree-refused, forest-refused}
-use Rattle.demands.specs.Refused.{tree-number, forest-number}
+use Rattle.demands.specs.Refused.{told-number, orders-tell, tree-number, forest-number}
 use Rattle.demands.specs.Listings.{oneNumber, asOne, one-for-three}
 
 -- ---- the statements
@@ -78,6 +82,14 @@ pub record ForestApart (a : ForestAnswer) : Type 0 where
   pub bad : (d : Place) → a ≡ ForestAnswer.BadDraw d → forestTold a ≡ sevenAt (d .tree) (d .search)
   pub grown : a ≡ ForestAnswer.Grown → forestTold a ≡ none
 
+-- the check of listings alone
+pub record CheckApart (c : Checked) : Type 0 where
+  pub refused : (r : Refusal) → c ≡ Checked.Refused r → T (member (r .number) (1 ∷ 2 ∷ 11 ∷ 12 ∷ 13 ∷ [])) × (checkTold c ≡ r)
+  pub passed : c ≡ Checked.Passed → checkTold c ≡ none
+
+abbrev pub ListingsApart : Type 0
+ListingsApart = (S : Shape) (xs : List Float) (ls : List ℕ) → CheckApart (checkListings S xs ls)
+
 abbrev pub ToldApart : Type 1
 ToldApart =
     (W : Type 0) (K : WaitingForm W)
@@ -123,3 +135,14 @@ told-apart W K = (
         grown = λ h. ap forestTold h;
       }),
 )
+
+pub listings-apart : ListingsApart
+unfolding checkListings listingTests member
+listings-apart S xs ls =
+    record {
+      refused = λ r h. (
+        told-number (λ n. T (member n (1 ∷ 2 ∷ 11 ∷ 12 ∷ 13 ∷ []))) (listingTests S xs ls) (λ f. tt, (λ f. tt, orders-tell _ tt tt tt S xs ls)) r h,
+        ap checkTold h,
+      );
+      passed = λ h. ap checkTold h;
+    }

@@ -79,7 +79,7 @@ module _ (rows : ℕ) (value : ℕ → Float) where
       go true false true e = sym (and-false (fresh rows (k ∷ before) l))
       go true false false e = e
 
-  pub column-sound : (column lacking : ℕ) (l : List ℕ) → length l ≡ rows
+  column-sound : (column lacking : ℕ) (l : List ℕ) → length l ≡ rows
       → isPassed (checked (testsFrom rows value column lacking [] 0 l)) ≡ (eachOnce rows l && neverFalls value l)
   unfolding eachOnce neverFalls stays
   column-sound column lacking l long =

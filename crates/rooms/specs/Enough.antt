@@ -20,9 +20,6 @@ every-each Q (x ∷ l) d h = (h 0, every-each Q l d (λ i. h (suc i)))
 pub lent-long {ℓ} : {A : Type ℓ} (n : ℕ) (l : List A) → n ≤ length l → length (take (n - 0) (drop 0 l)) ≡ n
 lent-long n l h = simp (length-take, length-drop) (omega arith)
 
-pub none : (n : ℕ) → n ≤ 0 → n ≡ 0
-none n h = omega arith
-
 -- ---- the work room that the checks ask
 
 pub record WorkRoom (S : Shape) (w : Work WaitingRoom) : Type 0 where
