@@ -1,7 +1,7 @@
--- Which row broke the listing. A fit, or the check of listings alone, that is refused by 11, 12 or 13 tells the first place that is not in order: columns in order, in a column
--- places in order, and at the place the first of the three tests that fails. With a row met before it tells the lowest row that the whole column lacks, and there is one. No other
--- refusal before growth tells a place. Listings of the length that is asked have no fault exactly where every place is in order. And one refusal, 5, could stand for the three: it would be given exactly where one of them is, so nothing else of a fit depends on the
--- places. Assumes nothing.
+-- Which row broke the listing. A fit, or the check of listings alone, that is refused by 11, 12 or 13 tells the first place that is not in order: columns in order, in a
+-- column places in order, and at the place the first of the three tests that fails. With a row met before it tells the lowest row that the whole column lacks, and there is
+-- one. No other refusal before growth tells a place. Listings of the length that is asked have no fault exactly where every place is in order. And one refusal, 5, could
+-- stand for the three: it would be given exactly where one of them is, so nothing else of a fit depends on the places. Assumes nothing.
 use Prim.Native.Nat.{ℕ, _+_, _*_, _<_, _≤_}
 use native.Mathlib.Nat.{zero-add}
 use native.Mathlib.Omega.{arith}
