@@ -7,7 +7,7 @@ use native.Mathlib.Nat.{zero-add}
 use native.Mathlib.Omega.{arith}
 use mathlib.Core.Path.{_≡_, refl, sym, ap, _∙_, subst}
 use mathlib.Core.Logic.{_≢_}
-use mathlib.Core.Bool.{Bool, true, false, _&&_, _||_, cond}
+use mathlib.Core.Bool.{Bool, true, false, _&&_, _||_, cond, true≢false}
 use mathlib.Core.List.{List, [], _∷_, _++_, append-nil}
 use lib.ListN.{length}
 use lib.Dec.{T, leb, eqb, leb→le, eqb→eq}
@@ -174,7 +174,7 @@ fault-first S xs ls long r h = fault-of S xs ls long r (subst (Columns (columnTe
 broken : (rows : ℕ) (value : ℕ → Float) (w : List ℕ) (p n : ℕ) → Breaks rows value w p n → InOrder rows value w p → ⊥
 broken rows value w p n (tooLarge o l) i = omega (arith, l, i .known)
 broken rows value w p n (metBefore o k q l s) i = i .new q l s
-broken rows value w p n (fallen o k new q l s) i = subst T (sym s ∙ i .rises q l) tt
+broken rows value w p n (fallen o k new q l s) i = true≢false (sym s ∙ i .rises q l)
 
 pub fault-sound : FaultSound
 fault-sound S xs ls long =

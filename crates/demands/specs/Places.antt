@@ -5,10 +5,10 @@ use native.Mathlib.Decide.{ℕ-discrete}
 use native.Mathlib.Omega.{arith}
 use mathlib.Core.Path.{_≡_, refl, sym, ap, _∙_, subst}
 use mathlib.Core.Logic.{_≢_}
-use mathlib.Core.Bool.{Bool, true, false, not, _||_, cond}
+use mathlib.Core.Bool.{Bool, true, false, not, _||_, cond, true≢false, or-true}
 use mathlib.Core.List.{List, [], _∷_}
 use lib.ListN.{length, getD}
-use lib.Dec.{T, ltb, eqb}
+use lib.Dec.{ltb, eqb}
 use lib.Ieee.{Float, lt}
 use borrow.Author.Tests.{eq-eqb, ne-eqb, eqb-true, ltb-true, ltb-false}
 use Rattle.rules.specs.declared.Refusal.{Refusal}
@@ -49,7 +49,7 @@ pub record Lacks (rows : ℕ) (w : List ℕ) (row : ℕ) : Type 0 where
 
 member-at : (k : ℕ) (l : List ℕ) → member k l ≡ true → At l k
 unfolding member
-member-at k [] h = absurd (subst T (sym h) tt)
+member-at k [] h = absurd (true≢false (sym h))
 member-at k (x ∷ l) h = go (eqb k x) refl (member-at k l) h
   where
     go : (b : Bool) → eqb k x ≡ b → (member k l ≡ true → At l k) → (b || member k l) ≡ true → At (x ∷ l) k
@@ -61,13 +61,6 @@ unfolding member
 at-member [] t h = absurd (not-suc-le-zero h)
 at-member (x ∷ l) zero h = ap (λ b. b || member x l) (eq-eqb x x refl)
 at-member (x ∷ l) (suc t) h = ap (λ b. eqb (getD l t 0) x || b) (at-member l t (omega arith)) ∙ or-true (eqb (getD l t 0) x)
-  where
-    or-true : (b : Bool) → (b || true) ≡ true
-    or-true true = refl
-    or-true false = refl
-
-both-ways : {b : Bool} → b ≡ true → b ≡ false → ⊥
-both-ways t f = subst T (sym t ∙ f) tt
 
 -- ---- a walk along w
 
@@ -98,14 +91,11 @@ module _ (rows : ℕ) (value : ℕ → Float) (column lacking : ℕ) (w : List �
           many = ap suc (v .many);
           long = shift place (length l) ∙ v .long;
           same = λ q h. turn q h (ℕ-discrete q place);
-          rest = λ q. v .rest (suc q) ∙ ap (λ n. getD w n 0) (shift′ place q);
+          rest = λ q. v .rest (suc q) ∙ ap (λ n. getD w n 0) (sym (shift place q));
         }
       where
         shift : (a b : ℕ) → suc a + b ≡ a + suc b
         shift a b = omega arith
-
-        shift′ : (a b : ℕ) → a + suc b ≡ suc a + b
-        shift′ a b = omega arith
 
         none : (q p : ℕ) → q ≡ p → suc p - suc q ≡ 0
         none q p e = omega arith
@@ -121,7 +111,7 @@ module _ (rows : ℕ) (value : ℕ → Float) (column lacking : ℕ) (w : List �
 
     not-met : member k before ≡ false → (q : ℕ) → q < place → getD w q 0 ≢ getD w place 0
     not-met f q h e =
-        both-ways (ap (λ n. member n before) (sym (v .same q h ∙ e ∙ here)) ∙ at-member before (place - suc q) (low q place (length before) h (v .many))) f
+        true≢false (sym (ap (λ n. member n before) (sym (v .same q h ∙ e ∙ here)) ∙ at-member before (place - suc q) (low q place (length before) h (v .many))) ∙ f)
       where
         low : (q p n : ℕ) → q < p → n ≡ p → p - suc q < n
         low q p n h e = omega arith
@@ -165,7 +155,7 @@ module _ (rows : ℕ) (value : ℕ → Float) (column lacking : ℕ) (w : List �
     falls-here known new f = go before refl (v .many) f
       where
         go : (bs : List ℕ) → before ≡ bs → length bs ≡ place → falls value bs k ≡ true → Breaks rows value w place 13
-        go [] e n f = absurd (subst T (sym f) tt)
+        go [] e n f = absurd (true≢false (sym f))
         go (b ∷ bs) e n f = fallen refl known new (length bs) n ((λ i. lt (value (here i)) (value (last b bs e (length bs) n i))) ∙ f)
 
   -- ---- how it ends
@@ -364,7 +354,7 @@ lacks rows w long q p h b e =
     let known : lackingFrom w 0 rows < rows = below x y in
     record {
       known = known;
-      nowhere = λ t l o. both-ways (ap (λ k. member k w) (sym o) ∙ at-member w t l) (z (subst (λ n. lackingFrom w 0 rows < n) (sym (zero-add rows)) known));
+      nowhere = λ t l o. true≢false (sym (ap (λ k. member k w) (sym o) ∙ at-member w t l) ∙ z (subst (λ n. lackingFrom w 0 rows < n) (sym (zero-add rows)) known));
       lowest = λ k l. member-at k w (y k (omega arith) l);
     }
   where

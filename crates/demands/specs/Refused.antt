@@ -11,7 +11,7 @@ use Rattle.rules.specs.declared.Refusal.{Refusal}
 use Rattle.rules.specs.declared.Checked.{Checked}
 use Rattle.rules.specs.Words.{from, joined, total}
 use Rattle.rules.specs.Lent.{WaitingForm, TreeRooms, ForestRooms, listingAt, shortest}
-use Rattle.rules.specs.Checks.{Test, checked, roomFor, workEnough}
+use Rattle.rules.specs.Checks.{Test, checked, numberOf, roomFor, workEnough}
 use Rattle.rules.specs.Listing.{testsFrom, columnTests, orderTests}
 use Rattle.rules.specs.Fit.{TreeCall, oneTreeOf, treeTests}
 use Rattle.rules.specs.Forest.{ForestCall, eachTree, roomsGood, forestTests}
@@ -25,13 +25,9 @@ unfolding checked
 told-number Q [] e r h = absurd (subst IsPassed h tt)
 told-number Q (t ∷ ts) e r h = go (t .passes) (e .0) (told-number Q ts (e .1) r) h
   where
-    number : Checked → ℕ
-    number Checked.Passed = 0
-    number (Checked.Refused q) = q .number
-
     go : (b : Bool) → (b ≡ false → Q (t .tells .number)) → (checked ts ≡ Checked.Refused r → Q (r .number)) → cond b (checked ts) (Checked.Refused (t .tells)) ≡ Checked.Refused r → Q (r .number)
     go true q later h = later h
-    go false q later h = subst Q (ap number h) (q refl)
+    go false q later h = subst Q (ap numberOf h) (q refl)
 
 module _ (Q : ℕ → Type 0) (q₁₁ : Q 11) (q₁₂ : Q 12) (q₁₃ : Q 13) where
   abbrev Fails : Test → Type 0

@@ -4,7 +4,7 @@ use Prim.Native.Nat.{ℕ, suc, _+_, _-_, _<_, _≤_}
 use native.Mathlib.Numerals.{add-one}
 use native.Mathlib.Omega.{arith}
 use mathlib.Core.Path.{_≡_, refl, sym, ap, _∙_}
-use mathlib.Core.Bool.{Bool, true, false, not, _||_, cond}
+use mathlib.Core.Bool.{Bool, true, false, not, _||_, cond, or-true, or-false}
 use mathlib.Core.List.{List, [], _∷_}
 use lib.ListN.{length, getD, set, drop, drop-of-length-le, length-set}
 use lib.Seq.{getD-set-same, getD-set-other}
@@ -139,10 +139,6 @@ abbrev pub MarksTo : List ℕ → List Bool → List Bool → ℕ → Type 0
 MarksTo l seen₀ seen i = (length seen ≡ length seen₀) × ((k : ℕ) → k < length seen₀ → (getD seen k false || member k (drop i l)) ≡ (getD seen₀ k false || member k l))
 
 module _ (l : List ℕ) (seen₀ seen : List Bool) (i : ℕ) (m : MarksTo l seen₀ seen i) where
-  or-false : (b : Bool) → (b || false) ≡ b
-  or-false true = refl
-  or-false false = refl
-
   pub marks-end : length l ≤ i → (k : ℕ) → k < length seen₀ → getD seen k false ≡ (getD seen₀ k false || member k l)
   unfolding member
   marks-end h k b = sym (or-false (getD seen k false)) ∙ ap (λ r. getD seen k false || member k r) (sym (drop-of-length-le l h)) ∙ m .1 k b
@@ -162,16 +158,12 @@ module _ (l : List ℕ) (seen₀ seen : List Bool) (i : ℕ) (m : MarksTo l seen
     pub marks-go : getD l i 0 < length seen → MarksTo l seen₀ (set seen (getD l i 0) true) (i + 1)
     marks-go b = (length-set seen (getD l i 0) true ∙ m .0, λ k h. go k h (eqb k (getD l i 0)) refl)
       where
-        or-true : (a : Bool) → true ≡ (a || true)
-        or-true true = refl
-        or-true false = refl
-
         go : (k : ℕ) → k < length seen₀ → (t : Bool) → eqb k (getD l i 0) ≡ t
             → (getD (set seen (getD l i 0) true) k false || member k (drop (i + 1) l)) ≡ (getD seen₀ k false || member k l)
         go k h true t =
             (λ j. getD (set seen (getD l i 0) true) (eqb-true k (getD l i 0) t j) false || member k (drop (i + 1) l))
             ∙ ap (λ z. z || member k (drop (i + 1) l)) (getD-set-same seen (getD l i 0) true false b)
-            ∙ or-true (getD seen k false)
+            ∙ sym (or-true (getD seen k false))
             ∙ (λ j. getD seen k false || (sym t j || member k (drop (i + 1) l)))
             ∙ ahead k h
         go k h false t =
