@@ -11,6 +11,10 @@ use Rattle.rules.specs.declared.ForestAnswer.{ForestAnswer}
 use Rattle.rules.specs.declared.Reply.{Reply}
 use Rattle.rules.specs.declared.ErrorReply.{ErrorReply}
 use Rattle.rules.specs.declared.NodeReply.{NodeReply}
+use Rattle.rules.specs.declared.SizeReply.{SizeReply}
+use Rattle.rules.specs.declared.ModelReply.{ModelReply}
+use Rattle.rules.specs.declared.SizeTold.{SizeTold}
+use Rattle.rules.specs.declared.ModelTold.{ModelTold}
 use Rattle.rules.specs.Words.{nought}
 use Rattle.rules.specs.Lent.{Entry, Outcome, leafEntry}
 use Rattle.rules.specs.Checks.{numbered}
@@ -73,6 +77,16 @@ abbrev pub nodeTold : NodeReply → NodeTold
 nodeTold (NodeReply.Refused n) = record { number = n; there = false; entry = leafEntry nought }
 nodeTold NodeReply.Missing = record { number = 0; there = false; entry = leafEntry nought }
 nodeTold (NodeReply.Read m) = record { number = 0; there = true; entry = entryOf (m .value) (m .kind) }
+
+-- R15.7
+abbrev pub sizeTold : SizeReply → SizeTold
+sizeTold (SizeReply.Refused n) = record { number = n; bytes = 0 }
+sizeTold (SizeReply.Bytes n) = record { number = 0; bytes = n }
+
+-- R15.8
+abbrev pub modelTold : ModelReply → ModelTold
+modelTold (ModelReply.Refused m) = record { number = m .number; place = m .place; features = 0; trees = 0; nodes = 0 }
+modelTold (ModelReply.Read s) = record { number = 0; place = 0; features = s .features; trees = s .trees; nodes = s .nodes }
 
 -- R15.6: of a call that writes: its answer as it is told, and the rooms
 abbrev pub told : {A B R : Type 0} → (A → B) → Outcome A R → Outcome B R

@@ -35,3 +35,6 @@ pub mod OutOfBag
 pub mod Answers
 -- 16: settings and answers as plain structs, as they cross over to Rust and C
 pub mod Plain
+-- 17, 18: a forest's table as a file
+pub mod Bytes
+pub mod Model

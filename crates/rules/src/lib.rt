@@ -172,6 +172,32 @@ pub enum NodeReply {
     Read(Node),
 }
 
+// R0.25: A model file that is misread: by which refusal, and at which byte the field begins, or the bytes that are left over do. Where the file is good but has no room
+// the place is 0.
+pub struct Misread {
+    pub number: u32,
+    pub place: usize,
+}
+
+// R0.25: What a model file holds.
+pub struct Sizes {
+    pub features: u32,
+    pub trees: u32,
+    pub nodes: u32,
+}
+
+// R0.25
+pub enum ModelReply {
+    Refused(Misread),
+    Read(Sizes),
+}
+
+// R0.25: How many bytes a model file has.
+pub enum SizeReply {
+    Refused(u32),
+    Bytes(usize),
+}
+
 // ---- settings and answers, as they cross over
 
 // R0.22: The settings of one tree. The limit is heeded where the depth is limited; the splitter is random, or else best; the best
@@ -234,4 +260,21 @@ pub struct NodeTold {
     pub score: f64,
     pub truechild: u32,
     pub falsechild: u32,
+}
+
+// R0.26: 0 or the number of a refusal, and how many bytes the file has.
+#[repr(C)]
+pub struct SizeTold {
+    pub number: u32,
+    pub bytes: usize,
+}
+
+// R0.26: 0 or the number of a refusal, the byte at which it was met, and what the file holds.
+#[repr(C)]
+pub struct ModelTold {
+    pub number: u32,
+    pub place: usize,
+    pub features: u32,
+    pub trees: u32,
+    pub nodes: u32,
 }
