@@ -23,7 +23,7 @@ use Rattle.lemmas.specs.Lists.{getD-from}
 use Rattle.lemmas.specs.Passed.{past}
 use Rattle.lemmas.specs.Tables.{node-good}
 use Rattle.entries.specs.Entries.{entryIs}
-use Rattle.tables.specs.Laws.{entries-long}
+use Rattle.lemmas.specs.Laid.{entries-long}
 
 -- ---- the true child's number
 

@@ -33,7 +33,7 @@ use Rattle.lemmas.specs.Outs.{then-of}
 use Rattle.lemmas.specs.Tapes.{Begins}
 use Rattle.lemmas.specs.Passed.{past-test, past-all}
 use Rattle.lemmas.specs.Tests.{goes-on, all-go-on, none-left}
-use Rattle.lemmas.specs.Written.{front-length}
+use Rattle.lemmas.specs.Laid.{front-length}
 use Rattle.lemmas.specs.Answered.{TreeAnswered, tree-answered, ForestAnswered, forest-answered, forest-right, trees-length}
 use Rattle.demands.specs.Pieces.{sums, cutsOf, piece-at, tape-starts-good}
 use Rattle.demands.specs.Numbers.{columns-long}

@@ -26,7 +26,7 @@ use Rattle.rules.specs.Reading.{reads, scored, addScores, scoresOf, sumFrom, di
 use Rattle.rules.specs.Reading.{addEach, addImportances, forestImportanceTests, forestImportances}
 use Rattle.lemmas.specs.Lists.{Every, each, every-imp, from-below}
 use Rattle.lemmas.specs.Passed.{past, goes-on, none-fails}
-use Rattle.lemmas.specs.Written.{entries-written}
+use Rattle.lemmas.specs.Laid.{entries-written}
 use Rattle.demands.specs.Means.{reads-done}
 
 -- ---- the statements

@@ -1,30 +1,27 @@
 -- What stands in a leaf's feature, threshold and score is never looked at. Two tables that agree but there give the same predictions, means, out-of-bag means and
 -- importances, and the same refusals; so do two forests whose trees agree so. Assumes nothing.
-use Prim.Native.Nat.{ℕ, zero, suc, _+_, _*_, _<_}
-use native.Mathlib.Nat.{zero-add}
-use mathlib.Core.Path.{_≡_, refl, sym, ap, _∙_, subst}
+use Prim.Native.Nat.{ℕ, zero, suc, _+_, _*_}
+use mathlib.Core.Path.{_≡_, refl, sym, ap, _∙_}
 use mathlib.Core.Bool.{Bool, true, false, not, _&&_, cond}
 use mathlib.Core.List.{List, [], _∷_, map}
-use lib.ListN.{length, getD, take, replicate, length-map, List·getD-map}
-use lib.Dec.{leb, ltb, eqb}
+use lib.ListN.{length, getD, replicate, length-map, List·getD-map}
+use lib.Dec.{ltb, eqb}
 use lib.Ieee.{Float, binary64, div}
 use Rattle.rules.specs.declared.Shape.{Shape}
 use Rattle.rules.specs.declared.Scale.{Scale}
-use Rattle.rules.specs.Words.{nought, float, from, every, along, putIf}
-use Rattle.rules.specs.Lent.{Columns, Entry, shortest, leafEntry, valuesAt}
+use Rattle.rules.specs.Words.{nought, float, from, every, putIf}
+use Rattle.rules.specs.Lent.{Columns, Entry, leafEntry, valuesAt}
 use Rattle.rules.specs.Checks.{test, firstFailed, shapeIn, featuresIn, treesIn, valuesLong}
-use Rattle.rules.specs.Table.{isLeaf, goodEntry, goodFrom, goodTree, treeIn, ForestTable, startsGood, treeAt, treesOf, goodForest}
+use Rattle.rules.specs.Table.{isLeaf, goodEntry, goodFrom, goodTree, treeIn, ForestTable, startsGood, treesOf, goodForest, startsEnough}
 use Rattle.rules.specs.Reading.{noEntry, onto, walked, leafValue, reads, predictTests, predictTree, addTrees, meanOf, meanTests, forestMeans}
 use Rattle.rules.specs.Reading.{scored, addScores, scoresOf, normalised, scaled, treeImportanceTests, treeImportances, addImportances, forestImportanceTests, forestImportances}
 use Rattle.rules.specs.OutOfBag.{outTrees, outOfBagMean, outTests, outOfBagMeans}
-use Rattle.lemmas.specs.Lists.{Every, every-imp, put-map, from-below}
+use Rattle.lemmas.specs.Seen.{seen}
+use Rattle.lemmas.specs.Lists.{put-map}
 
 -- ---- the statements
 
--- what is seen of an entry: a leaf's feature, threshold and score are taken as 0
-abbrev pub seen : Entry → Entry
-seen e = cond (isLeaf e) (leafEntry (e .value)) e
-
+-- of a leaf no more than its value is seen (`seen`)
 abbrev pub AgreeButLeaves : List Entry → List Entry → Type 0
 AgreeButLeaves es fs = map seen es ≡ map seen fs
 
@@ -34,12 +31,15 @@ LeavesOfTrees =
     → ((S : Shape) (xs out : List Float) → predictTree S xs c out ≡ predictTree S xs d out)
     × ((features : ℕ) (by : Scale) (out : List Float) → treeImportances features by c out ≡ treeImportances features by d out)
 
--- two forests of as many trees, each as long, which agree tree by tree
+abbrev pub seenAll : List (List Entry) → List (List Entry)
+seenAll ts = map (map seen) ts
+
+-- two forests of as many trees, which agree tree by tree, wherever these lie: both start tables are long enough and good, or neither is
 pub record ForestsAgree (F G : ForestTable) : Type 0 where
   pub number : F .trees ≡ G .trees
-  pub starts : F .starts ≡ G .starts
-  pub reach : shortest (F .nodes) ≡ shortest (G .nodes)
-  pub trees : (t : ℕ) → t < F .trees → AgreeButLeaves (treeAt (F .nodes) (F .starts) t) (treeAt (G .nodes) (G .starts) t)
+  pub enough : startsEnough F ≡ startsEnough G
+  pub starts : startsGood F ≡ startsGood G
+  pub trees : seenAll (treesOf F) ≡ seenAll (treesOf G)
 
 abbrev pub LeavesOfForests : Type 0
 LeavesOfForests =
@@ -128,9 +128,6 @@ leaves-of-trees c d q = (
 
 -- ---- a forest, tree by tree
 
-abbrev seenAll : List (List Entry) → List (List Entry)
-seenAll ts = map (map seen) ts
-
 sum-same : (s : Float) (ts : List (List Entry)) (xs : List Float) → addTrees s ts xs ≡ addTrees s (seenAll ts) xs
 unfolding addTrees
 sum-same s [] xs = refl
@@ -158,49 +155,36 @@ importances-same features v [] = refl
 importances-same features v (t ∷ ts) = rw (scores-same (replicate features nought) t) (importances-same features _ ts)
 
 module _ (F G : ForestTable) (a : ForestsAgree F G) where
-  trees-seen : seenAll (treesOf F) ≡ seenAll (treesOf G)
-  unfolding treesOf
-  trees-seen =
-      go (from 0 (F .trees)) (every-imp _ _ (λ t b. a .trees t (subst (λ n. t < n) (zero-add (F .trees)) b)) (from 0 (F .trees)) (from-below 0 (F .trees)))
-      ∙ ap (λ n. seenAll (map (treeAt (G .nodes) (G .starts)) (from 0 n))) (a .number)
-    where
-      go : (l : List ℕ) → Every (λ t. AgreeButLeaves (treeAt (F .nodes) (F .starts) t) (treeAt (G .nodes) (G .starts) t)) l
-          → seenAll (map (treeAt (F .nodes) (F .starts)) l) ≡ seenAll (map (treeAt (G .nodes) (G .starts)) l)
-      go [] h = refl
-      go (t ∷ l) h = λ i. h .0 i ∷ go l (h .1) i
-
   forest-good : (features : ℕ) → goodForest features F ≡ goodForest features G
-  unfolding goodForest startsGood
-  forest-good features =
-      λ i. (eqb (getD (a .starts i) 0 1) 0 && (along ltb (take (suc (a .number i)) (a .starts i)) && leb (getD (a .starts i) (a .number i) (suc (a .reach i))) (a .reach i)))
-      && same-by (every (goodTree features)) seenAll (all-good features) (treesOf F) (treesOf G) trees-seen i
+  unfolding goodForest
+  forest-good features = λ i. a .starts i && same-by (every (goodTree features)) seenAll (all-good features) (treesOf F) (treesOf G) (a .trees) i
 
   means-same : (xs : List Float) → meanOf (treesOf F) xs ≡ meanOf (treesOf G) xs
-  means-same xs = same-by (λ ts. meanOf ts xs) seenAll (λ ts. mean-same ts xs) (treesOf F) (treesOf G) trees-seen
+  means-same xs = same-by (λ ts. meanOf ts xs) seenAll (λ ts. mean-same ts xs) (treesOf F) (treesOf G) (a .trees)
 
   outs-same : (S : Shape) (xs : List Float) (counts : List ℕ) (i : ℕ) → outOfBagMean S xs counts F i ≡ outOfBagMean S xs counts G i
   unfolding outOfBagMean
   outs-same S xs counts i =
       same-by (λ ts. meanOf (outTrees (S .rows) counts i 0 ts) (valuesAt (S .features) xs i)) seenAll
       (λ ts. mean-same (outTrees (S .rows) counts i 0 ts) _ ∙ ap (λ us. meanOf us (valuesAt (S .features) xs i)) (sym (out-seen (S .rows) counts i 0 ts)))
-      (treesOf F) (treesOf G) trees-seen
+      (treesOf F) (treesOf G) (a .trees)
 
 pub leaves-of-forests : LeavesOfForests
 leaves-of-forests F G a = (
   (λ S xs out.
       unfold forestMeans meanTests in
       λ i. reads (firstFailed (test 1 (shapeIn S && treesIn (a .number i)) ∷ test 2 (valuesLong S xs)
-      ∷ test 6 (eqb (length out) (S .rows) && leb (suc (a .number i)) (length (a .starts i))) ∷ test 8 (forest-good F G a (S .features) i) ∷ []))
+      ∷ test 6 (eqb (length out) (S .rows) && a .enough i) ∷ test 8 (forest-good F G a (S .features) i) ∷ []))
       (map (λ r. means-same F G a (valuesAt (S .features) xs r) i) (from 0 (S .rows))) out),
   (λ S xs counts out.
       unfold outOfBagMeans outTests in
       λ i. reads (firstFailed (test 1 (shapeIn S && treesIn (a .number i)) ∷ test 9 (ltb 0 (length counts)) ∷ test 10 (eqb (length counts) (a .number i * S .rows)) ∷ test 2 (valuesLong S xs)
-      ∷ test 6 (eqb (length out) (S .rows) && leb (suc (a .number i)) (length (a .starts i))) ∷ test 8 (forest-good F G a (S .features) i) ∷ []))
+      ∷ test 6 (eqb (length out) (S .rows) && a .enough i) ∷ test 8 (forest-good F G a (S .features) i) ∷ []))
       (map (λ r. outs-same F G a S xs counts r i) (from 0 (S .rows))) out),
   (λ features out.
       unfold forestImportances forestImportanceTests in
       λ i. reads (firstFailed (test 1 (featuresIn features && treesIn (a .number i))
-      ∷ test 6 (eqb (length out) features && leb (suc (a .number i)) (length (a .starts i))) ∷ test 8 (forest-good F G a features i) ∷ []))
+      ∷ test 6 (eqb (length out) features && a .enough i) ∷ test 8 (forest-good F G a features i) ∷ []))
       (normalised (map (λ x. div binary64 x (float (a .number i)))
-      (same-by (addImportances features (replicate features nought)) seenAll (importances-same features (replicate features nought)) (treesOf F) (treesOf G) (trees-seen F G a) i))) out),
+      (same-by (addImportances features (replicate features nought)) seenAll (importances-same features (replicate features nought)) (treesOf F) (treesOf G) (a .trees) i))) out),
 )

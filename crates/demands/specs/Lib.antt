@@ -36,3 +36,9 @@ pub mod Error
 pub mod Leaves
 pub mod Importances
 pub mod Weighted
+-- a model file
+pub mod SameFile
+pub mod SameTable
+pub mod FileSize
+pub mod FileRefusals
+pub mod CutFile

@@ -21,6 +21,7 @@ use Rattle.rules.specs.Table.{goodFrom, goodTree, treeIn, ForestTable, startsGo
 use Rattle.rules.specs.Reading.{noEntry, leafValue, reads, predictTests, predictTree, addTrees, meanOf, meanTests, forestMeans}
 use Rattle.rules.specs.OutOfBag.{outTrees, outOfBagMean, outTests, outOfBagMeans}
 use Rattle.lemmas.specs.Lists.{Every, every-or, every-all, every-map, length-from, is-true, getD-from}
+use Rattle.lemmas.specs.Laid.{entries-long}
 use Rattle.lemmas.specs.Passed.{and2, Binary64}
 
 -- ---- the statements
@@ -71,10 +72,6 @@ mean-one : (es : List Entry) (xs : List Float) → T (fits binary64 (leafValue e
 unfolding meanOf addTrees ofInt ofBits
 mean-one es xs h = div-one64 binary64 (add binary64 nought (leafValue es xs)) (add-fits binary64 nought (leafValue es xs)) ∙ zero-add64 binary64 (leafValue es xs) h
 
-entries-long : (c : Columns) → length (treeIn c) ≡ shortest c
-unfolding treeIn entriesAt
-entries-long c = length-map (from 0 (shortest c)) (entryAt c) ∙ length-from 0 (shortest c)
-
 one-tree-read : (c : Columns) → treesOf (oneTree c) ≡ treeIn c ∷ []
 unfolding treesOf from treeAt treeIn
 one-tree-read c = ap (λ n. entriesAt c 0 n ∷ []) (whole (shortest c))
@@ -88,11 +85,11 @@ and-true false = refl
 
 -- its start table is good where it has a node
 one-tree-good : (features : ℕ) (c : Columns) → goodForest features (oneTree c) ≡ goodTree features (treeIn c)
-unfolding goodForest startsGood along alongFrom every goodTree
+unfolding goodForest startsGood along alongFrom every goodTree treeIn
 one-tree-good features c =
     (λ i. (ltb 0 (shortest c) && true && is-true (leb (shortest c) (shortest c)) (le→leb (shortest c) (shortest c) (le-refl (shortest c))) i)
     && every (goodTree features) (one-tree-read c i))
-    ∙ ap (λ n. (ltb 0 n && true && true) && (goodTree features (treeIn c) && true)) (sym (entries-long c))
+    ∙ ap (λ n. (ltb 0 n && true && true) && (goodTree features (treeIn c) && true)) (sym (entries-long c 0 (shortest c)))
     ∙ same (ltb 0 (length (treeIn c))) (goodFrom features (length (treeIn c)) 0 (treeIn c))
   where
     same : (x b : Bool) → ((x && true && true) && ((x && b) && true)) ≡ (x && b)

@@ -13,6 +13,8 @@ use Rattle.rules.specs.declared.ForestAnswer.{ForestAnswer}
 use Rattle.rules.specs.declared.Reply.{Reply}
 use Rattle.rules.specs.declared.ErrorReply.{ErrorReply}
 use Rattle.rules.specs.declared.NodeReply.{NodeReply}
+use Rattle.rules.specs.declared.SizeReply.{SizeReply}
+use Rattle.rules.specs.declared.ModelReply.{ModelReply}
 use Rattle.rules.specs.declared.TreeSettings.{TreeSettings}
 use Rattle.rules.specs.declared.ForestSettings.{ForestSettings}
 use Rattle.rules.specs.declared.TreeTold.{TreeTold}
@@ -20,6 +22,8 @@ use Rattle.rules.specs.declared.Refusal.{Refusal}
 use Rattle.rules.specs.declared.Checked.{Checked}
 use Rattle.rules.specs.declared.ErrorTold.{ErrorTold}
 use Rattle.rules.specs.declared.NodeTold.{NodeTold}
+use Rattle.rules.specs.declared.SizeTold.{SizeTold}
+use Rattle.rules.specs.declared.ModelTold.{ModelTold}
 use Rattle.rules.specs.Lent.{Given, Columns, WaitingForm, TreeRooms, ForestRooms, Outcome, WaitingRoom, waitingRoom}
 use Rattle.rules.specs.Listing.{checkListings}
 use Rattle.rules.specs.Fit.{TreeCall, treeCall, fitTree}
@@ -27,7 +31,8 @@ use Rattle.rules.specs.Table.{checkTree, ForestTable, tableOf, checkForest, rea
 use Rattle.rules.specs.Reading.{predictTree, forestMeans, treeImportances, forestImportances}
 use Rattle.rules.specs.Forest.{ForestCall, forestCall, fitForest}
 use Rattle.rules.specs.OutOfBag.{outOfBagMeans, outOfBagError}
-use Rattle.rules.specs.Answers.{treeTold, forestTold, checkTold, replyTold, errorTold, nodeTold, told}
+use Rattle.rules.specs.Model.{modelSize, writeModel, TableRooms, readModel}
+use Rattle.rules.specs.Answers.{treeTold, forestTold, checkTold, replyTold, errorTold, nodeTold, sizeTold, modelTold, told}
 use Rattle.rules.specs.Plain.{treeSettingsOf, forestSettingsOf, triedFrom, scaleOf, treeNumbers, errorNumbers, nodeNumbers}
 
 module _ {W : Type 0} (K : WaitingForm W) where
@@ -45,6 +50,9 @@ module _ {W : Type 0} (K : WaitingForm W) where
     checks-tree : ℕ → Columns → PublicCall
     checks-forest : ℕ → ForestTable → PublicCall
     reads-node : ℕ → Columns → ℕ → PublicCall
+    sizes-model : ℕ → ForestTable → PublicCall
+    writes-model : ℕ → ForestTable → List ℕ → PublicCall
+    reads-model : List ℕ → TableRooms → PublicCall
 
   -- what a call leaves, of which kind and which
   abbrev pub Left : PublicCall → Type 0
@@ -60,6 +68,9 @@ module _ {W : Type 0} (K : WaitingForm W) where
   Left (checks-tree features c) = Reply
   Left (checks-forest features T) = Reply
   Left (reads-node features c k) = NodeReply
+  Left (sizes-model features T) = SizeReply
+  Left (writes-model features T out) = Outcome SizeReply (List ℕ)
+  Left (reads-model bs R) = Outcome ModelReply TableRooms
 
   abbrev pub leaves : (c : PublicCall) → Left c
   leaves (fits-tree C R) = fitTree K C R
@@ -74,6 +85,9 @@ module _ {W : Type 0} (K : WaitingForm W) where
   leaves (checks-tree features c) = checkTree features c
   leaves (checks-forest features T) = checkForest features T
   leaves (reads-node features c k) = readNode features c k
+  leaves (sizes-model features T) = modelSize features T
+  leaves (writes-model features T out) = writeModel features T out
+  leaves (reads-model bs R) = readModel bs R
 
   -- a contract allows what is equal to the definition's value
   abbrev pub Allowed : (c : PublicCall) → Left c → Type 0
@@ -97,6 +111,9 @@ pub data Exported : Type 0 where
   check-tree : (features : ℕ) → Columns → Exported
   check-forest : (features trees : ℕ) → List ℕ → Columns → Exported
   read-node : (features : ℕ) → Columns → ℕ → Exported
+  model-size : (features trees : ℕ) → List ℕ → Columns → Exported
+  write-model : (features trees : ℕ) → List ℕ → Columns → List ℕ → Exported
+  read-model : List ℕ → TableRooms → Exported
 
 -- what crosses back
 abbrev pub Back : Exported → Type 0
@@ -112,6 +129,9 @@ Back (check-listings rows features xs ls) = Refusal
 Back (check-tree features c) = ℕ
 Back (check-forest features trees starts c) = ℕ
 Back (read-node features c k) = NodeTold
+Back (model-size features trees starts c) = SizeTold
+Back (write-model features trees starts c out) = Outcome SizeTold (List ℕ)
+Back (read-model bs R) = Outcome ModelTold TableRooms
 
 abbrev shapeOf : ℕ → ℕ → Shape
 shapeOf rows features = record { rows = rows; features = features }
@@ -133,6 +153,9 @@ Promised (check-listings rows features xs ls) b = b ≡ checkTold (checkListings
 Promised (check-tree features c) b = b ≡ replyTold (checkTree features c)
 Promised (check-forest features trees starts c) b = b ≡ replyTold (checkForest features (tableOf trees starts c))
 Promised (read-node features c k) b = nodeNumbers b ≡ nodeTold (readNode features c k)
+Promised (model-size features trees starts c) b = b ≡ sizeTold (modelSize features (tableOf trees starts c))
+Promised (write-model features trees starts c out) b = b ≡ told sizeTold (writeModel features (tableOf trees starts c) out)
+Promised (read-model bs R) b = b ≡ told modelTold (readModel bs R)
 
 -- ---- numbers that say the same are the same
 
@@ -186,3 +209,6 @@ one-outcome-exported (check-listings rows features xs ls) x y h k = h ∙ sym k
 one-outcome-exported (check-tree features c) x y h k = h ∙ sym k
 one-outcome-exported (check-forest features trees starts c) x y h k = h ∙ sym k
 one-outcome-exported (read-node features c k′) x y h k = node-numbers x y (h ∙ sym k)
+one-outcome-exported (model-size features trees starts c) x y h k = h ∙ sym k
+one-outcome-exported (write-model features trees starts c out) x y h k = h ∙ sym k
+one-outcome-exported (read-model bs R) x y h k = h ∙ sym k

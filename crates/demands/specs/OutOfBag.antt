@@ -24,7 +24,8 @@ use Rattle.rules.specs.Forest.{ForestCall, oneTreeAt, eachTree, startsFrom, fit
 use Rattle.rules.specs.OutOfBag.{outTrees, outOfBagMean, outTests, outOfBagMeans}
 use Rattle.lemmas.specs.Lists.{getD-from}
 use Rattle.lemmas.specs.Passed.{goes-on, none-fails, Passed, ForestPassed, forest-framed, Binary64}
-use Rattle.lemmas.specs.Written.{tables, trees-written, front-length, starts-length}
+use Rattle.lemmas.specs.Laid.{front-length}
+use Rattle.lemmas.specs.Written.{tables, trees-written, starts-length}
 use Rattle.lemmas.specs.Answered.{Grew, ForestAnswered, forest-answered, forest-right, trees-length}
 use Rattle.demands.specs.LeftOut.{accepted, fit-same}
 use Rattle.demands.specs.Walks.{tableAfter, forest-good}

@@ -1,6 +1,6 @@
 -- Demand 1: in which order each call makes its checks, and what a refusal leaves. A fit that is refused before growth leaves every lent room as it was, and tells what the
--- first test that failed tells. One that meets a bad draw leaves every lent slice as long as it was, with 0 at each place. Each reader that is refused leaves its result room as it was, and
--- tells the first test that failed; a reader or a check that does not refuse has passed all its tests. Assumes nothing.
+-- first test that failed tells. One that meets a bad draw leaves every lent slice as long as it was, with 0 at each place. Each reader that is refused, and the writer of model files, leaves its
+-- result room as it was, and tells the first test that failed; a reader, a writer or a check that does not refuse has passed all its tests. Assumes nothing.
 use Prim.Native.Nat.{ℕ, zero, suc, _<_, _≤_}
 use native.Mathlib.Omega.{arith}
 use mathlib.Core.Path.{_≡_, refl, ap, _∙_, subst}
@@ -20,6 +20,7 @@ use Rattle.rules.specs.declared.Reply.{Reply}
 use Rattle.rules.specs.declared.Figure.{Figure}
 use Rattle.rules.specs.declared.ErrorReply.{ErrorReply}
 use Rattle.rules.specs.declared.NodeReply.{NodeReply}
+use Rattle.rules.specs.declared.SizeReply.{SizeReply}
 use Rattle.rules.specs.Words.{nought, filled, from, joined}
 use Rattle.rules.specs.Lent.{Columns, Reports, WaitingForm, WaitingRoom, waitingRoom, Work, TreeRooms, ForestRooms, Outcome, cell, listingAt, shortest, entryAt, zeroColumns, zeroReports, zeroWork}
 use Rattle.rules.specs.Checks.{Test, test, checked, firstFailed, replies}
@@ -29,6 +30,7 @@ use Rattle.rules.specs.Fit.{Tree, TreeCall, grownTree, treeTests, treeDone, tre
 use Rattle.rules.specs.Table.{treeTableTests, checkTree, ForestTable, forestTableTests, checkForest, nodeOf, nodeRead, readNode}
 use Rattle.rules.specs.Reading.{reads, predictTests, predictTree, meanTests, forestMeans, treeImportanceTests, treeImportances, forestImportanceTests, forestImportances}
 use Rattle.rules.specs.Forest.{ForestCall, Forest, stopped, grownAll, grownForest, forestTests, forestDone, forestEnds, fitForest}
+use Rattle.rules.specs.Model.{sized, modelSize, writeTests, wrote, writeModel}
 use Rattle.rules.specs.OutOfBag.{outTests, outOfBagMeans, errs, errorTests, outOfBagError}
 
 -- ---- the statements
@@ -52,6 +54,7 @@ pub record OrderOfChecks {W : Type 0} (K : WaitingForm W) : Type 0 where
   pub forestImportances : (features : ℕ) (T : ForestTable) (out : List Float) → numbers (forestImportanceTests features T out) ≡ 1 ∷ 6 ∷ 8 ∷ []
   pub treeTable : (features : ℕ) (c : Columns) → numbers (treeTableTests features c) ≡ 1 ∷ 8 ∷ []
   pub forestTable : (features : ℕ) (T : ForestTable) → numbers (forestTableTests features T) ≡ 1 ∷ 6 ∷ 8 ∷ []
+  pub model : (features : ℕ) (T : ForestTable) (out : List ℕ) → numbers (writeTests features T out) ≡ 1 ∷ 6 ∷ 8 ∷ 6 ∷ []
 
 abbrev pub TreeRefused : Type 1
 TreeRefused =
@@ -132,12 +135,17 @@ NodeBy ts (NodeReply.Refused n) = (firstFailed ts ≡ n) × (1 ≤ n)
 NodeBy ts NodeReply.Missing = firstFailed ts ≡ 0
 NodeBy ts (NodeReply.Read m) = firstFailed ts ≡ 0
 
+abbrev pub SizeBy : List Test → SizeReply → Type 0
+SizeBy ts (SizeReply.Refused n) = (firstFailed ts ≡ n) × (1 ≤ n)
+SizeBy ts (SizeReply.Bytes n) = firstFailed ts ≡ 0
+
 pub record CheckRefused : Type 0 where
   pub listings : (S : Shape) (xs : List Float) (ls : List ℕ) → checkListings S xs ls ≡ checked (listingTests S xs ls)
   pub treeTable : (features : ℕ) (c : Columns) → By (treeTableTests features c) (checkTree features c)
   pub forestTable : (features : ℕ) (T : ForestTable) → By (forestTableTests features T) (checkForest features T)
   pub node : (features : ℕ) (c : Columns) (k : ℕ) → NodeBy (treeTableTests features c) (readNode features c k)
   pub error : (rows : ℕ) (ys ms : List Float) → ErrorBy (errorTests rows ys ms) (outOfBagError rows ys ms)
+  pub size : (features : ℕ) (T : ForestTable) → SizeBy (forestTableTests features T) (modelSize features T)
 
 -- and one that is lent `out` leaves it as it was where it refuses
 abbrev pub Untouched : List Test → List Float → Outcome Reply (List Float) → Type 0
@@ -149,6 +157,8 @@ pub record ReaderRefused : Type 0 where
   pub outOfBag : (S : Shape) (xs : List Float) (ks : List ℕ) (T : ForestTable) (out : List Float) → Untouched (outTests S xs ks T out) out (outOfBagMeans S xs ks T out)
   pub treeImportances : (features : ℕ) (by : Scale) (c : Columns) (out : List Float) → Untouched (treeImportanceTests features c out) out (treeImportances features by c out)
   pub forestImportances : (features : ℕ) (T : ForestTable) (out : List Float) → Untouched (forestImportanceTests features T out) out (forestImportances features T out)
+  pub model : (features : ℕ) (T : ForestTable) (out : List ℕ)
+      → SizeBy (writeTests features T out) (writeModel features T out .answer) × ((n : ℕ) → writeModel features T out .answer ≡ SizeReply.Refused n → writeModel features T out .rooms ≡ out)
 
 -- ---- the order
 
@@ -173,7 +183,7 @@ then-six : (S : Shape) (xs : List Float) (ls : List ℕ) (b : Bool) → numbers 
 then-six S xs ls b = map-append _ (orderTests S xs ls) _ ∙ ap (λ ns. ns ++ 6 ∷ []) (order-numbers S xs ls)
 
 pub order-of-checks : {W : Type 0} (K : WaitingForm W) → OrderOfChecks K
-unfolding treeTests forestTests listingTests predictTests meanTests outTests errorTests treeImportanceTests forestImportanceTests treeTableTests forestTableTests
+unfolding treeTests forestTests listingTests predictTests meanTests outTests errorTests treeImportanceTests forestImportanceTests treeTableTests forestTableTests writeTests
 order-of-checks K =
     record {
       tree = λ C R. ap (λ ns. 1 ∷ 2 ∷ 3 ∷ 4 ∷ ns) (then-six (C .shape) _ _ _);
@@ -187,6 +197,7 @@ order-of-checks K =
       forestImportances = λ features T out. refl;
       treeTable = λ features c. refl;
       forestTable = λ features T. refl;
+      model = λ features T out. refl;
     }
 
 -- ---- rooms filled with zero
@@ -287,7 +298,7 @@ failed : (ts : List Test) (k : ℕ) → firstFailed ts ≡ suc k → By ts (Repl
 failed ts k q = (q, omega arith)
 
 pub check-refused : CheckRefused
-unfolding checkListings checkTree checkForest readNode nodeRead outOfBagError errs replies
+unfolding checkListings checkTree checkForest readNode nodeRead outOfBagError errs replies modelSize sized
 check-refused =
     record {
       listings = λ S xs ls. refl;
@@ -295,6 +306,7 @@ check-refused =
       forestTable = λ features T. plain (forestTableTests features T) _ refl;
       node = λ features c k. node (treeTableTests features c) _ refl c k;
       error = λ rows ys ms. error (errorTests rows ys ms) _ refl _;
+      size = λ features T. size (forestTableTests features T) _ refl _;
     }
   where
     plain : (ts : List Test) (k : ℕ) → firstFailed ts ≡ k → By ts (replies k)
@@ -305,6 +317,10 @@ check-refused =
     error ts zero q f = q
     error ts (suc k) q f = (q, omega arith)
 
+    size : (ts : List Test) (k : ℕ) → firstFailed ts ≡ k → (n : ℕ) → SizeBy ts (sized k n)
+    size ts zero q n = q
+    size ts (suc k) q n = (q, omega arith)
+
     node : (ts : List Test) (n : ℕ) → firstFailed ts ≡ n → (c : Columns) (k : ℕ) → NodeBy ts (nodeRead n c k)
     node ts (suc n) q c k = (q, omega arith)
     node ts zero q c k = there (ltb k (shortest c))
@@ -314,7 +330,7 @@ check-refused =
         there false = q
 
 pub reader-refused : ReaderRefused
-unfolding predictTree forestMeans outOfBagMeans treeImportances forestImportances reads
+unfolding predictTree forestMeans outOfBagMeans treeImportances forestImportances reads writeModel wrote
 reader-refused =
     record {
       predictions = λ S xs c out. go (predictTests S xs c out) _ refl _ out;
@@ -322,11 +338,17 @@ reader-refused =
       outOfBag = λ S xs ks T out. go (outTests S xs ks T out) _ refl _ out;
       treeImportances = λ features by c out. go (treeImportanceTests features c out) _ refl _ out;
       forestImportances = λ features T out. go (forestImportanceTests features T out) _ refl _ out;
+      model = λ features T out. file (writeTests features T out) _ refl _ out;
     }
   where
     go : (ts : List Test) (k : ℕ) → firstFailed ts ≡ k → (new old : List Float) → Untouched ts old (reads k new old)
     go ts zero q new old = (q, (λ n h. let z : _≡_ {A = ℕ} 0 1 = cc in absurd (omega arith)))
     go ts (suc k) q new old = (failed ts k q, (λ n h. refl))
+
+    file : (ts : List Test) (k : ℕ) → firstFailed ts ≡ k → (new old : List ℕ)
+        → SizeBy ts (wrote k new old .answer) × ((n : ℕ) → wrote k new old .answer ≡ SizeReply.Refused n → wrote k new old .rooms ≡ old)
+    file ts zero q new old = (q, (λ n h. let z : _≡_ {A = ℕ} 0 1 = cc in absurd (omega arith)))
+    file ts (suc k) q new old = ((q, omega arith), (λ n h. refl))
 
 -- ---- where a fit is not refused, no test fails
 

@@ -16,9 +16,9 @@ use Rattle.rules.specs.Reading.{noEntry, scored, addScores, scoresOf, normalise
 use Rattle.lemmas.specs.Lists.{getD-from}
 use Rattle.lemmas.specs.Tables.{node-good}
 use Rattle.lemmas.specs.Scans.{range-next, range-end, range-all}
+use Rattle.lemmas.specs.Laid.{entries-long}
 use Rattle.entries.specs.Entries.{noChild}
 use Rattle.tables.specs.Table.{TreeLies}
-use Rattle.tables.specs.Laws.{entries-long}
 use Rattle.scores.specs.Nodes.{marked}
 
 -- ---- entry by entry

@@ -35,7 +35,8 @@ pub mod TwinFits
 pub mod Passed
 -- good tables: a walk ends at a leaf, and what a fit grows is one
 pub mod Tables
--- what is written can be read back
+-- what is written can be read back: trees laid out as a table, and those of a fit
+pub mod Laid
 pub mod Written
 -- what a fit that answers has passed, grown and written
 pub mod Answered
@@ -52,3 +53,17 @@ pub mod Tests
 pub mod Cells
 -- the tests of listings: how they end
 pub mod Faults
+-- a list with new entries from some place on
+pub mod Spliced
+-- numbers and floats as bytes, where bytes lie in a file, and its fields one at a time
+pub mod ByteNumbers
+pub mod Lies
+pub mod Fields
+-- what is seen of an entry
+pub mod Seen
+-- a model file: what is read is written, and what is written is read
+pub mod FileRead
+pub mod FileWritten
+pub mod FileLength
+-- how its calls end
+pub mod ModelCalls

@@ -7,7 +7,7 @@ use mathlib.Core.Bool.{Bool, true, false, not, _&&_, _||_, cond}
 use mathlib.Core.List.{List, [], _∷_, _++_, map}
 use lib.ListN.{length, getD, set, take, drop, List·getD-map}
 use lib.Seq.{take-nil}
-use lib.Dec.{T}
+use lib.Dec.{T, ltb, ltb→lt}
 use lib.Ieee.Fits.{and-l, and-r, and-i}
 use Rattle.rules.specs.Words.{from, putIf, keep, every, along, alongFrom, total}
 
@@ -321,6 +321,15 @@ module _ {ℓ} {A : Type ℓ} (R : A → A → Type 0) where
   ordered-at (x ∷ l) o d i zero h g = absurd (not-suc-le-zero h)
   ordered-at (x ∷ l) o d zero (suc j) h g = every-at (R x) l d j (o .0) (le-of-suc-le-suc g)
   ordered-at (x ∷ l) o d (suc i) (suc j) h g = ordered-at l (o .1) d i j (le-of-suc-le-suc h) (le-of-suc-le-suc g)
+
+-- numbers that rise
+pub rising-at : (l : List ℕ) → along ltb l ≡ true → (i j : ℕ) → i < j → j < length l → getD l i 0 < getD l j 0
+rising-at l h i j a b =
+    ordered-at (λ x y. x < y) l
+    (ordered-along (λ x y. x < y) ltb (λ x. Unit {0}) (λ x y p q t. ltb→lt x y t) (λ x y z p q. trans x y z p q) l (every-all _ (λ x. tt) l) (subst T (sym h) tt)) 0 i j a b
+  where
+    trans : (x y z : ℕ) → x < y → y < z → x < z
+    trans x y z p q = omega arith
 
 pub ordered-map {ℓ κ} : {A : Type ℓ} {B : Type κ} (R : B → B → Type 0) (f : A → B) (l : List A) → Ordered (λ x y. R (f x) (f y)) l → Ordered R (map f l)
 ordered-map R f [] r = tt

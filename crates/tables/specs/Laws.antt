@@ -1,4 +1,4 @@
--- Laws of the table check: node by node from place k on, starts that rise, tree by tree, and a node read out. Assumes nothing.
+-- Laws of the table check: node by node from place k on, tree by tree, and a node read out. Assumes nothing.
 use Prim.Native.Nat.{ℕ, zero, suc, _+_, _-_, _<_, _≤_}
 use native.Mathlib.Nat.{add-zero, zero-add}
 use native.Mathlib.Numerals.{add-one}
@@ -7,24 +7,21 @@ use native.Mathlib.Omega.{arith}
 use mathlib.Core.Path.{_≡_, refl, sym, ap, _∙_, subst}
 use mathlib.Core.Bool.{Bool, true, false, _&&_, cond}
 use mathlib.Core.List.{List, [], _∷_, map}
-use lib.ListN.{length, getD, take, length-map}
+use lib.ListN.{length, getD, take}
 use lib.Seq.{getD-take, length-take-le}
-use lib.Dec.{T, leb, ltb, eqb, ltb→lt}
+use lib.Dec.{T, leb, ltb, eqb}
 use borrow.Author.Tests.{lt-ltb, le-ltb, leb-true}
 use Rattle.rules.specs.declared.NodeReply.{NodeReply}
 use Rattle.rules.specs.Words.{from, every, along}
 use Rattle.rules.specs.Lent.{Columns, Entry, shortest, entryAt, entriesAt}
 use Rattle.rules.specs.Table.{goodEntry, goodFrom, goodTree, ForestTable, startsGood, treeAt, treesOf, nodeOf, nodeRead}
-use Rattle.lemmas.specs.Lists.{is-true, each, every-all, every-from, same-default, ordered-along, ordered-at, length-from}
+use Rattle.lemmas.specs.Lists.{is-true, each, every-from, same-default, rising-at}
+use Rattle.lemmas.specs.Laid.{entries-long}
 use Rattle.lemmas.specs.Scans.{range-next, range-end}
 use Rattle.lemmas.specs.Tests.{and-both}
 use Rattle.tables.specs.Table.{Lying, TreeLies, TreesLie}
 
 -- ---- node by node
-
-pub entries-long : (c : Columns) (a n : ℕ) → length (entriesAt c a n) ≡ n
-unfolding entriesAt
-entries-long c a n = length-map (from a n) (entryAt c) ∙ length-from a n
 
 module _ (features : ℕ) (c : Columns) (a n : ℕ) where
   -- from node k on
@@ -68,16 +65,6 @@ module _ (features : ℕ) (c : Columns) (a n : ℕ) where
       alone : (b : Bool) → (b && true) ≡ b
       alone true = refl
       alone false = refl
-
--- ---- starts that rise
-
-pub rising-at : (l : List ℕ) → along ltb l ≡ true → (i j : ℕ) → i < j → j < length l → getD l i 0 < getD l j 0
-rising-at l h i j a b =
-    ordered-at (λ x y. x < y) l
-    (ordered-along (λ x y. x < y) ltb (λ x. Unit {0}) (λ x y p q t. ltb→lt x y t) (λ x y z p q. trans x y z p q) l (every-all _ (λ x. tt) l) (subst T (sym h) tt)) 0 i j a b
-  where
-    trans : (x y z : ℕ) → x < y → y < z → x < z
-    trans x y z p q = omega arith
 
 -- ---- tree by tree
 

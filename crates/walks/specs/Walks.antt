@@ -18,7 +18,7 @@ use Rattle.lemmas.specs.Lists.{getD-from}
 use Rattle.lemmas.specs.Tables.{Onward, node-good, leaf-stays}
 use Rattle.lemmas.specs.Cells.{stretch-within}
 use Rattle.tables.specs.Table.{TreeLies}
-use Rattle.tables.specs.Laws.{entries-long}
+use Rattle.lemmas.specs.Laid.{entries-long}
 
 -- a good tree, and the values of row i
 pub record Walkable (features a n i : ℕ) (xs : List Float) (c : Columns) : Type 0 where
