@@ -2,7 +2,7 @@
 ghost use mathlib.Core.Path.{_≡_};
 ghost use Prim.Native.Nat.{_<_};
 ghost use Rattle.rules.specs.Checks.{numbered};
-ghost use Rattle.rules.specs.Answers.{treeTold, forestTold, checkTold, replyTold, errorTold, nodeTold};
+ghost use Rattle.rules.specs.Answers.{treeTold, forestTold, checkTold, replyTold, errorTold, nodeTold, sizeTold, modelTold};
 ghost use Rattle.rules.specs.Plain.{depthOf, splitterOf, heightOf, triedFrom, settingsOf, treeSettingsOf, forestSettingsOf, scaleOf, treeNumbers, errorNumbers, nodeNumbers};
 ghost use Rattle.c_types.specs.Plain.{noNode};
 ghost use Rattle.c_types.specs.Nodes.{trueChildOf, childOf};
@@ -14,6 +14,8 @@ use rules::ForestAnswer;
 use rules::ForestSettings;
 use rules::Height;
 use rules::Kind;
+use rules::ModelReply;
+use rules::ModelTold;
 use rules::Node;
 use rules::NodeReply;
 use rules::NodeTold;
@@ -21,6 +23,8 @@ use rules::Refusal;
 use rules::Reply;
 use rules::Scale;
 use rules::Settings;
+use rules::SizeReply;
+use rules::SizeTold;
 use rules::Splitter;
 use rules::TreeAnswer;
 use rules::TreeSettings;
@@ -282,5 +286,41 @@ pub fn node_told_of(reply: NodeReply) -> NodeTold
         NodeReply::Refused(n) => no_node(n),
         NodeReply::Missing => no_node(0),
         NodeReply::Read(node) => node_read(node),
+    }
+}
+
+pub fn size_told_of(reply: SizeReply) -> SizeTold
+    ensures { λ r. ⌜ r ≡ sizeTold reply ⌝ }
+{
+    match reply {
+        SizeReply::Refused(n) => SizeTold {
+            number: n,
+            bytes: 0,
+        },
+        SizeReply::Bytes(n) => SizeTold {
+            number: 0,
+            bytes: n,
+        },
+    }
+}
+
+pub fn model_told_of(reply: ModelReply) -> ModelTold
+    ensures { λ r. ⌜ r ≡ modelTold reply ⌝ }
+{
+    match reply {
+        ModelReply::Refused(m) => ModelTold {
+            number: m.number,
+            place: m.place,
+            features: 0,
+            trees: 0,
+            nodes: 0,
+        },
+        ModelReply::Read(s) => ModelTold {
+            number: 0,
+            place: 0,
+            features: s.features,
+            trees: s.trees,
+            nodes: s.nodes,
+        },
     }
 }

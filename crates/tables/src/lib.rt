@@ -232,7 +232,8 @@ fn forest_in(features: usize, trees: usize) -> bool
     }
 }
 
-fn forest_verdict(
+// Refusals 1, 6 and 8, by number.
+pub fn forest_verdict(
     features: usize,
     trees: usize,
     starts: &[u32],

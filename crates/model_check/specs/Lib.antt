@@ -1,0 +1,4 @@
+-- A model file checked. Nothing is assumed.
+
+-- what is seen of nodes, of trees and of all
+pub mod Seen
