@@ -1,6 +1,6 @@
 /* The worked example of include/tailboardy.h: fits one tree on four fixtures, prints its nodes and predicts with it; then a listing
  * that lost a row and a draw that is out of range, which are refused; a tree whose thresholds are measured values; and a forest of two
- * trees. c/run compares what it prints with example.out. */
+ * trees, which is written to a file and read back. c/run compares what it prints with example.out. */
 #include <inttypes.h>
 #include <stdio.h>
 #include <stdlib.h>
@@ -127,6 +127,38 @@ static void measured_cuts(void) {
     print_nodes(&nodes, 0, told.nodes);
 }
 
+/* Reads a forest from the bytes of a file. */
+static TailboardyModelTold read_file(Nodes *nodes, uint32_t *starts, const uint8_t *file, size_t length) {
+    return tailboardy_read_model(ALL(nodes->value), ALL(nodes->feature), ALL(nodes->threshold), ALL(nodes->score),
+        ALL(nodes->true_child), ALL(nodes->false_child), starts, TREES + 1, file, length);
+}
+
+/* The forest as the bytes of a file, which the caller would save or send, and what is read from them. Then the last byte is lost, which
+ * belongs to the true child of the last node. */
+static void model_file(const Nodes *nodes, const uint32_t *starts) {
+    static Nodes back;
+    static uint32_t back_starts[TREES + 1];
+    const TailboardySizeTold size = tailboardy_model_size(FEATURES, TREES, starts, TREES + 1, ALL(nodes->value),
+        ALL(nodes->feature), ALL(nodes->threshold), ALL(nodes->score), ALL(nodes->true_child), ALL(nodes->false_child));
+    if (size.number != 0) stop("tailboardy_model_size", size.number);
+    uint8_t *file = malloc(size.bytes);
+    if (file == NULL) exit(1);
+    const TailboardySizeTold written = tailboardy_write_model(FEATURES, TREES, starts, TREES + 1, ALL(nodes->value),
+        ALL(nodes->feature), ALL(nodes->threshold), ALL(nodes->score), ALL(nodes->true_child), ALL(nodes->false_child),
+        file, size.bytes);
+    if (written.number != 0) stop("tailboardy_write_model", written.number);
+    printf("the forest as a file: %zu bytes, and the first are", written.bytes);
+    for (size_t at = 0; at < 9; at++) printf(" %02x", file[at]);
+    const TailboardyModelTold told = read_file(&back, back_starts, file, written.bytes);
+    if (told.number != 0) stop("tailboardy_read_model", told.number);
+    printf("\nread from it: %" PRIu32 " features, %" PRIu32 " trees and %" PRIu32 " nodes, of which the last tree has\n",
+        told.features, told.trees, told.nodes);
+    print_nodes(&back, back_starts[1], back_starts[2]);
+    const TailboardyModelTold cut = read_file(&back, back_starts, file, written.bytes - 1);
+    printf("without its last byte: refusal %" PRIu32 " at byte %zu\n", cut.number, cut.place);
+    free(file);
+}
+
 /* Two trees with the best splitter, which takes no thresholds. The first has row 0 twice and leaves row 1 out, the second has row 3
  * twice and leaves row 2 out. Each has six words of the tape; what it does not take is not looked at. */
 static void forest(void) {
@@ -160,6 +192,7 @@ static void forest(void) {
     const TailboardyErrorTold error = tailboardy_out_of_bag_error(ROWS, ALL(targets), ALL(out));
     if (error.number != 0) stop("tailboardy_out_of_bag_error", error.number);
     printf("their error: %g, over %" PRIu32 " of %d rows\n", error.error, error.rows, ROWS);
+    model_file(&nodes, starts);
 }
 
 int main(void) {

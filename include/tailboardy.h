@@ -52,11 +52,26 @@
  *        5    -26        0          0      0           0            0    (row 2)
  *        6    -22        0          0      0           0            0    (row 0)
  *
+ * Files: a forest can be written to bytes and read back; one tree is a forest of one. A file has these numbers one after another, each
+ * with its least byte first, and nothing after the last node:
+ *     bytes
+ *     3            the mark: R G F (52 47 46)
+ *     2 2 2        the version: 1; how many features there are, and how many trees: 1 to 1,024 each
+ *     for each tree:
+ *       4          the number of its nodes, at least 1; all trees together have at most 2^32 - 1
+ *       for each node:
+ *         8 4      the value, as a binary64 float; true_child, which is 0 in a leaf
+ *         2 8 8    only of a split: feature; threshold and score, as floats. Its false_child is the number after true_child
+ * So the first tree begins at byte 9, a leaf has 12 bytes and a split 30. Infinities and both zeros are kept. Every NaN is written as
+ * 00 00 00 00 00 00 f8 7f, and no other is read. What a leaf has in feature, threshold and score is not written, and these entries are
+ * 0 after reading.
+ *
  * Refusals: 1 sizes, 2 lengths, 3 numbers, 4 counts, 6 rooms, 7 draw, 8 table, 9 no counts, 10 other counts, 11 no such row, 12 row
- * twice, 13 value falls, 18 no means. 11, 12 and 13 are about a damaged listing. They tell where it is damaged, as 7 tells where the
- * bad draw is (TailboardyRefusal). The table in docs/RULES.md says when each is given. Below, the refusals that a call can give are
- * listed after its description, in the order of its checks. A refused call leaves every lent slice unchanged, except that refusal 7
- * fills them all with zeros. */
+ * twice, 13 value falls, 14 file ends early, 15 not such a file, 16 bad field, 17 bytes left over, 18 no means. 11, 12 and 13 are about
+ * a damaged listing. They tell where it is damaged, as 7 tells where the bad draw is (TailboardyRefusal). 14 to 17 are about the bytes
+ * of a file, and tell where in it (TailboardyModelTold). The table in docs/RULES.md says when each is given. Below, the refusals that a
+ * call can give are listed after its description, in the order of its checks. A refused call leaves every lent slice unchanged, except
+ * that refusal 7 fills them all with zeros. */
 #ifndef TAILBOARDY_H
 #define TAILBOARDY_H
 
@@ -141,6 +156,22 @@ typedef struct {
     uint32_t false_child;
 } TailboardyNodeTold;
 
+/* 0 or a refusal. With 0: the number of bytes of a model's file; otherwise 0. */
+typedef struct {
+    uint32_t number;
+    size_t bytes;
+} TailboardySizeTold;
+
+/* 0 or a refusal. With 0: how many features, trees and nodes the model has that was read. With 14, 15 and 16 `place` is the byte,
+ * counted from 0, at which the field begins that is refused, and with 17 the first byte that is left over. All other fields are 0. */
+typedef struct {
+    uint32_t number;
+    size_t place;
+    uint32_t features;
+    uint32_t trees;
+    uint32_t nodes;
+} TailboardyModelTold;
+
 /* Grows one tree. Refusals: 1, 2, 3, 4, 11, 12, 13, 6, 7.
  * Required lengths: at least 2 x kept rows - 1, and at least 1, for the six columns of nodes (a row is kept if its count is above 0
  * and its weight, if there are weights, is above 0); at least features x rows for `order`, rows for `scratch`, the greater of rows
@@ -166,8 +197,7 @@ TailboardyTreeTold tailboardy_fit_tree(
     const uint32_t *listings, size_t listings_length,
     const uint32_t *words, size_t words_length,
     const double *thresholds, size_t thresholds_length,
-    size_t rows,
-    size_t features,
+    size_t rows, size_t features,
     TailboardyTreeSettings plain);
 
 /* Grows a forest. Refusals: 1, 2, 3, 4, 11, 12, 13, 6, 7.
@@ -205,16 +235,13 @@ TailboardyRefusal tailboardy_fit_forest(
     const double *thresholds, size_t thresholds_length,
     const size_t *word_starts, size_t word_starts_length,
     const size_t *threshold_starts, size_t threshold_starts_length,
-    size_t rows,
-    size_t features,
-    size_t trees,
+    size_t rows, size_t features, size_t trees,
     TailboardyForestSettings plain);
 
 /* The value of the leaf that each row reaches. Refusals: 1, 2, 6, 8. The tree is made of all entries of the columns; `out` has one
  * entry per row. */
 uint32_t tailboardy_predict_tree(
-    size_t rows,
-    size_t features,
+    size_t rows, size_t features,
     const double *values, size_t values_length,
     const double *value, size_t value_length,
     const uint32_t *feature, size_t feature_length,
@@ -226,9 +253,7 @@ uint32_t tailboardy_predict_tree(
 
 /* The mean of the trees' predictions for each row. Refusals: 1, 2, 6, 8. `out` has one entry per row. */
 uint32_t tailboardy_forest_means(
-    size_t rows,
-    size_t features,
-    size_t trees,
+    size_t rows, size_t features, size_t trees,
     const double *values, size_t values_length,
     const uint32_t *starts, size_t starts_length,
     const double *value, size_t value_length,
@@ -242,9 +267,7 @@ uint32_t tailboardy_forest_means(
 /* For each row the mean over the trees in which its count is 0, or NaN if there are none. Refusals: 1, 9, 10, 2, 6, 8. `out` has one
  * entry per row. */
 uint32_t tailboardy_out_of_bag_means(
-    size_t rows,
-    size_t features,
-    size_t trees,
+    size_t rows, size_t features, size_t trees,
     const double *values, size_t values_length,
     const uint32_t *counts, size_t counts_length,
     const uint32_t *starts, size_t starts_length,
@@ -259,9 +282,7 @@ uint32_t tailboardy_out_of_bag_means(
 /* The scores of the splits, added up by feature and divided by `mass` if `by_mass` is true, and by their total otherwise, provided that
  * the divisor is above 0. Refusals: 1, 6, 8. `out` has one entry per feature. */
 uint32_t tailboardy_tree_importances(
-    size_t features,
-    bool by_mass,
-    double mass,
+    size_t features, bool by_mass, double mass,
     const double *value, size_t value_length,
     const uint32_t *feature, size_t feature_length,
     const double *threshold, size_t threshold_length,
@@ -273,8 +294,7 @@ uint32_t tailboardy_tree_importances(
 /* The mean of the trees' importances, each divided by its total, and then divided by the total of these means if that is above 0.
  * Refusals: 1, 6, 8. `out` has one entry per feature. */
 uint32_t tailboardy_forest_importances(
-    size_t features,
-    size_t trees,
+    size_t features, size_t trees,
     const uint32_t *starts, size_t starts_length,
     const double *value, size_t value_length,
     const uint32_t *feature, size_t feature_length,
@@ -297,8 +317,7 @@ TailboardyErrorTold tailboardy_out_of_bag_error(
  * met before in this listing (12), and whether its value is below that of the row at the place before (13). This check accepts a NaN,
  * which a fit refuses: it is below nothing, and nothing is below it. */
 TailboardyRefusal tailboardy_check_listings(
-    size_t rows,
-    size_t features,
+    size_t rows, size_t features,
     const double *values, size_t values_length,
     const uint32_t *listings, size_t listings_length);
 
@@ -314,8 +333,7 @@ uint32_t tailboardy_check_tree(
 
 /* Checks that the starts and all trees are valid. Refusals: 1, 6, 8. */
 uint32_t tailboardy_check_forest(
-    size_t features,
-    size_t trees,
+    size_t features, size_t trees,
     const uint32_t *starts, size_t starts_length,
     const double *value, size_t value_length,
     const uint32_t *feature, size_t feature_length,
@@ -334,6 +352,44 @@ TailboardyNodeTold tailboardy_read_node(
     const uint32_t *true_child, size_t true_child_length,
     const uint32_t *false_child, size_t false_child_length,
     size_t k);
+
+/* How many bytes the file of a forest has. Refusals: 1, 6, 8. */
+TailboardySizeTold tailboardy_model_size(
+    size_t features, size_t trees,
+    const uint32_t *starts, size_t starts_length,
+    const double *value, size_t value_length,
+    const uint32_t *feature, size_t feature_length,
+    const double *threshold, size_t threshold_length,
+    const double *score, size_t score_length,
+    const uint32_t *true_child, size_t true_child_length,
+    const uint32_t *false_child, size_t false_child_length);
+
+/* Writes the file of a forest to the front of `file`, whose further bytes are unchanged, and tells how many bytes were written.
+ * Refusals: 1, 6 if `starts` is too short, 8, 6 if `file` is too short. */
+TailboardySizeTold tailboardy_write_model(
+    size_t features, size_t trees,
+    const uint32_t *starts, size_t starts_length,
+    const double *value, size_t value_length,
+    const uint32_t *feature, size_t feature_length,
+    const double *threshold, size_t threshold_length,
+    const double *score, size_t score_length,
+    const uint32_t *true_child, size_t true_child_length,
+    const uint32_t *false_child, size_t false_child_length,
+    uint8_t *file, size_t file_length);
+
+/* Reads a forest from the bytes of a file, all of them. Refusals: of the fields in their order the first that is cut short (14), is
+ * not the mark or the version (15), or says what no valid forest has, or a NaN other than the one that is written (16); 17; 6.
+ * Required lengths: at least as many entries as the file has nodes for the six columns, and at least trees + 1 for `starts`.
+ * Afterwards the trees are at the front of the columns and `starts` says where each begins; the entries after them are unchanged. */
+TailboardyModelTold tailboardy_read_model(
+    double *value, size_t value_length,
+    uint32_t *feature, size_t feature_length,
+    double *threshold, size_t threshold_length,
+    double *score, size_t score_length,
+    uint32_t *true_child, size_t true_child_length,
+    uint32_t *false_child, size_t false_child_length,
+    uint32_t *starts, size_t starts_length,
+    const uint8_t *file, size_t file_length);
 
 #ifdef __cplusplus
 }

@@ -59,6 +59,7 @@ static size_t size_of(char entry) {
     case 'u': return sizeof(uint32_t);
     case 'z': return sizeof(size_t);
     case 'b': return sizeof(bool);
+    case 'y': return sizeof(uint8_t);
     case 'w': return sizeof(Wholes);
     default: return sizeof(Reals);
     }
@@ -229,10 +230,40 @@ static void read_node(void) {
     give_slices(taken);
 }
 
+static void tell_size(TailboardySizeTold told) {
+    tell(told.number);
+    tell(told.bytes);
+}
+
+static void model_size(void) {
+    size_t features = number(), trees = number();
+    take_slices("u" COLUMNS);
+    tell_size(tailboardy_model_size(features, trees, U(0), COLUMNS_AT(1)));
+    give_slices(taken);
+}
+
+static void write_model(void) {
+    size_t features = number(), trees = number();
+    take_slices("u" COLUMNS "y");
+    tell_size(tailboardy_write_model(features, trees, U(0), COLUMNS_AT(1), S(uint8_t, 7)));
+    give_slices(7);
+}
+
+static void read_model(void) {
+    take_slices("y" COLUMNS "u");
+    TailboardyModelTold told = tailboardy_read_model(COLUMNS_AT(1), U(7), S(uint8_t, 0));
+    tell(told.number);
+    tell(told.place);
+    tell(told.features);
+    tell(told.trees);
+    tell(told.nodes);
+    give_slices(1);
+}
+
 // By kind; the two ways to divide a tree's importances are one call.
 static void (*const calls[])(void) = {
     NULL, fit_tree, fit_forest, predict_tree, forest_means, out_of_bag_means, tree_importances, NULL, forest_importances,
-    out_of_bag_error, check_listings, check_tree, check_forest, read_node,
+    out_of_bag_error, check_listings, check_tree, check_forest, read_node, model_size, write_model, read_model,
 };
 
 int main(void) {

@@ -1,21 +1,26 @@
 //! Compares both judges on generated inputs or on the fixed list.
 
-use crate::call::calls::Call;
+use crate::call::calls::{Call, Reader};
 use crate::call::fault::Fault;
 use crate::damage::faults;
+use crate::damage::file as damage_file;
 use crate::damage::fit as damage_fit;
 use crate::damage::listing;
+use crate::damage::misread;
 use crate::damage::places;
 use crate::damage::read as damage_read;
 use crate::differences;
+use crate::files;
 use crate::judge::case::{self, Case};
 use crate::left_out;
+use crate::limits::file as limits_file;
 use crate::limits::fit as limits_fit;
 use crate::limits::listings as limits_listings;
 use crate::limits::read as limits_read;
 use crate::make::chance::Chance;
 use crate::make::crafted;
 use crate::make::exhaustive;
+use crate::make::file as make_file;
 use crate::make::fit as make_fit;
 use crate::make::fit::{SMALL, Size};
 use crate::make::listed;
@@ -65,7 +70,7 @@ pub fn make(chance: &mut Chance, size: Size) -> Case {
 fn make_growing(chance: &mut Chance, size: Size) -> Case {
     let bare = |case: &Case| match &case.call {
         Call::Fit(fit) => case.fault.none() && fit.words.len() <= fit.trees * fit.features,
-        Call::Read(_) => false,
+        Call::Read(_) | Call::File(_) => false,
     };
     let mut case = make(chance, size);
     for _ in 0..3 {
@@ -94,9 +99,45 @@ fn random(tally: &mut Tally, chance: &mut Chance, count: usize) {
     }
 }
 
+/// Tables whose file is to be written or its size told, half of them damaged.
+fn tables(tally: &mut Tally, chance: &mut Chance, count: usize) {
+    for number in 0..count {
+        let reader = chance.pick(&[Reader::ModelSize, Reader::WriteModel]);
+        let mut read = make_file::table(chance, reader);
+        let fault = match number % 2 {
+            0 => damage_read::damage(chance, &mut read),
+            _ => Fault::default(),
+        };
+        tally.hold(&Case::read(read, fault));
+    }
+}
+
+/// The calls about files: the golden file, files made by hand, tables, `count` damaged files, and some tables and files for which writing
+/// and reading must undo each other.
+fn of_files(tally: &mut Tally, count: usize) {
+    files::golden(tally);
+    misread::cases().iter().for_each(|case| tally.hold(case));
+    tables(tally, &mut Chance::new(11), count / 20);
+    damage_file::each(&mut Chance::new(12), count, |case| tally.hold(&case));
+    files::hold(tally, &mut Chance::new(13), count / 50);
+}
+
+/// The same, and those that are too many for a sample.
+fn all_of_files(tally: &mut Tally, count: usize) {
+    of_files(tally, count);
+    misread::each(|case| tally.hold(&case));
+    limits_file::each(&mut Chance::new(14), |case| tally.hold(&case));
+}
+
+/// The calls about files alone.
+pub fn files(mut tally: Tally, count: usize) -> ExitCode {
+    all_of_files(&mut tally, count);
+    tally.end("files", &Counts::each(0))
+}
+
 /// Compares generated cases, `count` of them random, damaged listings, what docs/DIFFERENCES.md says, smartcore's own `fit`s, trees with
-/// others that differ in rows left out, and small fits that cut at measured values.
-pub fn compare(mut tally: Tally, count: usize, least: &Counts) -> ExitCode {
+/// others that differ in rows left out, small fits that cut at measured values, and files, so many of which are damaged.
+pub fn compare(mut tally: Tally, count: usize, damaged: usize, least: &Counts) -> ExitCode {
     let mut chance = Chance::new(1);
     fixed().iter().for_each(|case| tally.hold(case));
     exhaustive::best(|case| tally.hold(&case));
@@ -116,14 +157,16 @@ pub fn compare(mut tally: Tally, count: usize, least: &Counts) -> ExitCode {
     left_out::hold(&mut tally, &mut Chance::new(6), count / 100);
     let measured = count / 2;
     splitting::each(&mut Chance::new(7), measured, |case| tally.hold(&case));
+    all_of_files(&mut tally, damaged);
     tally.end("compare", least)
 }
 
-/// The cases that are not random, `count` random ones and some damaged listings, for a short run.
+/// The cases that are not random, `count` random ones, as many damaged files and some damaged listings, for a short run.
 pub fn sample(mut tally: Tally, count: usize, least: &Counts) -> ExitCode {
     fixed().iter().for_each(|case| tally.hold(case));
     random(&mut tally, &mut Chance::new(4), count);
     listing::each(&mut Chance::new(10), count / 10, |case| tally.hold(&case));
+    of_files(&mut tally, count);
     tally.end("sample", least)
 }
 

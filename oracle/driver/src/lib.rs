@@ -4,6 +4,7 @@ pub mod call;
 pub mod compare;
 mod damage;
 mod differences;
+mod files;
 pub mod judge;
 mod left_out;
 mod limits;

@@ -7,7 +7,8 @@ use driver::make::chance::Chance;
 use driver::tally::{Counts, Tally};
 use std::process::ExitCode;
 
-const USE: &str = "compare [COUNT] | longest | replay LIST | each LIST paper|copy | pool COUNT
+const USE: &str =
+    "compare [COUNT] | files COUNT | longest | replay LIST | each LIST paper|copy | pool COUNT
 mutants FILE | mutant FILE NUMBER FROM TO | pick POOL FOUND";
 
 fn main() -> ExitCode {
@@ -16,6 +17,7 @@ fn main() -> ExitCode {
     match args.as_slice() {
         ["compare"] => return compared(600_000),
         ["compare", count] => return compared(number(count)),
+        ["files", count] => return compare::files(paper(), number(count)),
         ["longest"] => return compare::longest(paper()),
         ["replay", list] => return replayed(&[By::Library, By::Copy], list, false),
         ["each", list, "paper"] => return replayed(&[By::Library], list, true),
@@ -46,10 +48,11 @@ fn paper() -> Tally<'static> {
 /// At least half of the pairs of each kind must have a split.
 fn compared(count: usize) -> ExitCode {
     let least = Counts {
+        files: [1; 8],
         pairs: [count / 200; 2],
         ..Counts::each(1)
     };
-    compare::compare(paper(), count, &least)
+    compare::compare(paper(), count, count / 2, &least)
 }
 
 /// With `each`, a list of any cases is accepted, and every case that differs is reported.

@@ -12,6 +12,33 @@ use std::time::Instant;
 /// The numbers of the refusals, except that of a bad draw.
 const REFUSALS: [u64; 12] = [1, 2, 3, 4, 6, 8, 9, 10, 11, 12, 13, 18];
 
+/// What the calls about files show: the three that are answered, those refused for their bytes, by number, and the others.
+const FILES: [&str; 8] = [
+    "sizes told",
+    "files written",
+    "files read",
+    "refused by 14",
+    "by 15",
+    "by 16",
+    "by 17",
+    "for a table or a room",
+];
+
+/// Which of `FILES` a call with this refusal is.
+fn of_file(call: &Call, refusal: u64) -> Option<usize> {
+    let answered = match call {
+        Call::Read(read) if read.reader == Reader::ModelSize => 0,
+        Call::Read(read) if read.reader == Reader::WriteModel => 1,
+        Call::File(_) => 2,
+        _ => return None,
+    };
+    Some(match refusal {
+        0 => answered,
+        14..=17 => refusal as usize - 11,
+        _ => 7,
+    })
+}
+
 /// How many calls were answered, by kind, and how many refused, by number.
 #[derive(Clone, Copy)]
 pub struct Counts {
@@ -29,6 +56,8 @@ pub struct Counts {
     /// Among the trees and forests, those with cuts at measured values and a split: all, those with ties, with both zeros, and with
     /// one of the two as a threshold (`splits::shown`).
     pub measured: [usize; 4],
+    /// The calls about files (`FILES`). They are counted here alone.
+    pub files: [usize; FILES.len()],
     /// Pairs of trees with a split that differ in rows left out: with cuts halfway, and at measured values.
     pub pairs: [usize; 2],
 }
@@ -40,7 +69,7 @@ fn count<const N: usize>(counts: &mut [usize; N], shown: [bool; N]) {
 }
 
 impl Counts {
-    /// The same number of every kind, but no pairs, which only `compare` has.
+    /// The same number of every kind, but no files, which the list does not have, and no pairs, which only `compare` has.
     pub const fn each(count: usize) -> Self {
         Counts {
             trees: count,
@@ -52,12 +81,17 @@ impl Counts {
             refusals: [count; REFUSALS.len()],
             damaged: [count; SHOWN.len()],
             measured: [count; 4],
+            files: [0; FILES.len()],
             pairs: [0; 2],
         }
     }
 
     fn add(&mut self, call: &Call, answer: &[u64]) {
         let refusal = answer[0];
+        if let Some(place) = of_file(call, refusal) {
+            self.files[place] += 1;
+            return;
+        }
         if let (0, Call::Fit(fit)) = (refusal, call)
             && fit.measured()
         {
@@ -74,6 +108,7 @@ impl Counts {
                 Reader::Node => &mut self.nodes,
                 _ => &mut self.readers,
             },
+            (0, Call::File(_)) => unreachable!("counted with the files"),
             (7, _) => &mut self.bad_draws,
             (number, _) => {
                 let place = REFUSALS.iter().position(|refusal| *refusal == number);
@@ -88,7 +123,7 @@ impl Counts {
         let answered = [self.trees, self.forests, self.readers];
         let others = [self.nodes, self.checks, self.bad_draws];
         let all = answered.into_iter().chain(others);
-        all.chain(self.refusals)
+        all.chain(self.refusals).chain(self.files)
     }
 
     /// Every number that has a minimum.
@@ -114,6 +149,14 @@ impl Counts {
         Ok(())
     }
 
+    fn tell_files(&self, to: &mut fmt::Formatter) -> fmt::Result {
+        write!(to, " of files:")?;
+        for (what, count) in FILES.iter().zip(self.files) {
+            write!(to, " {count} {what},")?;
+        }
+        Ok(())
+    }
+
     fn tell_measured(&self, to: &mut fmt::Formatter) -> fmt::Result {
         let [cut, ties, zeros, at_zero] = self.measured;
         let [halfway, measured] = self.pairs;
@@ -124,7 +167,7 @@ impl Counts {
         write!(to, "{halfway} halfway, {measured} at measured values")
     }
 
-    /// Forests, readers and refusals: all but the trees grown.
+    /// Forests, readers, refusals and files: all but the trees grown.
     fn beside_trees(&self) -> usize {
         self.kinds().skip(1).sum()
     }
@@ -149,6 +192,7 @@ impl fmt::Display for Counts {
         write!(to, "{readers} answers of readers, {nodes} nodes read out, ")?;
         write!(to, "{checks} checks passed, {bad_draws} bad draws, ")?;
         self.tell_refused(to)?;
+        self.tell_files(to)?;
         self.tell_measured(to)
     }
 }

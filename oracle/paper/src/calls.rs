@@ -100,6 +100,17 @@ impl Refusal {
     }
 }
 
+/// What the reading of a file tells: 0, or the number of a refusal and the byte at which what is refused begins; and of a file that was
+/// read, how large its forest is.
+#[derive(Clone, Copy, Debug, Default)]
+pub struct ModelAnswer {
+    pub number: u32,
+    pub place: usize,
+    pub features: u32,
+    pub trees: u32,
+    pub nodes: u32,
+}
+
 #[derive(Clone, Copy, Debug, Default)]
 pub struct TreeAnswer {
     pub refusal: Refusal,

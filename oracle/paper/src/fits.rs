@@ -90,7 +90,8 @@ fn bad_draw(tree: usize, search: u32) -> Refusal {
     }
 }
 
-fn write(nodes: &[Record], columns: &mut Columns, from: usize) {
+/// Writes nodes to the columns from a position on.
+pub fn write(nodes: &[Record], columns: &mut Columns, from: usize) {
     for (place, node) in nodes.iter().enumerate() {
         columns.value[from + place] = node.value;
         columns.feature[from + place] = node.feature;

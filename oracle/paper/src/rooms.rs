@@ -51,6 +51,12 @@ pub struct ForestRooms<'a> {
     pub work: Work<'a>,
 }
 
+/// Where a forest is put that is read from a file.
+pub struct ModelRooms<'a> {
+    pub nodes: Columns<'a>,
+    pub starts: &'a mut [u32],
+}
+
 /// Node columns as a reader is given them.
 #[derive(Clone, Copy)]
 pub struct Table<'a> {

@@ -10,8 +10,8 @@ mod waiting;
 use driver::call::outcome::bits;
 use driver::judge::library::Library;
 use paper::{
-    CutAt, Divisor, ForestCall, ForestRooms, Given, Numbers, Refusal, Splitter, Table, TreeAnswer,
-    TreeCall, TreeRooms,
+    CutAt, Divisor, ForestCall, ForestRooms, Given, ModelAnswer, ModelRooms, Numbers, Refusal,
+    Splitter, Table, TreeAnswer, TreeCall, TreeRooms,
 };
 pub use served::named as served;
 use tailboardy_sys::{ForestSettings, TreeSettings};
@@ -19,7 +19,7 @@ use waiting::Stack;
 
 pub struct Proved;
 
-/// A call whose arguments include the six columns of a table, in the middle.
+/// A call whose arguments include the six columns of a table, or of the rooms for one, in the middle.
 macro_rules! over {
     ($call:ident($($before:expr),*; $table:ident; $($after:expr),*)) => {
         either::$call(
@@ -210,6 +210,35 @@ impl Library for Proved {
             true_child,
             false_child,
         ]
+    }
+
+    fn model_size(&self, features: usize, trees: usize, t: &Table, starts: &[u32]) -> (u32, usize) {
+        let told = over!(model_size(features, trees, starts; t;));
+        (told.number, told.bytes)
+    }
+
+    fn write_model(
+        &self,
+        features: usize,
+        trees: usize,
+        t: &Table,
+        starts: &[u32],
+        out: &mut [u8],
+    ) -> (u32, usize) {
+        let told = over!(write_model(features, trees, starts; t; out));
+        (told.number, told.bytes)
+    }
+
+    fn read_model(&self, file: &[u8], rooms: &mut ModelRooms) -> ModelAnswer {
+        let ModelRooms { nodes, starts } = rooms;
+        let told = over!(read_model(; nodes; starts, file));
+        ModelAnswer {
+            number: told.number,
+            place: told.place,
+            features: told.features,
+            trees: told.trees,
+            nodes: told.nodes,
+        }
     }
 }
 

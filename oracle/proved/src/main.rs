@@ -22,11 +22,17 @@ const FULL: Counts = Counts {
         53_000, 51_500, 288_000, 35_000, 91_500, 187_500, 312_000, 36_000,
     ],
     measured: [220_000, 160_000, 85_000, 55_000],
+    files: [
+        13_000, 13_000, 190_000, 200_000, 94_000, 630_000, 114_000, 65_000,
+    ],
     pairs: [3_000, 3_300],
 };
 
 /// in a sample, and in the list.
-const SAMPLE: Counts = Counts::each(50);
+const SAMPLE: Counts = Counts {
+    files: [50; 8],
+    ..Counts::each(50)
+};
 const LIST: Counts = Counts::each(1);
 
 fn main() -> ExitCode {
@@ -39,14 +45,20 @@ fn main() -> ExitCode {
     let tally = Tally::new(what, &Proved, Some(&Paper));
     let number = |word: &str| word.parse().expect("a number");
     match args.as_slice() {
-        ["compare"] => compare::compare(tally, 600_000, &FULL),
-        ["compare", count] => compare::compare(tally, number(count), &FULL),
+        ["compare"] => compared(tally, 600_000),
+        ["compare", count] => compared(tally, number(count)),
         ["sample", count] => compare::sample(tally, number(count), &SAMPLE),
+        ["files", count] => compare::files(tally, number(count)),
         ["longest"] => compare::longest(tally),
         ["replay", list] => compare::replay(tally, &[By::Library], list, false, &LIST),
         _ => {
-            eprintln!("compare [COUNT] | sample COUNT | longest | replay LIST");
+            eprintln!("compare [COUNT] | sample COUNT | files COUNT | longest | replay LIST");
             ExitCode::from(2)
         }
     }
+}
+
+/// Three files are damaged for each random input.
+fn compared(tally: Tally, count: usize) -> ExitCode {
+    compare::compare(tally, count, 3 * count, &FULL)
 }

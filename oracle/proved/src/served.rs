@@ -128,6 +128,8 @@ fields! {
     Refusal: number part place row;
     ErrorTold: number error rows;
     NodeTold: number there value feature threshold score true_child false_child;
+    SizeTold: number bytes;
+    ModelTold: number place features trees nodes;
 }
 
 /// An entry of a slice, in as many bytes as it has in memory.
@@ -148,7 +150,7 @@ macro_rules! entries {
         }
     )*};
 }
-entries!(u32 usize f64);
+entries!(u8 u32 usize f64);
 
 impl Entry for bool {
     fn put(&self, sent: &mut Vec<u8>) {

@@ -95,6 +95,28 @@ pub struct NodeTold {
     pub false_child: u32,
 }
 
+/// 0 or the number of a refusal, and the number of bytes of a model's file.
+#[repr(C)]
+#[derive(Debug, Clone, Copy, PartialEq, Eq)]
+#[allow(missing_docs)]
+pub struct SizeTold {
+    pub number: u32,
+    pub bytes: usize,
+}
+
+/// 0 or the number of a refusal; if a file is refused for its bytes, the byte at which what is refused begins; and the features, trees
+/// and nodes of the model that was read.
+#[repr(C)]
+#[derive(Debug, Clone, Copy, PartialEq, Eq)]
+#[allow(missing_docs)]
+pub struct ModelTold {
+    pub number: u32,
+    pub place: usize,
+    pub features: u32,
+    pub trees: u32,
+    pub nodes: u32,
+}
+
 /// Passes the list of calls to a macro. For each call it has the kind in the list of answers (oracle/README.md), the name and the symbol;
 /// the parameters passed by value; the slices that are written before the ones that are read, those that are read, and those that
 /// are written after them, with the types of their entries; the parameters that follow them; and the result. The structs above must be in scope where it is used.
@@ -145,6 +167,16 @@ macro_rules! calls {
             13 read_node = tailboardy_read_node(features: usize)
                 fills() reads(value: f64, feature: u32, threshold: f64, score: f64, true_child: u32, false_child: u32)
                 writes() (k: usize) -> NodeTold;
+            14 model_size = tailboardy_model_size(features: usize, trees: usize)
+                fills() reads(starts: u32, value: f64, feature: u32, threshold: f64, score: f64, true_child: u32, false_child: u32)
+                writes() () -> SizeTold;
+            15 write_model = tailboardy_write_model(features: usize, trees: usize)
+                fills() reads(starts: u32, value: f64, feature: u32, threshold: f64, score: f64, true_child: u32, false_child: u32)
+                writes(file: u8) () -> SizeTold;
+            16 read_model = tailboardy_read_model()
+                fills(value: f64, feature: u32, threshold: f64, score: f64, true_child: u32, false_child: u32, starts: u32)
+                reads(file: u8)
+                writes() () -> ModelTold;
         }
     };
 }

@@ -93,8 +93,11 @@ pub enum Reader {
     CheckTree,
     CheckForest,
     Node,
+    ModelSize,
+    WriteModel,
 }
 
+/// Those that the fixed list has.
 pub const READERS: [Reader; 11] = [
     Reader::Predictions,
     Reader::ForestMeans,
@@ -130,8 +133,18 @@ pub struct Read {
     pub out: usize,
 }
 
+/// The bytes of a model's file, and the lengths of the rooms that the model is to be put into.
+#[derive(Clone, Debug, Default)]
+pub struct File {
+    pub bytes: Vec<u8>,
+    /// value, feature, threshold, score, true child, false child
+    pub nodes: [usize; 6],
+    pub starts: usize,
+}
+
 #[derive(Clone, Debug)]
 pub enum Call {
     Fit(Fit),
     Read(Read),
+    File(File),
 }

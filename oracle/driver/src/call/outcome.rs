@@ -41,6 +41,13 @@ impl Room {
         }
     }
 
+    pub fn bytes(entries: &[u8]) -> Self {
+        Room {
+            fill: FILL,
+            entries: entries.iter().map(|byte| u64::from(*byte)).collect(),
+        }
+    }
+
     pub fn flags(entries: &[bool]) -> Self {
         Room {
             fill: 1,

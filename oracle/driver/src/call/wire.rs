@@ -1,6 +1,6 @@
 //! Converts calls to numbers and back. The same description of the fields is used in both directions.
 
-use crate::call::calls::{Call, Fit, READERS, Read, Reader, Table};
+use crate::call::calls::{Call, File, Fit, READERS, Read, Reader, Table};
 use crate::call::outcome::bits;
 
 /// Either writes the fields as numbers, or fills them from numbers.
@@ -134,10 +134,22 @@ fn read_fields(read: &mut Read, w: &mut Wire) {
     w.size(&mut read.out);
 }
 
-/// 1 for the fit of a tree, 2 for that of a forest, and from 3 on the readers in the order of `READERS`.
+fn file_fields(file: &mut File, w: &mut Wire) {
+    w.list(&mut file.bytes, |w, byte| {
+        w.via(byte, |b| u64::from(*b), |n| n as u8);
+    });
+    file.nodes.iter_mut().for_each(|length| w.size(length));
+    w.size(&mut file.starts);
+}
+
+/// 1 for the fit of a tree, 2 for that of a forest, from 3 on the readers in the order of `READERS`, and from 14 on the calls about
+/// files, which the list does not have.
 pub fn kind(call: &Call) -> u64 {
     match call {
         Call::Fit(fit) => 1 + u64::from(fit.forest),
+        Call::File(_) => 16,
+        Call::Read(read) if read.reader == Reader::ModelSize => 14,
+        Call::Read(read) if read.reader == Reader::WriteModel => 15,
         Call::Read(read) => {
             let place = READERS.iter().position(|reader| *reader == read.reader);
             3 + place.expect("a reader of the list") as u64
@@ -150,6 +162,7 @@ pub fn down(call: &Call) -> Vec<u64> {
     match call.clone() {
         Call::Fit(mut fit) => fit_fields(&mut fit, &mut wire),
         Call::Read(mut read) => read_fields(&mut read, &mut wire),
+        Call::File(mut file) => file_fields(&mut file, &mut wire),
     }
     match wire {
         Wire::Down(numbers) => numbers,

@@ -3,9 +3,13 @@
 use crate::call::calls::{Read, Reader};
 use crate::call::fault::Fault;
 use crate::damage::listing;
+use crate::judge::fields;
 use crate::make::chance::Chance;
 use crate::make::floats;
 use crate::make::read::is_forest;
+
+/// Stands for a room that is too short for a file, which is also refused by 6, but later than too few starts.
+const FILE_ROOM: u32 = 60;
 
 /// The refusals that a call can give, in the order of its checks. 11 stands for all three of a listing.
 fn order(reader: Reader) -> &'static [u32] {
@@ -18,7 +22,8 @@ fn order(reader: Reader) -> &'static [u32] {
         Reader::OutOfBagError => &[1, 2, 18],
         Reader::CheckListings => &[1, 2, 11],
         Reader::CheckTree | Reader::Node => &[1, 8],
-        Reader::CheckForest => &[1, 6, 8],
+        Reader::CheckForest | Reader::ModelSize => &[1, 6, 8],
+        Reader::WriteModel => &[1, 6, 8, FILE_ROOM],
     }
 }
 
@@ -53,6 +58,12 @@ fn one(chance: &mut Chance, read: &mut Read, number: u32) -> Fault {
         6 => rooms(chance, read),
         8 => table(chance, read),
         18 => no_mean(chance, read),
+        FILE_ROOM => {
+            let size = fields::bytes(&fields::of(read)).len();
+            let short = chance.below(size);
+            read.out = chance.pick(&[size - 1, short, 0]);
+            return Fault::from(6);
+        }
         9 => {
             read.counts.clear();
             true
@@ -88,6 +99,8 @@ fn sizes(chance: &mut Chance, read: &mut Read) -> bool {
             | Reader::CheckTree
             | Reader::CheckForest
             | Reader::Node
+            | Reader::ModelSize
+            | Reader::WriteModel
     );
     match chance.below(3) {
         0 if rows => read.rows = chance.pick(&[0, 65_536, usize::MAX]),
@@ -133,7 +146,10 @@ fn no_mean(chance: &mut Chance, read: &mut Read) -> bool {
 }
 
 fn rooms(chance: &mut Chance, read: &mut Read) -> bool {
-    let has_result = read.reader != Reader::CheckForest;
+    let has_result = !matches!(
+        read.reader,
+        Reader::CheckForest | Reader::ModelSize | Reader::WriteModel
+    );
     if is_forest(read.reader) && chance.one_in(4) && read.reader != Reader::OutOfBagMeans {
         // the largest number of trees, for which there are too few starts
         read.trees = 1_024;

@@ -1,9 +1,10 @@
 //! A case: a call, the fault in it, and the expected answer.
 
-use crate::call::calls::{Call, Fit, Read};
+use crate::call::calls::{Call, File, Fit, Read};
 use crate::call::fault::Fault;
 use crate::call::wire;
 use crate::judge::expect;
+use crate::judge::fields;
 use crate::judge::library::Library;
 use crate::judge::listings::Listings;
 use crate::judge::run;
@@ -26,6 +27,14 @@ impl Case {
         Case {
             call: Call::Read(read),
             fault: fault.into(),
+        }
+    }
+
+    /// A file, with the fault that is found in it by definition.
+    pub fn file(file: File) -> Self {
+        Case {
+            fault: fields::fault(&file),
+            call: Call::File(file),
         }
     }
 

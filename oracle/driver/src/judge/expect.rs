@@ -1,10 +1,11 @@
 //! The expected answer: that of the copy if smartcore has one, with other thresholds if they are to be measured values; otherwise the
 //! refusal for the fault in the input, with every room unchanged.
 
-use crate::call::calls::{Call, Fit, Read, Reader};
+use crate::call::calls::{Call, File, Fit, Read, Reader};
 use crate::call::fault::Fault;
 use crate::call::outcome::{FILL, FILL_FLOAT, Outcome, Room, bits};
 use crate::judge::copied::{data, params, tree_counts};
+use crate::judge::fields;
 use crate::judge::measured;
 use copy::harness::{self, Grown, NodeRecord, Readable, Tape};
 
@@ -13,6 +14,7 @@ pub fn expect(call: &Call, fault: Fault) -> Outcome {
     match call {
         Call::Fit(fit) => expect_fit(fit, fault),
         Call::Read(read) => expect_read(read, fault),
+        Call::File(file) => expect_file(file, fault),
     }
 }
 
@@ -26,6 +28,8 @@ pub fn judge(call: &Call, fault: Fault, answer: &[u64]) -> u64 {
                 | Reader::CheckTree
                 | Reader::CheckForest
                 | Reader::Node
+                | Reader::ModelSize
+                | Reader::WriteModel
         )
     };
     match call {
@@ -220,6 +224,7 @@ fn expect_read(read: &Read, fault: Fault) -> Outcome {
         Reader::Node => told.extend(expect_node(read, fault)),
         Reader::CheckListings => told = fault.told().to_vec(),
         Reader::CheckTree | Reader::CheckForest => (),
+        Reader::ModelSize | Reader::WriteModel => return expect_written(read, fault),
         _ => {
             let mut room = untouched(read.out, true);
             if fault.none() {
@@ -275,4 +280,41 @@ fn expect_node(read: &Read, fault: Fault) -> [u64; 7] {
         0 => [1, value, 0, 0, 0, 0, 0],
         _ => [1, value, feature, threshold, score, on_true, on_false],
     }
+}
+
+/// The number of bytes and, if they are to be written, the room with them.
+fn expect_written(read: &Read, fault: Fault) -> Outcome {
+    let bytes = match fault.none() {
+        true => fields::bytes(&fields::of(read)),
+        false => Vec::new(),
+    };
+    let mut rooms = Vec::new();
+    if read.reader == Reader::WriteModel {
+        let mut room = untouched(read.out, false);
+        put(&mut room, &Room::bytes(&bytes).entries);
+        rooms.push(room);
+    }
+    Outcome {
+        told: vec![u64::from(fault.number()), bytes.len() as u64],
+        rooms,
+    }
+}
+
+/// The refusal with its place, the features, trees and nodes, and the rooms with the model.
+fn expect_file(file: &File, fault: Fault) -> Outcome {
+    let [number, _, place, _] = fault.told();
+    let mut told = vec![number, place, 0, 0, 0];
+    let mut rooms: Vec<Room> = (0..6)
+        .map(|i| untouched(file.nodes[i], NODE_FLOATS[i]))
+        .collect();
+    rooms.push(untouched(file.starts, false));
+    if fault.none() {
+        let model = fields::model(&file.bytes);
+        let nodes = model.columns[0].len();
+        let trees = model.starts.len() - 1;
+        told[2..].copy_from_slice(&[model.features, trees as u64, nodes as u64]);
+        let columns = model.columns.iter().chain([&model.starts]);
+        rooms.iter_mut().zip(columns).for_each(|(r, c)| put(r, c));
+    }
+    Outcome { told, rooms }
 }

@@ -2,8 +2,8 @@
 
 use crate::call::outcome::bits;
 use paper::{
-    Divisor, ForestCall, ForestRooms, Kind, NodeRead, Refusal, Table, TreeAnswer, TreeCall,
-    TreeRooms,
+    Divisor, ForestCall, ForestRooms, Kind, ModelAnswer, ModelRooms, NodeRead, Refusal, Table,
+    TreeAnswer, TreeCall, TreeRooms,
 };
 
 /// All public calls.
@@ -51,6 +51,18 @@ pub trait Library {
     fn check_forest(&self, features: usize, trees: usize, t: &Table, starts: &[u32]) -> u32;
     /// The refusal, 1 if the node exists, then its value, feature, threshold, score, true child and false child.
     fn read_node(&self, features: usize, t: &Table, number: usize) -> [u64; 8];
+    /// The refusal, and how many bytes the file has.
+    fn model_size(&self, features: usize, trees: usize, t: &Table, starts: &[u32]) -> (u32, usize);
+    /// The same, once the file is written.
+    fn write_model(
+        &self,
+        features: usize,
+        trees: usize,
+        t: &Table,
+        starts: &[u32],
+        out: &mut [u8],
+    ) -> (u32, usize);
+    fn read_model(&self, file: &[u8], rooms: &mut ModelRooms) -> ModelAnswer;
 }
 
 /// The second judge.
@@ -121,6 +133,22 @@ impl Library for Paper {
     }
     fn read_node(&self, features: usize, t: &Table, number: usize) -> [u64; 8] {
         node_told(paper::read_node(features, t, number))
+    }
+    fn model_size(&self, features: usize, trees: usize, t: &Table, starts: &[u32]) -> (u32, usize) {
+        paper::model_size(features, trees, t, starts)
+    }
+    fn write_model(
+        &self,
+        features: usize,
+        trees: usize,
+        t: &Table,
+        starts: &[u32],
+        out: &mut [u8],
+    ) -> (u32, usize) {
+        paper::write_model(features, trees, t, starts, out)
+    }
+    fn read_model(&self, file: &[u8], rooms: &mut ModelRooms) -> ModelAnswer {
+        paper::read_model(file, rooms)
     }
 }
 

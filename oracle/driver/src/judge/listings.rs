@@ -40,6 +40,7 @@ impl<'a> From<&'a Call> for Listings<'a> {
         match call {
             Call::Fit(fit) => fit.into(),
             Call::Read(read) => read.into(),
+            Call::File(_) => unreachable!("a file has no listings"),
         }
     }
 }

@@ -1,11 +1,11 @@
 //! Makes a call of a library, in rooms filled with nines, and returns what it left.
 
-use crate::call::calls::{Call, Fit, Lengths, Read, Reader, Table};
+use crate::call::calls::{Call, File, Fit, Lengths, Read, Reader, Table};
 use crate::call::outcome::{FILL, FILL_FLOAT, Outcome, Room, bits};
 use crate::judge::library::Library;
 use paper::{
-    Columns, CutAt, Cuts, Divisor, Draws, ForestCall, ForestRooms, Given, Refusal, Reports,
-    Settings, Splitter, TreeCall, TreeRooms, Waiting, Work,
+    Columns, CutAt, Cuts, Divisor, Draws, ForestCall, ForestRooms, Given, ModelRooms, Refusal,
+    Reports, Settings, Splitter, TreeCall, TreeRooms, Waiting, Work,
 };
 
 pub fn run(library: &dyn Library, call: &Call) -> Outcome {
@@ -13,6 +13,7 @@ pub fn run(library: &dyn Library, call: &Call) -> Outcome {
         Call::Fit(fit) if fit.forest => run_forest(library, fit),
         Call::Fit(fit) => run_tree(library, fit),
         Call::Read(read) => run_read(library, read),
+        Call::File(file) => run_file(library, file),
     }
 }
 
@@ -88,17 +89,21 @@ impl Owned {
         }
     }
 
-    fn rooms(&self, forest: bool) -> Vec<Room> {
+    fn node_rooms(&self) -> Vec<Room> {
         let [value, threshold, score] = &self.floats;
         let [feature, true_child, false_child] = &self.numbers;
-        let mut rooms = vec![
+        vec![
             Room::floats(value),
             Room::numbers(feature),
             Room::floats(threshold),
             Room::floats(score),
             Room::numbers(true_child),
             Room::numbers(false_child),
-        ];
+        ]
+    }
+
+    fn rooms(&self, forest: bool) -> Vec<Room> {
+        let mut rooms = self.node_rooms();
         if forest {
             let [nodes, depth, searches, words, thresholds] = &self.report_numbers;
             rooms.push(Room::numbers(&self.starts));
@@ -252,11 +257,41 @@ fn run_read(library: &dyn Library, read: &Read) -> Outcome {
             return told_only(vec![u64::from(refusal)]);
         }
         Reader::Node => return told_only(library.read_node(features, &t, read.node).to_vec()),
+        Reader::ModelSize => {
+            let (refusal, bytes) = library.model_size(features, trees, &t, starts);
+            return told_only(vec![u64::from(refusal), bytes as u64]);
+        }
+        Reader::WriteModel => return run_write(library, read),
     };
     Outcome {
         told: vec![u64::from(refusal)],
         rooms: vec![Room::floats(&out)],
     }
+}
+
+fn run_write(library: &dyn Library, read: &Read) -> Outcome {
+    let (t, starts) = (table(&read.table), &read.starts);
+    let mut out = vec![FILL as u8; read.out];
+    let (refusal, bytes) = library.write_model(read.features, read.trees, &t, starts, &mut out);
+    Outcome {
+        told: vec![u64::from(refusal), bytes as u64],
+        rooms: vec![Room::bytes(&out)],
+    }
+}
+
+fn run_file(library: &dyn Library, file: &File) -> Outcome {
+    let mut owned = Owned::new(&Lengths {
+        nodes: file.nodes,
+        starts: file.starts,
+        ..Lengths::default()
+    });
+    let ForestRooms { nodes, starts, .. } = owned.lend();
+    let answer = library.read_model(&file.bytes, &mut ModelRooms { nodes, starts });
+    let mut told = vec![u64::from(answer.number), answer.place as u64];
+    told.extend([answer.features, answer.trees, answer.nodes].map(u64::from));
+    let mut rooms = owned.node_rooms();
+    rooms.push(Room::numbers(&owned.starts));
+    Outcome { told, rooms }
 }
 
 fn told_only(told: Vec<u64>) -> Outcome {

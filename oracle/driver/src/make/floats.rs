@@ -88,6 +88,21 @@ pub fn nan(chance: &mut Chance) -> f64 {
     f64::from_bits(chance.pick(&NANS))
 }
 
+/// Any pattern: one in three is a NaN, of either sign, quiet or signalling, with any payload; another one in three is an infinity, a zero,
+/// the smallest or the largest subnormal, or one of those next to them.
+pub fn pattern(chance: &mut Chance) -> u64 {
+    let sign = chance.word() & 1 << 63;
+    let infinity = f64::INFINITY.to_bits();
+    let payload = (chance.word() >> 12).max(1) & chance.pick(&[u64::MAX, 0xFF]);
+    match chance.below(6) {
+        0 => chance.pick(&NANS),
+        1 => sign | infinity | payload.max(1),
+        2 => sign | chance.pick(&[0, 1, 2, infinity, infinity - 1]),
+        3 => sign | chance.pick(&[(1 << 52) - 1, 1 << 52, 1.5f64.to_bits()]),
+        _ => chance.word(),
+    }
+}
+
 /// Floats that a reader may be given: any bits, including NaN and the infinities.
 pub fn anything(chance: &mut Chance, n: usize) -> Vec<f64> {
     let mut list = finite(chance, n);

@@ -3,8 +3,10 @@
 pub mod chance;
 pub mod crafted;
 pub mod exhaustive;
+pub mod file;
 pub mod fit;
 pub mod floats;
+pub mod golden;
 pub mod listed;
 pub mod lower;
 pub mod read;

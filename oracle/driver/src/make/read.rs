@@ -151,7 +151,7 @@ fn over_table(chance: &mut Chance, read: &mut Read, rows: usize) {
 }
 
 /// Trees one after another; there may be further entries and starts after the last.
-fn forest(chance: &mut Chance, read: &mut Read) {
+pub fn forest(chance: &mut Chance, read: &mut Read) {
     read.trees = chance.within(1, 4);
     read.starts.push(0);
     for _ in 0..read.trees {
@@ -173,6 +173,8 @@ pub fn is_forest(reader: Reader) -> bool {
             | Reader::OutOfBagMeans
             | Reader::ForestImportances
             | Reader::CheckForest
+            | Reader::ModelSize
+            | Reader::WriteModel
     )
 }
 
