@@ -1,16 +1,17 @@
-//! Says where a refused input is wrong, so that a person can correct it. The library tells the place of a damaged listing and of a bad
-//! draw; any other is found by plain Rust that runs after the library has refused, and decides nothing.
+//! Says where a refused input is wrong, so that a person can correct it. The library tells the place of a damaged listing, of a bad draw
+//! and of a damaged model file; any other is found by plain Rust that runs after the library has refused, and decides nothing.
 
 use crate::columns::Columns;
 use crate::counts::bad_weight;
 use crate::draws::Draws;
 use crate::fault::Fault;
+use crate::fields;
 use crate::given::Given;
 use crate::limits::MAX_ROWS;
 use crate::matrix::DenseMatrix;
 use crate::refusal::Refusal;
 use crate::sizes;
-use tailboardy_sys::Refusal as Told;
+use tailboardy_sys::{ModelTold, Refusal as Told};
 
 /// The refusal of a fit of `trees` trees.
 pub(crate) fn fit(told: &Told, given: &Given, trees: usize, draws: Option<&Draws>) -> Refusal {
@@ -94,6 +95,13 @@ fn count(given: &Given) -> Option<Fault> {
 pub(crate) fn reader(x: &DenseMatrix, features: usize) -> Option<Fault> {
     sizes::fault(x.shape().0.min(MAX_ROWS), features, 1)
         .or_else(|| Fault::length("values per row", x.shape().1, features))
+}
+
+/// The refusal of a model file. What the walk finds is told only if it is what the library refused.
+pub(crate) fn model(told: &ModelTold, bytes: &[u8]) -> Refusal {
+    let fault = fields::fault(bytes, told.place);
+    let same = fault.place == told.place && fault.breach.cause().number() == told.number;
+    Refusal::of(told.number, same.then_some(Fault::Model(fault)))
 }
 
 pub(crate) fn tree(features: usize, columns: Columns) -> Option<Fault> {

@@ -1,6 +1,7 @@
 //! What is wrong with an input, and where.
 
 use crate::limits::{MAX_FEATURES, MAX_ROWS, MAX_TREES};
+use crate::misread::ModelFault;
 use std::fmt;
 
 /// What is wrong, and where. Rows, features, trees, nodes and positions are counted from 0.
@@ -50,6 +51,8 @@ pub enum Fault {
     Listing(ListingFault),
     /// The tree and search whose draw is missing or out of range, as the proved library tells them.
     Draw { tree: usize, search: usize },
+    /// The first field of a model file that cannot be read, at the place that the proved library tells.
+    Model(ModelFault),
     /// The first position where a table of starts is wrong.
     Starts { place: usize },
     /// The first node that is neither a leaf nor a valid split.
@@ -175,6 +178,7 @@ impl fmt::Display for Fault {
                 )
             }
             Fault::Listing(fault) => fault.fmt(f),
+            Fault::Model(fault) => fault.fmt(f),
             Fault::Draw { tree, search } => {
                 write!(
                     f,

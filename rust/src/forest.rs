@@ -286,7 +286,7 @@ impl RandomForestRegressor {
         (0..self.n_trees()).filter_map(|tree| self.tree(tree))
     }
 
-    /// What the fit reported about each tree; empty for a forest made from a table.
+    /// What the fit reported about each tree; empty for a forest made from a table or a model file.
     #[must_use]
     pub fn reports(&self) -> &[Report] {
         &self.reports

@@ -26,9 +26,9 @@
 //!
 //! # What is proved, and what is not
 //!
-//! The proved library grows every tree and computes every prediction, mean, out-of-bag mean, error and importance. It also decides
-//! whether sizes, numbers, counts, listings, draws and tables are valid, and refuses those that are not with a number ([`Cause`]).
-//! It terminates on every input.
+//! The proved library grows every tree, computes every prediction, mean, out-of-bag mean, error and importance, and turns forests into
+//! the bytes of model files and back. It also decides whether sizes, numbers, counts, listings, draws, tables and model files are valid,
+//! and refuses those that are not with a number ([`Cause`]). It terminates on every input.
 //!
 //! The following is plain Rust in this crate, tested but not proved:
 //!
@@ -39,7 +39,8 @@
 //!   ([`RandomForestRegressor::fit_given`] is a single call of the library, and gives the same forest bit for bit);
 //! - predicting more than [`MAX_ROWS`] rows in parts, and joining these;
 //! - refusing results that are not finite ([`Cause::NotFinite`]), which the library returns as smartcore does;
-//! - finding the place of what was refused ([`Fault`]), except that of a damaged listing and of a bad draw, which the library tells;
+//! - finding the place of what was refused ([`Fault`]), except that of a damaged listing, of a bad draw and of a damaged model file,
+//!   which the library tells;
 //! - the list of calls through which the library is linked, in `tailboardy-sys`, the only place with `unsafe`.
 //!
 //! Nothing here panics, whatever the input. Running out of memory ends the program, as it does everywhere in Rust.
@@ -53,6 +54,7 @@ mod counts;
 mod draws;
 mod explain;
 mod fault;
+mod fields;
 mod finite;
 mod fitting;
 mod forest;
@@ -61,6 +63,8 @@ mod grow;
 mod limits;
 mod listings;
 mod matrix;
+mod misread;
+mod model;
 mod nodes;
 mod parameters;
 mod parts;
@@ -82,6 +86,8 @@ pub use given::Given;
 pub use limits::{MAX_FEATURES, MAX_ROWS, MAX_TREES};
 pub use listings::Listings;
 pub use matrix::DenseMatrix;
+pub use misread::{Field, Misread, ModelFault};
+pub use model::ModelError;
 pub use nodes::{Kind, Node, Split, Tree};
 pub use parameters::{
     Cuts, DecisionTreeRegressorParameters, RandomForestRegressorParameters, Splitter,

@@ -1,12 +1,13 @@
 //! Refusals: a number, a name, what is wrong and where, and what to do about it.
 
 use crate::fault::{Breach, Fault};
+use crate::misread::Misread;
 use std::error::Error;
 use std::fmt;
 
 /// Why a call was refused. The number comes from the proved library, except 100, by which this crate refuses a result that is not
-/// finite. The [`Fault`] tells a person where to look. The place of a damaged listing and of a bad draw comes from the library too;
-/// any other is found by plain Rust code that examines the same input.
+/// finite. The [`Fault`] tells a person where to look. The place of a damaged listing, of a bad draw and of a damaged model file comes
+/// from the library too; any other is found by plain Rust code that examines the same input.
 ///
 /// ```
 /// use tailboardy::{Cause, DenseMatrix, RandomForestRegressor};
@@ -41,7 +42,7 @@ pub struct Refusal {
 /// # Ok::<(), tailboardy::Refusal>(())
 /// ```
 ///
-/// 1 to 4, 6 to 13 and 18 are the proved library's, numbered as in the table of docs/RULES.md; 100 is this crate's own.
+/// 1 to 4 and 6 to 18 are the proved library's, numbered as in the table of docs/RULES.md; 100 is this crate's own.
 #[derive(Debug, Clone, Copy, PartialEq, Eq, Hash)]
 #[non_exhaustive]
 pub enum Cause {
@@ -69,6 +70,14 @@ pub enum Cause {
     RowTwice,
     /// 13: in a listing, the value of a row is lower than that of the row before it.
     ValueFalls,
+    /// 14: a model file ends early.
+    FileEnds,
+    /// 15: a file does not begin with the mark and the version of a model file.
+    Mark,
+    /// 16: a field of a model file has a number that it may not have.
+    Field,
+    /// 17: bytes follow the last node of a model file.
+    LeftOver,
     /// 18: an out-of-bag error was requested, but no row has an out-of-bag mean.
     NoMeans,
     /// 100: a result is not finite. The library returns such a result, as smartcore does; this crate does not pass it on.
@@ -77,7 +86,7 @@ pub enum Cause {
     Unlisted(u32),
 }
 
-const CAUSES: [Cause; 13] = [
+const CAUSES: [Cause; 17] = [
     Cause::Sizes,
     Cause::Lengths,
     Cause::Numbers,
@@ -90,6 +99,10 @@ const CAUSES: [Cause; 13] = [
     Cause::NoSuchRow,
     Cause::RowTwice,
     Cause::ValueFalls,
+    Cause::FileEnds,
+    Cause::Mark,
+    Cause::Field,
+    Cause::LeftOver,
     Cause::NoMeans,
 ];
 
@@ -115,13 +128,17 @@ impl Cause {
             Cause::NoSuchRow => 11,
             Cause::RowTwice => 12,
             Cause::ValueFalls => 13,
+            Cause::FileEnds => 14,
+            Cause::Mark => 15,
+            Cause::Field => 16,
+            Cause::LeftOver => 17,
             Cause::NoMeans => 18,
             Cause::NotFinite => 100,
             Cause::Unlisted(number) => number,
         }
     }
 
-    /// A name of one or two words.
+    /// A name of a few words.
     #[must_use]
     pub fn name(self) -> &'static str {
         match self {
@@ -137,6 +154,10 @@ impl Cause {
             Cause::NoSuchRow => "no such row",
             Cause::RowTwice => "row twice",
             Cause::ValueFalls => "value falls",
+            Cause::FileEnds => "file ends early",
+            Cause::Mark => "not such a file",
+            Cause::Field => "bad field",
+            Cause::LeftOver => "bytes left over",
             Cause::NoMeans => "no means",
             Cause::NotFinite => "not finite",
             Cause::Unlisted(_) => "unlisted",
@@ -169,6 +190,12 @@ impl Cause {
             }
             Cause::RowTwice => "sort the rows of this feature again, with each row exactly once",
             Cause::ValueFalls => "sort the rows of this feature again, in ascending order of value",
+            Cause::FileEnds => "the file is cut off: copy it again, or write it again",
+            Cause::Mark => {
+                "this is not a model file, or one of another version: choose another file, or write it again"
+            }
+            Cause::Field => "the file is damaged: copy it again, or write it again",
+            Cause::LeftOver => "something was added to the file: copy it again, or write it again",
             Cause::NoMeans => "use bootstrap, two rows or more, and enough trees",
             Cause::NotFinite => {
                 "the targets or weights are too large, or the weights too small, to calculate with: multiply or divide all of them by a constant"
@@ -187,6 +214,19 @@ impl Breach {
             Breach::Twice { .. } => Cause::RowTwice,
             Breach::Falls { .. } => Cause::ValueFalls,
             Breach::Ends => Cause::Lengths,
+        }
+    }
+}
+
+impl Misread {
+    /// The refusal that it leads to.
+    #[must_use]
+    pub fn cause(self) -> Cause {
+        match self {
+            Misread::Ends { .. } => Cause::FileEnds,
+            Misread::Mark(_) | Misread::Version(_) => Cause::Mark,
+            Misread::Number { .. } | Misread::Nan(_) => Cause::Field,
+            Misread::LeftOver(_) => Cause::LeftOver,
         }
     }
 }

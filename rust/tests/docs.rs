@@ -91,5 +91,5 @@ fn what_can_refuse_says_when_and_has_an_example() {
             types += usize::from(!head.starts_with("pub fn"));
         }
     }
-    assert!(types >= 22 && refusing >= 26, "{types} {refusing}");
+    assert!(types >= 27 && refusing >= 29, "{types} {refusing}");
 }

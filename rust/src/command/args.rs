@@ -156,12 +156,26 @@ impl Args {
         self.get(name).is_some()
     }
 
-    /// Where to write: to the file that `--out` names, or else to standard output. It is checked before any work is done that the file is
-    /// not one that is read, and that it can be written.
+    /// Where to write: to the file that `--out` names, or else to standard output.
     pub fn out(&self) -> Result<Option<String>, Stop> {
-        let Some(out) = self.get("--out").filter(|out| *out != "-") else {
-            return Ok(None);
-        };
+        let out = self.get("--out").filter(|out| *out != STANDARD);
+        out.map(|out| self.written("--out", out)).transpose()
+    }
+
+    /// Where to write the model, if that was requested. Standard output has the report.
+    pub fn model(&self) -> Result<Option<String>, Stop> {
+        match self.get("--model") {
+            Some(STANDARD) => {
+                let why = "standard output is for the report; name a file";
+                Err(Stop::Usage(format!("--model {STANDARD}: {why}")))
+            }
+            model => model.map(|it| self.written("--model", it)).transpose(),
+        }
+    }
+
+    /// The file that an option names. It is checked before any work is done that the file is not one that is read, and that it can be
+    /// written.
+    fn written(&self, option: &str, out: &str) -> Result<String, Stop> {
         let read = self.files.iter().map(String::as_str);
         let mut read = read.chain(self.get("--listing")).map(|file| match file {
             STANDARD => "/dev/stdin",
@@ -169,10 +183,10 @@ impl Args {
         });
         if read.any(|file| same_file(file, out)) {
             let why = "this file is also read; choose another one";
-            return Err(Stop::Usage(format!("--out {out}: {why}")));
+            return Err(Stop::Usage(format!("{option} {out}: {why}")));
         }
-        place_for(out)?;
-        Ok(Some(out.to_owned()))
+        place_for(option, out)?;
+        Ok(out.to_owned())
     }
 
     /// The list of names that an option was given, separated like the cells of a table; `None` if it was not given.

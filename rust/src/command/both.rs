@@ -169,7 +169,7 @@ fn tables(task: &Task, faults: &mut Faults) -> Result<(Csv, Csv), Stop> {
 }
 
 /// A value in its unit, to six digits, as the show writes numbers.
-fn amount(value: f64, unit: &str, show: &Csv) -> String {
+pub fn amount(value: f64, unit: &str, show: &Csv) -> String {
     let style = Style {
         decimal: show.decimal(),
         digits: None,

@@ -1,7 +1,7 @@
 //! The commands, their options, and the functions that run them.
 
 use crate::args::{Choice, Command, choice};
-use crate::{check, correct, fit, list, report};
+use crate::{check, correct, fit, list, model, predict, report};
 
 const COLUMNS: &[Choice] = &[
     choice("--target", "NAME", "the column to predict"),
@@ -10,6 +10,15 @@ const COLUMNS: &[Choice] = &[
         "NAME",
         "a column of weights, which say how much each fixture counts",
     ),
+];
+
+const PREDICTED: &[Choice] = &[choice(
+    "--target",
+    "NAME",
+    "what is predicted, for the names of the columns that are added; a column of this name is not a feature",
+)];
+
+const FEATURES: &[Choice] = &[
     choice(
         "--features",
         "A,B,..",
@@ -106,6 +115,12 @@ const JSON: &[Choice] = &[choice(
     "report in JSON: one object on standard output, with the reasons if the input is refused",
 )];
 
+const MODEL: &[Choice] = &[choice(
+    "--model",
+    "FILE",
+    "where to write the forest, for `predict`; default: it is not written",
+)];
+
 const RANGE: &[Choice] = &[
     choice(
         "--strict",
@@ -143,7 +158,7 @@ const OUT: &[Choice] = &[choice(
     "where to write it; default: standard output, which is also meant by -",
 )];
 
-pub static COMMANDS: [Command; 5] = [
+pub static COMMANDS: [Command; 7] = [
     Command {
         name: "check",
         files: &["SHOW.csv"],
@@ -151,15 +166,18 @@ pub static COMMANDS: [Command; 5] = [
         more: "A listing is a table with a column for each feature, named as in the show. Its cells are row numbers, counted\n\
                from 0, in ascending order of the feature's values. Without --target and --features, the columns of the listing\n\
                are the features.",
-        groups: &[COLUMNS, LISTING, TABLES, JSON],
+        groups: &[COLUMNS, FEATURES, LISTING, TABLES, JSON],
         run: check::run,
     },
     Command {
         name: "fit",
         files: &["SHOW.csv"],
         about: "Fits a forest on a show and reports its out-of-bag error and importances",
-        more: "The forest is not saved, since there is no file format for it yet. `correct` fits and predicts in one run.",
-        groups: &[COLUMNS, LISTING, TABLES, GROWTH, DIGITS, JSON],
+        more: "With --model the forest is written to a file, by which `predict` predicts the corrections of any show later, without the old\n\
+               show. `correct` fits and predicts in one run.",
+        groups: &[
+            COLUMNS, FEATURES, LISTING, TABLES, GROWTH, MODEL, DIGITS, JSON,
+        ],
         run: fit::fit,
     },
     Command {
@@ -170,8 +188,29 @@ pub static COMMANDS: [Command; 5] = [
                that names the measurements outside the range of the old show. Without --features, the features are the columns of\n\
                measurements that both shows have. Those that only the old show has are ignored, unless the new one has others that\n\
                may be meant instead. Notes and a report on the forest go to standard error.",
-        groups: &[COLUMNS, LISTING, TABLES, RANGE, GROWTH, SPREAD, DIGITS, OUT],
+        groups: &[
+            COLUMNS, FEATURES, LISTING, TABLES, RANGE, GROWTH, SPREAD, DIGITS, OUT,
+        ],
         run: correct::correct,
+    },
+    Command {
+        name: "predict",
+        files: &["MODEL.rgf", "NEW.csv"],
+        about: "Writes a correction for each fixture of the new show, by a model that `fit --model` wrote",
+        more: "The output has the columns of the new show and a column NAME_correction, or correction without --target. A model has no\n\
+               names of columns, only a number of features. Without --features they are the columns of measurements of the new show,\n\
+               in the order of the table; another number of them is refused. Which they are goes to standard error, with notes.",
+        groups: &[PREDICTED, FEATURES, TABLES, SPREAD, DIGITS, OUT],
+        run: predict::run,
+    },
+    Command {
+        name: "model",
+        files: &["MODEL.rgf"],
+        about: "Checks whether a model can be used, and reports what is in it, or where its file is damaged",
+        more: "Features are known by their numbers, counted from 0 in the order of the fit. The levels of a tree are counted from its\n\
+               root, which is level 1; a tree without a split has 0.",
+        groups: &[DIGITS, JSON],
+        run: model::run,
     },
     Command {
         name: "list",
@@ -179,7 +218,7 @@ pub static COMMANDS: [Command; 5] = [
         about: "Writes a fresh listing of a show, which --listing of the other commands takes",
         more: "For each feature the rows are sorted by value, and rows with the same value by number. Row numbers count from 0, not\n\
                counting the line of names. Which columns are listed goes to standard error.",
-        groups: &[COLUMNS, TABLES, OUT],
+        groups: &[COLUMNS, FEATURES, TABLES, OUT],
         run: list::run,
     },
     Command {
@@ -189,7 +228,7 @@ pub static COMMANDS: [Command; 5] = [
         more: "The page is one HTML file for a browser or a printer, which stands by itself. It begins with what to look at first:\n\
                fixtures outside the range of the old show, and fixtures that the trees disagree about. It ends with a table of all\n\
                corrections, rounded for reading; `correct` writes them exactly. Notes and a report on the forest go to standard error.",
-        groups: &[COLUMNS, LISTING, TABLES, RANGE, GROWTH, PLOT, OUT],
+        groups: &[COLUMNS, FEATURES, LISTING, TABLES, RANGE, GROWTH, PLOT, OUT],
         run: report::report,
     },
 ];

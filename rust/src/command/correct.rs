@@ -11,30 +11,30 @@ use crate::stop::Stop;
 use crate::summary::Summary;
 use crate::{record, spread};
 use std::collections::BTreeSet;
-use tailboardy::{Means, RandomForestRegressor};
+use tailboardy::{DenseMatrix, Means, RandomForestRegressor, Refusal};
 
 /// A column that is added to the new show.
-type Added = (String, Vec<String>);
+pub type Added = (String, Vec<String>);
 
 /// Fits a forest on the old show and predicts the corrections of the new one.
 pub fn correct(args: &Args) -> Result<Output, Stop> {
     let task = Task::new(args)?;
     let file = args.out()?;
     let both = Both::read(&task)?;
-    let target = task.roles.target.as_deref().unwrap_or_default();
-    free(&both.new, target, args.has("--spread"))?;
+    let target = task.roles.target.as_deref();
+    free(&both.new, target, args.has("--spread"), &["outside"])?;
     let (forest, mut summary) = task.fitted(&both.old)?;
     both.report(&mut summary);
     let style = Style {
         decimal: both.new.decimal_or(&both.old.csv),
         digits: task.digits,
     };
-    let means = corrections(&both, &forest)?;
-    let means = means.iter().map(|it| number::write(*it, &style));
-    let mut added = vec![(format!("{target}_correction"), means.collect())];
-    if args.has("--spread") {
-        added.extend(spreads(&both, &forest, target, &style)?);
-    }
+    let predicted = Predicted {
+        csv: &both.new,
+        x: &both.x,
+        forest: &forest,
+    };
+    let mut added = predicted.columns(target, args.has("--spread"), &style)?;
     added.push(("outside".into(), outsides(&both)));
     let mut output = Output {
         text: table(&both.new, &added),
@@ -47,15 +47,21 @@ pub fn correct(args: &Args) -> Result<Output, Stop> {
     Ok(output)
 }
 
-/// Checks that the new show has none of the columns that are added to it.
-fn free(new: &Csv, target: &str, spread: bool) -> Result<(), Stop> {
+/// The name of an added column: with that of the target in front, if it is known.
+fn named(target: Option<&str>, column: &str) -> String {
+    match target {
+        Some(target) => format!("{target}_{column}"),
+        None => column.to_owned(),
+    }
+}
+
+/// Checks that the new show has none of the columns that are added to it: the corrections, their spread if there is one, and more.
+pub fn free(new: &Csv, target: Option<&str>, spread: bool, more: &[&str]) -> Result<(), Stop> {
     let spreads = ["low", "high"].into_iter().filter(|_| spread);
     let added = ["correction"].into_iter().chain(spreads);
-    let added = added.map(|it| format!("{target}_{it}"));
-    match added
-        .chain(["outside".into()])
-        .find(|it| new.find(it).is_some())
-    {
+    let added = added.map(|it| named(target, it));
+    let mut added = added.chain(more.iter().map(|it| (*it).to_owned()));
+    match added.find(|it| new.find(it).is_some()) {
         Some(name) => Err(Stop::refused(
             &new.head(),
             &format!(
@@ -67,29 +73,50 @@ fn free(new: &Csv, target: &str, spread: bool) -> Result<(), Stop> {
     }
 }
 
-/// The prediction for each fixture of the new show.
-pub fn corrections(both: &Both, forest: &RandomForestRegressor) -> Result<Means, Stop> {
-    let means = forest.predict(&both.x);
-    means.map_err(|refusal| Stop::refused(both.new.file(), &refusal.to_string()))
+/// A new show, its measurements, and the forest that predicts its corrections.
+pub struct Predicted<'a> {
+    pub csv: &'a Csv,
+    pub x: &'a DenseMatrix,
+    pub forest: &'a RandomForestRegressor,
 }
 
-/// The columns of low and high predictions.
-fn spreads(
-    both: &Both,
-    forest: &RandomForestRegressor,
-    target: &str,
-    style: &Style,
-) -> Result<[Added; 2], Stop> {
-    let ends = spread::of(forest, &both.x);
-    let ends = ends.map_err(|refusal| Stop::refused(both.new.file(), &refusal.to_string()))?;
-    let column = |end: fn(&(f64, f64)) -> f64| {
-        let cells = ends.iter().map(|it| number::write(end(it), style));
-        cells.collect()
-    };
-    Ok([
-        (format!("{target}_low"), column(|it| it.0)),
-        (format!("{target}_high"), column(|it| it.1)),
-    ])
+impl Predicted<'_> {
+    /// The columns that are added: the corrections and, if that is requested, their spread.
+    pub fn columns(
+        &self,
+        target: Option<&str>,
+        spread: bool,
+        style: &Style,
+    ) -> Result<Vec<Added>, Stop> {
+        let means = self.corrections()?;
+        let means = means.iter().map(|it| number::write(*it, style));
+        let mut added = vec![(named(target, "correction"), means.collect())];
+        if spread {
+            let ends = self.spreads()?;
+            let column = |end: fn(&(f64, f64)) -> f64| {
+                let cells = ends.iter().map(|it| number::write(end(it), style));
+                cells.collect()
+            };
+            added.push((named(target, "low"), column(|it| it.0)));
+            added.push((named(target, "high"), column(|it| it.1)));
+        }
+        Ok(added)
+    }
+
+    /// The prediction for each fixture.
+    pub fn corrections(&self) -> Result<Means, Stop> {
+        let means = self.forest.predict(self.x);
+        means.map_err(|it| self.refused(&it))
+    }
+
+    /// A low and a high prediction for each fixture.
+    pub fn spreads(&self) -> Result<Vec<(f64, f64)>, Stop> {
+        spread::of(self.forest, self.x).map_err(|it| self.refused(&it))
+    }
+
+    fn refused(&self, refusal: &Refusal) -> Stop {
+        Stop::refused(self.csv.file(), &refusal.to_string())
+    }
 }
 
 /// For each fixture the measurements that lie outside the range of the old show.
@@ -106,7 +133,7 @@ fn outsides(both: &Both) -> Vec<String> {
 }
 
 /// The new show with the columns that are added to it, which are empty where a row was left out.
-fn table(new: &Csv, added: &[Added]) -> String {
+pub fn table(new: &Csv, added: &[Added]) -> String {
     let mut text = String::new();
     let names = new.names().iter().chain(added.iter().map(|(name, _)| name));
     record::write(names.map(String::as_str), new.delimiter(), &mut text);

@@ -15,6 +15,9 @@ pub fn other(first: &[u8]) -> Option<String> {
             "this is not text but a spreadsheet's own format; save the table as CSV, in UTF-8"
                 .into(),
         ),
+        [b'R', b'G', b'F', 1, 0, ..] => {
+            Some("this is a model, not a table; `tailboardy predict` takes both".into())
+        }
         [0xff, 0xfe, ..] | [0xfe, 0xff, ..] => utf16("UTF-16"),
         _ => {
             let zeros = |skip| {

@@ -3,6 +3,7 @@
 use crate::args::Args;
 use crate::csv::Csv;
 use crate::listing::Listing;
+use crate::model;
 use crate::output::Output;
 use crate::progress::Progress;
 use crate::roles::Roles;
@@ -35,11 +36,15 @@ impl<'a> Task<'a> {
     }
 }
 
-/// Fits a forest and reports on it.
+/// Fits a forest, writes it to a file if that is requested, and reports on it.
 pub fn fit(args: &Args) -> Result<Output, Stop> {
     let task = Task::new(args)?;
+    let file = args.model()?;
     let show = Show::read(args, &task.roles)?;
-    let (_, mut summary) = task.fitted(&show)?;
+    let (forest, mut summary) = task.fitted(&show)?;
+    if let Some(file) = file {
+        model::save(&forest, &file, &show, &mut summary)?;
+    }
     if args.has("--json") {
         summary.notes(&show.notes);
     }

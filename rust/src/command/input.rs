@@ -1,9 +1,9 @@
-//! Where tables are read from: a file or standard input, up to a limit.
+//! Where tables and models are read from: a file or standard input, up to a limit.
 
 use std::fs::File;
 use std::io::{self, BufRead, BufReader, Cursor, Read, stdin};
 
-/// The most bytes that are read of a file: 8 KiB for each row that a show may have, enough for 1,024 numbers of 8 characters.
+/// The most bytes that are read of a table: 8 KiB for each row that a show may have, enough for 1,024 numbers of 8 characters.
 pub const MOST: usize = 512 << 20;
 
 /// How many bytes of a file are looked at to find out how it is written.
@@ -36,7 +36,7 @@ pub struct Input<R> {
 
 impl<R: Read> Input<R> {
     pub fn new(from: R, most: usize) -> io::Result<Self> {
-        let limited = Limited { from, left: most };
+        let limited = Limited::new(from, most, table);
         let mut rest = BufReader::with_capacity(1 << 16, limited);
         let mut first = Vec::new();
         rest.by_ref().take(FIRST as u64).read_to_end(&mut first)?;
@@ -59,9 +59,36 @@ impl<R: Read> Input<R> {
 }
 
 /// A source that ends in an error if there is more than so many bytes.
-struct Limited<R> {
+pub struct Limited<R> {
     from: R,
+    most: usize,
     left: usize,
+    why: fn() -> String,
+}
+
+impl<R> Limited<R> {
+    /// With the reason that is told in that case.
+    pub fn new(from: R, most: usize, why: fn() -> String) -> Self {
+        let left = most;
+        Limited {
+            from,
+            most,
+            left,
+            why,
+        }
+    }
+
+    /// How many bytes were read.
+    pub fn read(&self) -> usize {
+        self.most - self.left
+    }
+}
+
+fn table() -> String {
+    format!(
+        "there is more than {} MiB to read, the most that a table may have; leave out what is not needed",
+        MOST >> 20
+    )
 }
 
 impl<R: Read> Read for Limited<R> {
@@ -72,11 +99,7 @@ impl<R: Read> Read for Limited<R> {
             _ => self.from.read(&mut to[..most])?,
         };
         if read > self.left {
-            let why = format!(
-                "there is more than {} MiB to read, the most that a table may have; leave out what is not needed",
-                MOST >> 20
-            );
-            return Err(io::Error::other(why));
+            return Err(io::Error::other((self.why)()));
         }
         self.left -= read;
         Ok(read)

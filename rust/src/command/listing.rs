@@ -86,7 +86,7 @@ impl Listing {
     fn damage(&self, fault: &ListingFault) -> Damage {
         let column = self.columns[fault.feature];
         Damage {
-            column: self.csv.names()[column].clone(),
+            column: Some(self.csv.names()[column].clone()),
             refusal: fault.breach.cause().number(),
             place: fault.place,
             missing: fault.missing,

@@ -45,7 +45,8 @@ impl Output {
                 self.note(&["standard output: it was closed before everything was written".into()]);
             }
             (Err(error), file) => {
-                return Err(Stop::unwritten(file.unwrap_or("standard output"), &error));
+                let file = file.unwrap_or("standard output");
+                return Err(Stop::unwritten("--out", file, &error));
             }
         }
         say(&self.beside);

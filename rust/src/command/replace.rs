@@ -27,8 +27,8 @@ struct Real;
 
 impl Disk for Real {}
 
-/// Checks, before any work is done, that a file can be written there.
-pub fn place_for(file: &str) -> Result<(), Stop> {
+/// Checks, before any work is done, that the file that an option names can be written there.
+pub fn place_for(option: &str, file: &str) -> Result<(), Stop> {
     let path = Path::new(file);
     let refused = |why: &str| Err(Stop::refused(&format!("{file:?}"), why));
     if path.is_dir() {
@@ -59,7 +59,7 @@ pub fn place_for(file: &str) -> Result<(), Stop> {
             File::create_new(&part).and_then(|_| fs::remove_file(&part))
         })
     });
-    tried.map_err(|error| Stop::unwritten(file, &error))
+    tried.map_err(|error| Stop::unwritten(option, file, &error))
 }
 
 /// Writes a file. A pipe or a device is written directly.

@@ -2,7 +2,7 @@
 
 use crate::args::Args;
 use crate::both::Both;
-use crate::correct::corrections;
+use crate::correct::Predicted;
 use crate::csv::Csv;
 use crate::fit::Task;
 use crate::number::Decimal;
@@ -10,7 +10,7 @@ use crate::output::Output;
 use crate::page::data::{Fixture, Focused, Forest, Measurement, Outside, Page, Source};
 use crate::stop::Stop;
 use crate::summary::{out_of_bag, warnings};
-use crate::{outside, page, spread};
+use crate::{outside, page};
 use tailboardy::{RandomForestRegressor, Refusal};
 
 /// The measurements that place the fixtures in the picture: across, and up if there are two.
@@ -147,9 +147,12 @@ fn fixtures(
     (across, up): Sides,
 ) -> Result<Vec<Fixture>, Stop> {
     let (new, x) = (&both.new, &both.x);
-    let spreads = spread::of(forest, x);
-    let spreads = spreads.map_err(|refusal| Stop::refused(new.file(), &refusal.to_string()))?;
-    let means = corrections(both, forest)?;
+    let predicted = Predicted {
+        csv: new,
+        x,
+        forest,
+    };
+    let (spreads, means) = (predicted.spreads()?, predicted.corrections()?);
     let value = |row: usize, feature: usize| x.get((row, feature)).unwrap_or_default();
     let fixture = |(row, ((low, high), mean)): (usize, ((f64, f64), &f64))| Fixture {
         name: name(new, row),

@@ -221,18 +221,23 @@ impl Chosen {
         self.left.iter().map(note).collect()
     }
 
-    /// Why there are no features, with the columns that could be some.
-    fn instead(&self, why: &str) -> String {
-        if self.left.is_empty() {
-            return why.to_owned();
-        }
+    /// What is wrong with the features, with the columns that were left out, and why they were.
+    pub fn without(&self, why: &str) -> String {
         let because = |it: &Left| format!("{}, because {}", quoted(&it.column), it.why);
         let left: Vec<String> = self.left.iter().map(because).collect();
-        let why = format!("{why}; left out: {}", left.join("; "));
+        match left.is_empty() {
+            true => why.to_owned(),
+            false => format!("{why}; left out: {}", left.join("; ")),
+        }
+    }
+
+    /// Why there are no features, with the columns that could be some.
+    fn instead(&self, why: &str) -> String {
+        let why = self.without(why);
         let usable: Vec<&Left> = self.left.iter().filter(|left| left.usable).collect();
         let them = match usable.len() {
             0 => return why,
-            1 if left.len() == 1 => "it".to_owned(),
+            1 if self.left.len() == 1 => "it".to_owned(),
             1 => quoted(&usable[0].column),
             _ => "them".to_owned(),
         };
@@ -317,7 +322,7 @@ fn same_unit(old: &Csv, new: &Csv, name: &str, faults: &mut Faults) {
 }
 
 /// Names as the value of an option, in quotes if a shell would need them.
-fn option<'a>(names: impl Iterator<Item = &'a String>) -> String {
+pub fn option<'a>(names: impl Iterator<Item = &'a String>) -> String {
     let mut text = String::new();
     record::write(names.map(String::as_str), ',', &mut text);
     let text = text.trim_end();

@@ -11,14 +11,14 @@ pub enum Stop {
     Usage(String),
     /// The files that it names cannot be used: status 1. One line for each thing that is wrong.
     Refused(Vec<String>),
-    /// The same for a damaged listing, with what programs are told of each column that is wrong.
+    /// The same for a damaged listing or model, with what programs are told of each column that is wrong, or of the model.
     Damaged(Vec<String>, Vec<Damage>),
 }
 
-/// Where a column of a listing is damaged.
+/// Where a column of a listing is damaged, or a model, which has no columns.
 #[derive(Debug)]
 pub struct Damage {
-    pub column: String,
+    pub column: Option<String>,
     pub refusal: u32,
     pub place: usize,
     pub missing: Option<usize>,
@@ -46,19 +46,20 @@ impl Stop {
         Stop::refused(file, &why)
     }
 
-    /// A file that cannot be written.
-    pub fn unwritten(file: &str, error: &Error) -> Self {
+    /// A file that cannot be written, and the option that names it.
+    pub fn unwritten(option: &str, file: &str, error: &Error) -> Self {
+        let other = format!("choose another place with {option}");
         let advice = match error.kind() {
             ErrorKind::PermissionDenied | ErrorKind::ReadOnlyFilesystem => {
-                "get permission to write there, or choose another place with --out"
+                format!("get permission to write there, or {other}")
             }
             ErrorKind::StorageFull | ErrorKind::QuotaExceeded | ErrorKind::FileTooLarge => {
-                "make room, or choose another place with --out"
+                format!("make room, or {other}")
             }
             ErrorKind::BrokenPipe => {
-                "the program that reads it stopped before the end; start both again"
+                "the program that reads it stopped before the end; start both again".to_owned()
             }
-            _ => "choose another place with --out",
+            _ => other,
         };
         Stop::refused(file, &format!("{error}; {advice}"))
     }
@@ -86,15 +87,16 @@ mod tests {
             "a.csv: Permission denied (os error 13); get permission to read it, or use a copy"
         );
         assert_eq!(unread(5), "a.csv: Input/output error (os error 5)");
-        let unwritten =
-            |number| Stop::unwritten("a.csv", &Error::from_raw_os_error(number)).to_string();
+        let unwritten = |option, number| {
+            Stop::unwritten(option, "a.csv", &Error::from_raw_os_error(number)).to_string()
+        };
         assert_eq!(
-            unwritten(denied),
+            unwritten("--out", denied),
             "a.csv: Permission denied (os error 13); get permission to write there, or choose another place with --out"
         );
         assert_eq!(
-            unwritten(full),
-            "a.csv: No space left on device (os error 28); make room, or choose another place with --out"
+            unwritten("--model", full),
+            "a.csv: No space left on device (os error 28); make room, or choose another place with --model"
         );
     }
 }

@@ -11,7 +11,8 @@ use tailboardy::{
     RandomForestRegressorParameters, Refusal, Splitter,
 };
 
-/// What `--json` writes if the input is refused: each line that is also on standard error, and where a listing is damaged.
+/// What `--json` writes if the input is refused: each line that is also on standard error, and where a listing or a model is
+/// damaged.
 pub fn refused(stop: &Stop) -> Option<Json> {
     let (lines, damage) = match stop {
         Stop::Usage(_) => return None,
@@ -26,7 +27,10 @@ pub fn refused(stop: &Stop) -> Option<Json> {
 impl From<&Damage> for Json {
     fn from(damage: &Damage) -> Self {
         Json::object([
-            ("column", Json::from(&damage.column)),
+            (
+                "column",
+                damage.column.as_ref().map_or(Json::Null, Json::from),
+            ),
             ("refusal", Json::from(u64::from(damage.refusal))),
             ("place", damage.place.into()),
             ("missing", damage.missing.map_or(Json::Null, Json::from)),

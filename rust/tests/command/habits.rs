@@ -181,7 +181,9 @@ fn members_are_on_the_page() {
     let show = folder.write("show.csv", text);
     let listing = folder.write("listing.csv", "x\n0\n2\n1\n");
     let words = [&show, "--target", "pan", "--weight", "w", "--json"];
-    let (check, fit) = (["check", "--listing", &listing], ["fit", "--n-trees", "5"]);
+    let model = folder.path("model.rgf");
+    let fit = ["fit", "--n-trees", "5", "--model", &model];
+    let check = ["check", "--listing", &listing];
     let bad = ["check", &listing, "--target", "y", "--json"];
     let twice = folder.write("twice.csv", "x\n0\n2\n2\n");
     let damaged = ["check", &show, "--listing", &twice, "--json"];
@@ -190,6 +192,8 @@ fn members_are_on_the_page() {
         [&fit[..], &words].concat(),
         bad.into(),
         damaged.into(),
+        ["model", &model, "--json"].into(),
+        ["model", &show, "--json"].into(),
     ] {
         let told = run(&words);
         let Value::Object(members) = parse(&told.out) else {
@@ -203,7 +207,7 @@ fn members_are_on_the_page() {
         }
         assert_eq!(
             told.out.contains("\"notes\": [\""),
-            told.status == Some(0),
+            told.status == Some(0) && words[0] != "model",
             "{told:?}"
         );
     }

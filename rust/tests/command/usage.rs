@@ -12,13 +12,19 @@ const COMMANDS: &[[&str; 3]] = &[
     [
         "fit",
         "SHOW.csv",
-        "--target --n-trees --m --max-depth --min-samples-leaf --seed",
+        "--target --n-trees --m --max-depth --min-samples-leaf --seed --model",
     ],
     [
         "correct",
         "OLD.csv NEW.csv",
         "--min-samples-split --splitter --cuts --no-bootstrap --n-threads --out",
     ],
+    [
+        "predict",
+        "MODEL.rgf NEW.csv",
+        "--target --features --ignore --id --spread --digits --out",
+    ],
+    ["model", "MODEL.rgf", "--digits --json"],
 ];
 
 #[test]
@@ -61,6 +67,15 @@ const SENSELESS: &[[&str; 2]] = &[
     ["fit a --no-bootstrap=1", "--no-bootstrap takes no value"],
     ["fit a --seed 1 --seed 2", "--seed is given twice"],
     ["fit a", "--target NAME is required: the column to predict"],
+    ["fit a --target p --model", "--model requires a value: FILE"],
+    ["model", "the files required are MODEL.rgf"],
+    ["model a b", "the files required are MODEL.rgf"],
+    ["predict a", "the files required are MODEL.rgf NEW.csv"],
+    ["predict a b --weight w", "there is no option --weight"],
+    [
+        "predict - -",
+        "standard input, `-`, can be only one of the files",
+    ],
     [
         "fit a --target p --n-trees many",
         "--n-trees many: a whole number up to 1024 is required",

@@ -135,3 +135,16 @@ pub fn bits(nodes: &Nodes) -> Vec<[u64; 6]> {
 pub fn same(one: &RandomForestRegressor, other: &RandomForestRegressor) -> bool {
     one.starts() == other.starts() && bits(one.nodes()) == bits(other.nodes())
 }
+
+/// Two features; a tree with one split, and a tree that is a leaf.
+pub fn small() -> RandomForestRegressor {
+    let nodes = Nodes {
+        value: vec![6.0, 5.0, 7.0, f64::NAN],
+        feature: vec![1, 0, 0, 0],
+        threshold: vec![1.5, 0.0, 0.0, 0.0],
+        score: vec![2.0, 0.0, 0.0, 0.0],
+        true_child: vec![1, 0, 0, 0],
+        false_child: vec![2, 0, 0, 0],
+    };
+    RandomForestRegressor::from_table(2, vec![0, 3, 4], nodes).unwrap()
+}
