@@ -1,7 +1,7 @@
 -- The demands of the calls themselves. A call's contract says that its outcome, the answer and every lent slice after it, equals the definition's, and asks nothing
 -- of its caller. So what holds of the definitions holds of any outcomes that meet these equations, and the outcomes of proved code do. Assumes nothing.
 use Prim.Native.Nat.{ℕ, _<_}
-use mathlib.Core.Path.{_≡_, sym, _∙_, subst}
+use mathlib.Core.Path.{_≡_, sym, ap, _∙_, subst}
 use mathlib.Core.List.{List}
 use lib.ListN.{length}
 use lib.Ieee.{Float}
@@ -12,14 +12,18 @@ use Rattle.rules.specs.declared.ForestAnswer.{ForestAnswer}
 use Rattle.rules.specs.declared.Reply.{Reply}
 use Rattle.rules.specs.Lent.{Data, WaitingForm, WaitingRoom, waitingRoom, TreeRooms, ForestRooms, Outcome, entriesAt}
 use Rattle.rules.specs.Fit.{entries, TreeCall, oneTreeOf, grownTree, fitTree}
-use Rattle.rules.specs.Forest.{ForestCall, fitForest}
+use Rattle.rules.specs.Forest.{ForestCall, oneTreeAt, fitForest}
 use Rattle.rules.specs.OutOfBag.{outOfBagMeans}
+use Rattle.lemmas.specs.Nodes.{behindEach}
 use Rattle.lemmas.specs.Passed.{Binary64}
+use Rattle.lemmas.specs.Beside.{behindAt}
 use Rattle.lemmas.specs.Answered.{TreeAnswered, tree-answered}
 use Rattle.demands.specs.LeftOut.{Alike, over, SameFit, demand3}
+use Rattle.demands.specs.LeftOutTrees.{overAll, left-out-trees}
 use Rattle.demands.specs.OutOfBag.{retarget, ButOne, SameMean, ok-same, own-target}
 use Rattle.demands.specs.Refusals.{Unrefused, TreeZero, tree-bad}
-use Rattle.demands.specs.Walks.{tableAfter, tree-left}
+use Rattle.demands.specs.ItsTrees.{SameTree}
+use Rattle.demands.specs.Walks.{tableAfter, tree-left, beside-left}
 
 module _ {W : Type 0} (K : WaitingForm W) where
   -- ---- demand 3: two calls that fit one tree, alike but for rows that the tree leaves out
@@ -35,15 +39,18 @@ module _ {W : Type 0} (K : WaitingForm W) where
     pub calls-answer : x .answer ≡ y .answer
     calls-answer = (λ i. met i .answer) ∙ same .answers ∙ (λ i. sym met′ i .answer)
 
-    -- where they answer with a tree, the nodes that they wrote are the same
-    pub calls-write : (r : Report) → x .answer ≡ TreeAnswer.Grown r → entriesAt (x .rooms .nodes) 0 (r .nodes) ≡ entriesAt (y .rooms .nodes) 0 (r .nodes)
+    -- where they answer with a tree, the nodes that they wrote are the same, and so are the counts and masses beside them
+    pub calls-write : (r : Report) → x .answer ≡ TreeAnswer.Grown r
+        → (entriesAt (x .rooms .nodes) 0 (r .nodes) ≡ entriesAt (y .rooms .nodes) 0 (r .nodes)) × (behindAt (x .rooms .behind) 0 (r .nodes) ≡ behindAt (y .rooms .behind) 0 (r .nodes))
     unfolding grownTree
-    calls-write r h =
-        (λ i. entriesAt (met i .rooms .nodes) 0 (r .nodes))
-        ∙ tree-left K C R r a
-        ∙ (λ i. entries (ok-same (a .tree) (b .tree) (sym (a .grew) ∙ same .grown ∙ b .grew) i .nodes))
-        ∙ sym (tree-left K (over C E) R′ r b)
-        ∙ (λ i. entriesAt (sym met′ i .rooms .nodes) 0 (r .nodes))
+    calls-write r h = (
+      (λ i. entriesAt (met i .rooms .nodes) 0 (r .nodes))
+          ∙ tree-left K C R r a ∙ ap entries nodes ∙ sym (tree-left K (over C E) R′ r b)
+          ∙ (λ i. entriesAt (sym met′ i .rooms .nodes) 0 (r .nodes)),
+      (λ i. behindAt (met i .rooms .behind) 0 (r .nodes))
+          ∙ beside-left K C R r a ∙ ap behindEach nodes ∙ sym (beside-left K (over C E) R′ r b)
+          ∙ (λ i. behindAt (sym met′ i .rooms .behind) 0 (r .nodes)),
+    )
       where
         a : TreeAnswered K C R r
         a = tree-answered K C R r ((λ i. sym met i .answer) ∙ h)
@@ -51,10 +58,21 @@ module _ {W : Type 0} (K : WaitingForm W) where
         b : TreeAnswered K (over C E) R′ r
         b = tree-answered K (over C E) R′ r (sym (same .answers) ∙ (λ i. sym met i .answer) ∙ h)
 
+        nodes : a .tree .nodes ≡ b .tree .nodes
+        nodes = λ i. ok-same (a .tree) (b .tree) (sym (a .grew) ∙ same .grown ∙ b .grew) i .nodes
+
   -- in rooms that held the same they leave the same, every node among it
   pub calls-leave : (C : TreeCall) (E : Data) (R : TreeRooms W) (x y : Outcome TreeAnswer (TreeRooms W)) → x ≡ fitTree K C R → y ≡ fitTree K (over C E) R
       → Alike (oneTreeOf C) (C .given .inputs) E → Unrefused (x .answer) → Unrefused (y .answer) → x ≡ y
   calls-leave C E R x y met met′ like h h′ = met ∙ same C E R R x y met met′ like h h′ .outcomes ∙ sym met′
+
+  -- two calls that fit a forest and both answer: each tree that leaves out the rows in which they differ is the same
+  pub calls-trees : (C : ForestCall) (E : Data) (R R′ : ForestRooms W) (x y : Outcome ForestAnswer (ForestRooms W)) → x ≡ fitForest K C R → y ≡ fitForest K (overAll C E) R′
+      → x .answer ≡ ForestAnswer.Grown → y .answer ≡ ForestAnswer.Grown → (t : ℕ) → t < C .trees → Alike (oneTreeAt C t) (C .given .inputs) E → SameTree (x .rooms) t (y .rooms) t
+  calls-trees C E R R′ x y met met′ h h′ t l like =
+      subst (λ (o : Outcome ForestAnswer (ForestRooms W)). SameTree (o .rooms) t (y .rooms) t) (sym met)
+      (subst (λ (o : Outcome ForestAnswer (ForestRooms W)). SameTree (fitForest K C R .rooms) t (o .rooms) t) (sym met′)
+      (left-out-trees W K C E R R′ ((λ i. sym met i .answer) ∙ h) ((λ i. sym met′ i .answer) ∙ h′) t l like))
 
   -- ---- its corollary: two calls that fit a forest, alike but for row i's target, and the out-of-bag means read from what they left
 

@@ -12,7 +12,7 @@ use lib.Ieee.{Float}
 use Rattle.rules.specs.declared.Checked.{Checked}
 use Rattle.rules.specs.declared.Report.{Report}
 use Rattle.rules.specs.declared.TreeAnswer.{TreeAnswer}
-use Rattle.rules.specs.Lent.{Data, OneTree, WaitingForm, TreeRooms, Outcome, kept, keptRows, zeroColumns, zeroWork}
+use Rattle.rules.specs.Lent.{Data, OneTree, WaitingForm, TreeRooms, Outcome, kept, keptRows, zeroColumns, zeroBehind, zeroWork}
 use Rattle.rules.specs.Checks.{checked, roomFor}
 use Rattle.rules.specs.Draws.{Out, bad, ok, bind, Tapes}
 use Rattle.rules.specs.Growth.{State}
@@ -36,7 +36,11 @@ cutTo n m C = taped C (take n (C .words)) (take m (C .thresholds))
 -- a bad draw, with all rooms zero
 abbrev pub Refusal7 : {W : Type 0} → WaitingForm W → TreeRooms W → Outcome TreeAnswer (TreeRooms W) → Type 0
 Refusal7 K R o =
-    (s : ℕ) × (o ≡ record { answer = TreeAnswer.BadDraw (record { tree = 0; search = s }); rooms = record { nodes = zeroColumns (R .nodes); work = zeroWork K (R .work) } })
+    (s : ℕ)
+    × (o ≡ record {
+      answer = TreeAnswer.BadDraw (record { tree = 0; search = s });
+      rooms = record { nodes = zeroColumns (R .nodes); behind = zeroBehind (R .behind); work = zeroWork K (R .work) };
+    })
 
 -- what the report r of a fit says of its tapes
 pub record Exact {W : Type 0} (K : WaitingForm W) (C : TreeCall) (R : TreeRooms W) (r : Report) : Type 0 where

@@ -22,7 +22,7 @@ use Rattle.rules.specs.declared.Place.{Place}
 use Rattle.rules.specs.declared.TreeAnswer.{TreeAnswer}
 use Rattle.rules.specs.declared.ForestAnswer.{ForestAnswer}
 use Rattle.rules.specs.Words.{from, front, filled, total}
-use Rattle.rules.specs.Lent.{Data, OneTree, Reports, WaitingForm, TreeRooms, ForestRooms, Outcome, kept, keptRows, shortest, zeroColumns, zeroReports, zeroWork}
+use Rattle.rules.specs.Lent.{Data, OneTree, Reports, WaitingForm, TreeRooms, ForestRooms, Outcome, kept, keptRows, shortestOfEight, zeroColumns, zeroBehind, zeroReports, zeroWork}
 use Rattle.rules.specs.Checks.{numbered, checked, lengths, goodTapeStarts, roomFor}
 use Rattle.rules.specs.Listing.{orderTests}
 use Rattle.rules.specs.Fit.{Tree, fit, oneTreeOf, fitTree}
@@ -90,7 +90,13 @@ BadAt K R t o =
     (s : ℕ)
     × (o ≡ record {
       answer = ForestAnswer.BadDraw (record { tree = t; search = s });
-      rooms = record { nodes = zeroColumns (R .nodes); starts = filled 0 (R .starts); reports = zeroReports (R .reports); work = zeroWork K (R .work) };
+      rooms = record {
+        nodes = zeroColumns (R .nodes);
+        behind = zeroBehind (R .behind);
+        starts = filled 0 (R .starts);
+        reports = zeroReports (R .reports);
+        work = zeroWork K (R .work);
+      };
     })
 
 -- what the report columns c of a fit say of its tapes
@@ -213,7 +219,7 @@ module _ {W : Type 0} (K : WaitingForm W) (C : ForestCall) (R : ForestRooms W) (
       let n = lengths (C .shape) (C .trees) (C .given) in
       sym (goes-on _ _ (is-true _ t₁) (goes-on _ _ (is-true _ (and-i n (tapesGood new) (and-l n (tapesGood C) t₂) good)) (goes-on _ _ (is-true _ t₃) (goes-on _ _ (is-true _ t₄)
       (all-go-on (orderTests (C .shape) (C .given .inputs .values) (C .given .inputs .listings)) _ t₅
-      (goes-on _ _ (is-true _ (subst (λ k. T (leb k (shortest (R .nodes)) && roomsGood K C R)) rooms t₆)) none-left))))))
+      (goes-on _ _ (is-true _ (subst (λ k. T (leb k (shortestOfEight (R .nodes) (R .behind)) && roomsGood K C R)) rooms t₆)) none-left))))))
     where
       rooms : total roomFor (eachTree C) ≡ total roomFor (eachTree new)
       rooms = total-map roomFor (oneTreeAt C) (from 0 (C .trees)) ∙ sym (total-map roomFor (oneTreeAt new) (from 0 (C .trees)))

@@ -1,9 +1,9 @@
 -- Where the best splitter cuts. For either choice a cut that it finds is at least the greatest value of its true side and below the least of its false side, and exactly
 -- where the choice puts it between the first of those greatest and that least. So each split of a tree stands between two values that were measured on kept rows; at the
--- lower it is the lower of the two. The choice moves nothing but thresholds: the same rows go the same way, so the answer, every other column and every other room are
+-- lower it is the lower of the two. The choice moves nothing but thresholds: the same rows go the same way, so the answer, every other column, counts and masses among them, and every other room are
 -- what they are under the other choice. And it moves nothing at all for the random splitter. In plain settings the flag `lower` alone decides: false, as in settings
 -- of zeros, is the midpoint. Assumes nothing.
-use Prim.Native.Nat.{ℕ, suc, _+_, _-_, _<_}
+use Prim.Native.Nat.{ℕ, suc, _+_, _<_}
 use mathlib.Core.Path.{_≡_, refl, sym, ap, subst, _∙_}
 use mathlib.Core.Logic.{_⊎_, inl, inr}
 use mathlib.Core.Bool.{true, false, _&&_}
@@ -24,22 +24,23 @@ use Rattle.rules.specs.declared.Kind.the-variants.{Leaf, Split}
 use Rattle.rules.specs.declared.Report.{Report}
 use Rattle.rules.specs.declared.TreeAnswer.{TreeAnswer}
 use Rattle.rules.specs.declared.ForestAnswer.{ForestAnswer}
-use Rattle.rules.specs.Words.{from, front, total}
+use Rattle.rules.specs.Words.{from, front, joined, total}
 use Rattle.rules.specs.Totals.{valueOf}
 use Rattle.rules.specs.Threshold.{thresholdBetween}
-use Rattle.rules.specs.Lent.{Data, OneTree, Columns, Entry, WaitingForm, TreeRooms, ForestRooms, Outcome, cell, kept, keptRows, entriesAt, shortest, writeEntries, writeReports}
+use Rattle.rules.specs.Lent.{Data, OneTree, Columns, Behind, behindOf, Entry, WaitingForm, TreeRooms, ForestRooms, Outcome, cell, kept, keptRows, entriesAt, shortestOfEight, writeEntries, writeReports}
 use Rattle.rules.specs.Checks.{test, checked, shapeIn, treesIn, lengths, numbersGood, countsGood, countsOne, roomFor}
 use Rattle.rules.specs.Listing.{orderTests}
 use Rattle.rules.specs.Draws.{Out, bad, ok, Source}
 use Rattle.rules.specs.Search.{Element, at, NodeRows, search}
 use Rattle.rules.specs.Growth.{TreeNode}
-use Rattle.rules.specs.Fit.{element, elementIn, Tree, fit, entryOf, entries, paramsOf, TreeCall, oneTreeOf, grownTree, treeTests, treeDone, treeEnds, fitTree}
+use Rattle.rules.specs.Fit.{element, elementIn, Tree, fit, entryOf, entries, writeBehind, paramsOf, TreeCall, oneTreeOf, grownTree, treeTests, treeDone, treeEnds, fitTree}
 use Rattle.rules.specs.Forest.{ForestCall, oneTreeAt, eachTree, Forest, stopped, grownAll, withTree, nextTree, growTrees}
-use Rattle.rules.specs.Forest.{grownForest, startsFrom, forestEntries, tapesGood, roomsGood, forestTests, forestDone, forestEnds, fitForest}
+use Rattle.rules.specs.Forest.{grownForest, startsFrom, forestEntries, forestNodes, tapesGood, roomsGood, forestTests, forestDone, forestEnds, fitForest}
 use Rattle.rules.specs.Table.{isLeaf}
 use Rattle.rules.specs.Plain.{heightOf, settingsOf, treeSettingsOf, forestSettingsOf}
 use Rattle.lemmas.specs.Lists.{Every, total-map, Pairs, pairs-map}
 use Rattle.lemmas.specs.Outs.{Then, then-of, Both, both-first}
+use Rattle.lemmas.specs.Nodes.{behindEach}
 use Rattle.lemmas.specs.Values.{Value}
 use Rattle.lemmas.specs.Heights.{Rising}
 use Rattle.lemmas.specs.Cuts.{FoundIs, StandsIn, Fair, search-stands}
@@ -117,10 +118,14 @@ abbrev pub bare : Columns → Columns
 bare c = record { value = c .value; feature = c .feature; threshold = []; score = c .score; trueChild = c .trueChild; falseChild = c .falseChild }
 
 abbrev pub treeBare : {W : Type 0} → Outcome TreeAnswer (TreeRooms W) → Outcome TreeAnswer (TreeRooms W)
-treeBare o = record { answer = o .answer; rooms = record { nodes = bare (o .rooms .nodes); work = o .rooms .work } }
+treeBare o = record { answer = o .answer; rooms = record { nodes = bare (o .rooms .nodes); behind = o .rooms .behind; work = o .rooms .work } }
 
 abbrev pub forestBare : {W : Type 0} → Outcome ForestAnswer (ForestRooms W) → Outcome ForestAnswer (ForestRooms W)
-forestBare o = record { answer = o .answer; rooms = record { nodes = bare (o .rooms .nodes); starts = o .rooms .starts; reports = o .rooms .reports; work = o .rooms .work } }
+forestBare o =
+    record {
+      answer = o .answer;
+      rooms = record { nodes = bare (o .rooms .nodes); behind = o .rooms .behind; starts = o .rooms .starts; reports = o .rooms .reports; work = o .rooms .work };
+    }
 
 abbrev pub ThresholdsAlone : Type 1
 ThresholdsAlone =
@@ -226,6 +231,10 @@ written-bare es es′ c h = λ i.
         through : (l : List Entry) → map f (map bareEntry l) ≡ map f l
         through l = map-map f bareEntry l ∙ ap (λ k. map k l) (λ i e. same e i)
 
+-- and what is written beside them
+written-behind : (ns ns′ : List TreeNode) (b : Behind) → behindEach ns ≡ behindEach ns′ → writeBehind ns b ≡ writeBehind ns′ b
+written-behind ns ns′ b h = λ i. behindOf (front (h i .count) (b .count)) (front (h i .mass) (b .mass))
+
 tree-alone : (W : Type 0) (K : WaitingForm W) (g : Height) (C : TreeCall) (R : TreeRooms W) → Binary64 (C .given .inputs .values)
     → treeBare (fitTree K (treeCut g C) R) ≡ treeBare (fitTree K C R)
 unfolding fitTree treeTests treeEnds treeDone roomFor keptRows kept oneTreeOf paramsOf grownTree
@@ -239,7 +248,11 @@ tree-alone W K g C R held = go (checked (treeTests K C R)) refl
         λ i.
         record {
           answer = TreeAnswer.Grown (sym (h .2) i);
-          rooms = record { nodes = sym (written-bare (entries (t .nodes)) (entries (t′ .nodes)) (R .nodes) (h .0)) i; work = treeDone K (ok t) R .rooms .work };
+          rooms = record {
+            nodes = sym (written-bare (entries (t .nodes)) (entries (t′ .nodes)) (R .nodes) (h .0)) i;
+            behind = sym (written-behind (t .nodes) (t′ .nodes) (R .behind) (h .3)) i;
+            work = treeDone K (ok t) R .rooms .work;
+          };
         }
 
     go : (n : Checked) → checked (treeTests K C R) ≡ n → treeBare (treeEnds K n (grownTree (treeCut g C)) R) ≡ treeBare (treeEnds K n (grownTree C) R)
@@ -281,6 +294,19 @@ entries-bare (t ∷ ts) [] h = absurd h
 entries-bare (t ∷ ts) (t′ ∷ ts′) h =
     map-append bareEntry (entries (t .nodes)) (forestEntries ts) ∙ (λ i. h .0 .0 i ++ entries-bare ts ts′ (h .1) i) ∙ sym (map-append bareEntry (entries (t′ .nodes)) (forestEntries ts′))
 
+nodes-behind : (ts ts′ : List Tree) → Pairs Alike ts ts′ → behindEach (forestNodes ts) ≡ behindEach (forestNodes ts′)
+unfolding forestNodes joined
+nodes-behind [] [] h = refl
+nodes-behind [] (t′ ∷ ts′) h = absurd h
+nodes-behind (t ∷ ts) [] h = absurd h
+nodes-behind (t ∷ ts) (t′ ∷ ts′) h =
+    behind-append (t .nodes) (forestNodes ts)
+    ∙ (λ i. behindOf (h .0 .3 i .count ++ nodes-behind ts ts′ (h .1) i .count) (h .0 .3 i .mass ++ nodes-behind ts ts′ (h .1) i .mass))
+    ∙ sym (behind-append (t′ .nodes) (forestNodes ts′))
+  where
+    behind-append : (ns ms : List TreeNode) → behindEach (ns ++ ms) ≡ behindOf (behindEach ns .count ++ behindEach ms .count) (behindEach ns .mass ++ behindEach ms .mass)
+    behind-append ns ms = λ i. behindOf (map-append (λ (n : TreeNode). n .count) ns ms i) (map-append (λ (n : TreeNode). n .totals .mass) ns ms i)
+
 starts-same : (a : ℕ) (ts ts′ : List Tree) → Pairs Alike ts ts′ → startsFrom a ts ≡ startsFrom a ts′
 unfolding startsFrom
 starts-same a [] [] h = refl
@@ -314,7 +340,7 @@ module _ {W : Type 0} (K : WaitingForm W) (g : Height) (C : ForestCall) (R : For
       ∷ test 3 (numbersGood (C .given))
       ∷ test 4 (countsGood (C .given) && countsOne (C .given))
       ∷ orderTests (C .shape) (C .given .inputs .values) (C .given .inputs .listings)
-      ++ test 6 (leb (rooms i) (shortest (R .nodes)) && roomsGood K C R)
+      ++ test 6 (leb (rooms i) (shortestOfEight (R .nodes) (R .behind)) && roomsGood K C R)
       ∷ []
     where
       rooms : total roomFor (eachTree (forestCut g C)) ≡ total roomFor (eachTree C)
@@ -331,6 +357,7 @@ module _ {W : Type 0} (K : WaitingForm W) (g : Height) (C : ForestCall) (R : For
         answer = ForestAnswer.Grown;
         rooms = record {
           nodes = written-bare (forestEntries ts) (forestEntries ts′) (R .nodes) (entries-bare ts ts′ h) i;
+          behind = written-behind (forestNodes ts) (forestNodes ts′) (R .behind) (nodes-behind ts ts′ h) i;
           starts = front (starts-same 0 ts ts′ h i) (R .starts);
           reports = writeReports (pairs-map Alike (λ (t : Tree). t .report) (λ (t : Tree). t .report) (λ t t′ a. a .2) ts ts′ h i) (R .reports);
           work = forestDone K (grownAll ts) R .rooms .work;

@@ -1,5 +1,5 @@
 -- A forest is its trees. Tree t of a forest fit that answers is the tree that the fit of one tree gives for the same data, settings and weights, t's own counts and
--- t's own parts of both tapes, in any rooms that are not too small: its nodes entry by entry, and all six reports. No check but that of the room refuses that fit,
+-- t's own parts of both tapes, in any rooms that are not too small: its nodes in all eight columns, and all six reports. No check but that of the room refuses that fit,
 -- and the forest's own rooms are enough for it. So trees can be grown some at a time: two forests over the same data, settings and weights that have a tree with the
 -- same counts and draws have the same tree. It holds because nothing is handed on from one tree to the next. Assumes nothing.
 use Prim.Native.Nat.{ℕ, suc, _-_, _*_, _<_, _≤_}
@@ -18,7 +18,7 @@ use Rattle.rules.specs.declared.Report.{Report}
 use Rattle.rules.specs.declared.TreeAnswer.{TreeAnswer}
 use Rattle.rules.specs.declared.ForestAnswer.{ForestAnswer}
 use Rattle.rules.specs.Words.{front, total}
-use Rattle.rules.specs.Lent.{OneTree, Reports, WaitingForm, TreeRooms, ForestRooms, Outcome, unweighted, shortest, entriesAt}
+use Rattle.rules.specs.Lent.{OneTree, behindOf, Reports, WaitingForm, TreeRooms, ForestRooms, Outcome, unweighted, shortestOfEight, entriesAt}
 use Rattle.rules.specs.Checks.{Test, test, numbered, checked, shapeIn, treesIn, valuesLong, listingsLong, lengths, numbersGood, countsGood, countsOne, roomFor, workEnough}
 use Rattle.rules.specs.Draws.{Out, bad, ok}
 use Rattle.rules.specs.Listing.{orderTests}
@@ -27,10 +27,12 @@ use Rattle.rules.specs.Table.{treeAt, treesOf}
 use Rattle.rules.specs.Forest.{ForestCall, triedOf, part, oneTreeAt, eachTree, tapesGood, forestTests, fitForest}
 use Rattle.lemmas.specs.Lists.{is-true, each, all-pass, every-take, every-drop, drop-take, total-from, getD-from}
 use Rattle.lemmas.specs.Outs.{then-of}
+use Rattle.lemmas.specs.Nodes.{behindEach}
 use Rattle.lemmas.specs.Root.{fit-reported}
 use Rattle.lemmas.specs.Tests.{goes-on, all-go-on}
 use Rattle.lemmas.specs.Passed.{past-test, past-all, ForestPassed, forest-passed}
 use Rattle.lemmas.specs.Written.{tree-written, tables, trees-written}
+use Rattle.lemmas.specs.Beside.{behindAt, behindTree, behind-written, tree-behind}
 use Rattle.lemmas.specs.Answered.{reportOr, GrewAt, ForestAnswered, forest-answered, trees-length, tree-at}
 use Rattle.demands.specs.Refusals.{Unrefused, ForestUnrefused, forest-passes}
 use Rattle.demands.specs.Parts.{tree-parts}
@@ -69,10 +71,11 @@ reportAt c t =
       thresholds = getD (c .thresholds) t 0;
     }
 
--- what the fit of one tree leaves is tree t of what a forest fit left: the report, and the nodes between two starts
+-- what the fit of one tree leaves is tree t of what a forest fit left: the report, and between two starts the nodes, with their counts and masses
 pub record IsTree {W X : Type 0} (left : ForestRooms W) (t : ℕ) (o : Outcome TreeAnswer (TreeRooms X)) : Type 0 where
   pub answer : o .answer ≡ TreeAnswer.Grown (reportAt (left .reports) t)
   pub nodes : entriesAt (o .rooms .nodes) 0 (getD (left .reports .nodes) t 0) ≡ treeAt (left .nodes) (left .starts) t
+  pub behind : behindAt (o .rooms .behind) 0 (getD (left .reports .nodes) t 0) ≡ behindTree (left .behind) (left .starts) t
 
 -- in any rooms that are not too small
 abbrev pub ItsTrees : Type 1
@@ -83,17 +86,18 @@ ItsTrees =
 
 -- what is lent to a forest is not too small for any of its trees
 abbrev pub ownRooms : {W : Type 0} → ForestRooms W → TreeRooms W
-ownRooms R = record { nodes = R .nodes; work = R .work }
+ownRooms R = record { nodes = R .nodes; behind = R .behind; work = R .work }
 
 abbrev pub RoomForEach : Type 1
 RoomForEach =
     (W : Type 0) (K : WaitingForm W) (C : ForestCall) (R : ForestRooms W) → ForestUnrefused (fitForest K C R .answer)
     → (t : ℕ) → t < C .trees → Unrefused (fitTree K (treeCallAt C t) (ownRooms R) .answer)
 
--- two forest fits that answer, one tree of each: where the calls that fit these trees alone are one, so are reports and nodes
+-- two forest fits that answer, one tree of each: where the calls that fit these trees alone are one, so are reports and nodes, and what stands beside them
 pub record SameTree {W X : Type 0} (left : ForestRooms W) (t : ℕ) (other : ForestRooms X) (u : ℕ) : Type 0 where
   pub report : reportAt (left .reports) t ≡ reportAt (other .reports) u
   pub nodes : treeAt (left .nodes) (left .starts) t ≡ treeAt (other .nodes) (other .starts) u
+  pub behind : behindTree (left .behind) (left .starts) t ≡ behindTree (other .behind) (other .starts) u
 
 abbrev pub SomeAtATime : Type 1
 SomeAtATime =
@@ -146,7 +150,7 @@ lengths-own C t h long g =
 
 module _ {W X : Type 0} (K : WaitingForm W) (L : WaitingForm X) (C : ForestCall) (R : ForestRooms W) (q : checked (forestTests K C R) ≡ Checked.Passed) (t : ℕ) (h : t < C .trees) where
   abbrev enough : TreeRooms X → Bool
-  enough Q = leb (roomFor (oneTreeOf (treeCallAt C t))) (shortest (Q .nodes)) && workEnough L (C .shape) (Q .work)
+  enough Q = leb (roomFor (oneTreeOf (treeCallAt C t))) (shortestOfEight (Q .nodes) (Q .behind)) && workEnough L (C .shape) (Q .work)
 
   -- all but the last pass
   but-one : (Q : TreeRooms X) → checked (treeTests L (treeCallAt C t) Q) ≡ cond (enough Q) Checked.Passed (Checked.Refused (numbered 6))
@@ -179,7 +183,7 @@ module _ {W : Type 0} (K : WaitingForm W) (C : ForestCall) (R : ForestRooms W) (
   abbrev grown : Tree
   grown = tree-at K C R a t h .tree
 
-  report-left : reportAt (fitForest K C R .rooms .reports) t ≡ grown .report
+  pub report-left : reportAt (fitForest K C R .rooms .reports) t ≡ grown .report
   report-left =
       (λ i. reportAt (a .after i .reports) t)
       ∙ (λ i.
@@ -200,7 +204,7 @@ module _ {W : Type 0} (K : WaitingForm W) (C : ForestCall) (R : ForestRooms W) (
           ap (λ l. getD (l ++ drop (length (map f reports)) old) t d) (map-map f (λ (u : Tree). u .report) (a .trees))
           ∙ tree-at K C R a t h .at (λ u. f (u .report)) (drop (length (map f reports)) old) d
 
-  nodes-left : treeAt (fitForest K C R .rooms .nodes) (fitForest K C R .rooms .starts) t ≡ entries (grown .nodes)
+  pub nodes-left : treeAt (fitForest K C R .rooms .nodes) (fitForest K C R .rooms .starts) t ≡ entries (grown .nodes)
   unfolding treesOf
   nodes-left =
       (λ i. treeAt (a .after i .nodes) (a .after i .starts) t)
@@ -209,6 +213,13 @@ module _ {W : Type 0} (K : WaitingForm W) (C : ForestCall) (R : ForestRooms W) (
       ∙ ap (λ l. getD l t []) (trees-written (R .nodes) (R .starts) (a .trees) (C .trees) (trees-length K C R a) ∙ sym (append-nil (tables (a .trees))))
       ∙ tree-at K C R a t h .at (λ u. entries (u .nodes)) [] []
 
+  pub behind-left : behindTree (fitForest K C R .rooms .behind) (fitForest K C R .rooms .starts) t ≡ behindEach (grown .nodes)
+  behind-left =
+      (λ i. behindTree (a .after i .behind) (a .after i .starts) t)
+      ∙ tree-behind (a .trees) (R .behind) (R .starts) t (subst (λ n. t < n) (sym (trees-length K C R a)) h)
+      ∙ ap (λ l. getD l t (behindOf [] [])) (sym (append-nil (map (λ (u : Tree). behindEach (u .nodes)) (a .trees))))
+      ∙ tree-at K C R a t h .at (λ u. behindEach (u .nodes)) [] (behindOf [] [])
+
 pub its-trees : ItsTrees
 unfolding treeDone
 its-trees W X K L C R g t h Q n =
@@ -216,9 +227,12 @@ its-trees W X K L C R g t h Q n =
       answer = ap (λ (o : Outcome TreeAnswer (TreeRooms X)). o .answer) done ∙ ap TreeAnswer.Grown (sym (report-left K C R a t h));
       nodes =
           (λ i. entriesAt (done i .rooms .nodes) 0 (report-left K C R a t h i .nodes))
-          ∙ tree-written (u .tree) (Q .nodes)
-          (then-of (λ (x : Tree). x .report .nodes ≡ length (x .nodes)) (fit (oneTreeAt C t) (C .given .inputs)) (u .tree) (u .grew) (fit-reported (oneTreeAt C t) (C .given .inputs)))
+          ∙ tree-written (u .tree) (Q .nodes) long
           ∙ sym (nodes-left K C R a t h);
+      behind =
+          (λ i. behindAt (done i .rooms .behind) 0 (report-left K C R a t h i .nodes))
+          ∙ behind-written (u .tree .nodes) (Q .behind) (u .tree .report .nodes) long
+          ∙ sym (behind-left K C R a t h);
     }
   where
     a : ForestAnswered K C R
@@ -226,6 +240,9 @@ its-trees W X K L C R g t h Q n =
 
     u : GrewAt (fit (oneTreeAt C t) (C .given .inputs)) (a .trees) t
     u = tree-at K C R a t h
+
+    long : u .tree .report .nodes ≡ length (u .tree .nodes)
+    long = then-of (λ (x : Tree). x .report .nodes ≡ length (x .nodes)) (fit (oneTreeAt C t) (C .given .inputs)) (u .tree) (u .grew) (fit-reported (oneTreeAt C t) (C .given .inputs))
 
     done : fitTree L (treeCallAt C t) Q ≡ treeDone L (ok (u .tree)) Q
     done = own-fit K L C R (a .passed) t h Q n ∙ ap (λ o. treeDone L o Q) (u .grew)
@@ -250,13 +267,13 @@ room-for-each W K C R g t h =
     p : ForestPassed K C R
     p = forest-passed K C R q
 
-    room : roomFor (oneTreeOf (treeCallAt C t)) ≤ shortest (R .nodes)
+    room : roomFor (oneTreeOf (treeCallAt C t)) ≤ shortestOfEight (R .nodes) (R .behind)
     room =
         le-trans (subst (λ F. roomFor F ≤ total roomFor (eachTree C)) (ap (oneTreeAt C) (zero-add t) ∙ sym (frame-same C t)) (total-from roomFor (oneTreeAt C) 0 (C .trees) t h))
         (p .room)
 
     all : T (enough K K C R q t h (ownRooms R))
-    all = and-i (leb (roomFor (oneTreeOf (treeCallAt C t))) (shortest (R .nodes))) (workEnough K (C .shape) (R .work)) (le→leb _ _ room) (p .work)
+    all = and-i (leb (roomFor (oneTreeOf (treeCallAt C t))) (shortestOfEight (R .nodes) (R .behind))) (workEnough K (C .shape) (R .work)) (le→leb _ _ room) (p .work)
 
 -- ---- so each tree of a forest that answers is had in the forest's own rooms
 
@@ -268,9 +285,21 @@ pub tree-alone : {W : Type 0} (K : WaitingForm W) (C : ForestCall) (R : ForestRo
 tree-alone {W} K C R g t h =
     its-trees W W K K C R g t h (ownRooms R) (not-6 _ (room-for-each W K C R (subst ForestUnrefused (sym g) tt) t h))
 
+-- where what one fit left is a tree of two forests, these are the same
+pub same-tree : {W X Y : Type 0} (left : ForestRooms W) (t : ℕ) (other : ForestRooms X) (u : ℕ) (o : Outcome TreeAnswer (TreeRooms Y)) → IsTree left t o → IsTree other u o
+    → SameTree left t other u
+same-tree left t other u o one two =
+    record {
+      report = report;
+      nodes = sym (one .nodes) ∙ (λ i. entriesAt (o .rooms .nodes) 0 (report i .nodes)) ∙ two .nodes;
+      behind = sym (one .behind) ∙ (λ i. behindAt (o .rooms .behind) 0 (report i .nodes)) ∙ two .behind;
+    }
+  where
+    report : reportAt (left .reports) t ≡ reportAt (other .reports) u
+    report = ap (reportOr (reportAt (left .reports) t)) (sym (one .answer) ∙ two .answer)
+
 pub some-at-a-time : SomeAtATime
-some-at-a-time W X K L C E R Q g k t u h l e =
-    record { report = report; nodes = sym (one .nodes) ∙ (λ i. entriesAt (fitTree K (treeCallAt C t) (ownRooms R) .rooms .nodes) 0 (report i .nodes)) ∙ other .nodes }
+some-at-a-time W X K L C E R Q g k t u h l e = same-tree _ t _ u (fitTree K (treeCallAt C t) (ownRooms R)) one other
   where
     one : IsTree (fitForest K C R .rooms) t (fitTree K (treeCallAt C t) (ownRooms R))
     one = tree-alone K C R g t h
@@ -279,6 +308,3 @@ some-at-a-time W X K L C E R Q g k t u h l e =
     other =
         subst (λ (c : TreeCall). IsTree (fitForest L E Q .rooms) u (fitTree K c (ownRooms R))) (sym e)
         (its-trees X W L K E Q k u l (ownRooms R) (not-6 _ (subst (λ (c : TreeCall). Unrefused (fitTree K c (ownRooms R) .answer)) e (subst Unrefused (sym (one .answer)) tt))))
-
-    report : reportAt (fitForest K C R .rooms .reports) t ≡ reportAt (fitForest L E Q .rooms .reports) u
-    report = ap (reportOr (reportAt (fitForest K C R .rooms .reports) t)) (sym (one .answer) ∙ other .answer)

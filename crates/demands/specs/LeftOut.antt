@@ -1,5 +1,5 @@
 -- Demand 3. Two fits of one tree, neither refused before growth, that are alike except in the targets and features of rows that the tree leaves out, each listing
--- reading the same with those rows struck, grow the same nodes and report the same depth, root mass, searches and draws used, or meet the same bad draw.
+-- reading the same with those rows struck, grow the same nodes, with the same counts and masses, and report the same depth, root mass, searches and draws used, or meet the same bad draw.
 -- It holds because a left-out row adds a zero, of either sign, to totals that never come to -0. Assumes nothing.
 use Prim.Native.Nat.{ℕ, zero, suc, _+_, _*_, _<_, _≤_}
 use native.Mathlib.Nat.{mul-pos, zero-lt-suc, le-trans, zero-add}

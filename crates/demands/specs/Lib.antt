@@ -11,6 +11,7 @@ pub mod Rooms
 pub mod LeftOut
 pub mod Walks
 pub mod OutOfBag
+pub mod LeftOutTrees
 pub mod Calls
 -- one outcome of every call
 pub mod OneOutcome
@@ -28,6 +29,7 @@ pub mod Splitters
 pub mod Sides
 pub mod Heights
 pub mod Filled
+pub mod Support
 pub mod Limits
 pub mod Tried
 -- reading

@@ -1,6 +1,7 @@
 -- What holds a tree back. No limit grows what the greatest limit grows, whatever call it stands in. The depth that is reported is within the limit, and is 0 exactly
 -- where the tree is one node; and a tree that stays below its limit would have been the same, draw by draw, under any other that it stays below. Where no row is kept,
--- nothing is searched: whatever the limit, the least split, the splitter and the tapes are, the tree is one leaf of value 0, and it uses no draw. Assumes nothing.
+-- nothing is searched: whatever the limit, the least split, the splitter and the tapes are, the tree is one leaf of value 0, count 0 and mass 0, and it uses no draw.
+-- Assumes nothing.
 use Prim.Native.Nat.{ℕ, _+_, _<_, _≤_, max}
 use native.Mathlib.Nat.{zero-add, sub-self}
 use native.Mathlib.Omega.{arith}
@@ -17,9 +18,9 @@ use Rattle.rules.specs.declared.Depth.the-variants.{Unlimited, AtMost}
 use Rattle.rules.specs.declared.Settings.{Settings}
 use Rattle.rules.specs.declared.Report.{Report}
 use Rattle.rules.specs.declared.TreeAnswer.{TreeAnswer}
-use Rattle.rules.specs.Words.{nought, from, total}
+use Rattle.rules.specs.Words.{nought, from, front, total}
 use Rattle.rules.specs.Totals.{empty, valueOf}
-use Rattle.rules.specs.Lent.{Data, OneTree, WaitingForm, TreeRooms, ForestRooms, Outcome, kept, countIn, keptRows, leafEntry, writeEntries, zeroWork}
+use Rattle.rules.specs.Lent.{Data, OneTree, behindOf, WaitingForm, TreeRooms, ForestRooms, Outcome, kept, countIn, keptRows, leafEntry, writeEntries, zeroWork}
 use Rattle.rules.specs.Checks.{checked, roomFor}
 use Rattle.rules.specs.Draws.{Out, ok, bind, Tapes, tape}
 use Rattle.rules.specs.Search.{NodeRows, Found, noCut, cutFound, totalsOf, search}
@@ -89,12 +90,16 @@ LimitUnmet =
     (W : Type 0) (K : WaitingForm W) (C : TreeCall) (R : TreeRooms W) (r : Report) (d : Depth) → fitTree K C R .answer ≡ TreeAnswer.Grown r
     → max 1 (r .depth) < most (C .settings .depth) → max 1 (r .depth) < most d → fitTree K (treeUnder d C) R ≡ fitTree K C R
 
--- one leaf of value 0, and nothing searched or drawn
+-- one leaf of value 0 with nothing behind it, and nothing searched or drawn
 abbrev pub oneLeaf : {W : Type 0} → WaitingForm W → TreeRooms W → Outcome TreeAnswer (TreeRooms W)
 oneLeaf K R =
     record {
       answer = TreeAnswer.Grown (record { nodes = 1; depth = 0; mass = nought; searches = 0; words = 0; thresholds = 0 });
-      rooms = record { nodes = writeEntries (leafEntry nought ∷ []) (R .nodes); work = zeroWork K (R .work) };
+      rooms = record {
+        nodes = writeEntries (leafEntry nought ∷ []) (R .nodes);
+        behind = behindOf (front (0 ∷ []) (R .behind .count)) (front (nought ∷ []) (R .behind .mass));
+        work = zeroWork K (R .work);
+      };
     }
 
 abbrev pub NothingKept : Type 1

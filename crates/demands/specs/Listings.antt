@@ -2,7 +2,7 @@
 -- column places in order, and at the place the first of the three tests that fails. With a row met before it tells the lowest row that the whole column lacks, and there is
 -- one. No other refusal before growth tells a place. Listings of the length that is asked have no fault exactly where every place is in order. And one refusal, 5, could
 -- stand for the three: it would be given exactly where one of them is, so nothing else of a fit depends on the places. Assumes nothing.
-use Prim.Native.Nat.{ℕ, _+_, _*_, _<_, _≤_}
+use Prim.Native.Nat.{ℕ, _*_, _<_, _≤_}
 use native.Mathlib.Nat.{zero-add}
 use native.Mathlib.Omega.{arith}
 use mathlib.Core.Path.{_≡_, refl, sym, ap, _∙_, subst}
@@ -19,7 +19,7 @@ use Rattle.rules.specs.declared.Checked.{Checked}
 use Rattle.rules.specs.declared.TreeAnswer.{TreeAnswer}
 use Rattle.rules.specs.declared.ForestAnswer.{ForestAnswer}
 use Rattle.rules.specs.Words.{total}
-use Rattle.rules.specs.Lent.{Given, WaitingForm, TreeRooms, ForestRooms, cell, listingAt, unweighted, shortest}
+use Rattle.rules.specs.Lent.{Given, WaitingForm, TreeRooms, ForestRooms, cell, listingAt, unweighted, shortestOfEight}
 use Rattle.rules.specs.Checks.{Test, test, numbered, checked, numberOf, firstFailed, shapeIn, treesIn, valuesLong, listingsLong, lengths, numbersGood, countsGood, countsOne, roomFor, workEnough}
 use Rattle.rules.specs.Listing.{lowestLacking, columnTests, orderTests, listingTests, checkListings}
 use Rattle.rules.specs.Fit.{TreeCall, oneTreeOf, treeTests, fitTree}
@@ -86,7 +86,7 @@ pub record OneForThree : Type 1 where
       ∷ test 3 (numbersGood (C .given))
       ∷ test 4 (countsGood (C .given))
       ∷ test 5 (listingsGood (C .shape) (C .given .inputs .values) (C .given .inputs .listings))
-      ∷ test 6 (leb (roomFor (oneTreeOf C)) (shortest (R .nodes)) && workEnough K (C .shape) (R .work))
+      ∷ test 6 (leb (roomFor (oneTreeOf C)) (shortestOfEight (R .nodes) (R .behind)) && workEnough K (C .shape) (R .work))
       ∷ []
       )
   pub forest : (W : Type 0) (K : WaitingForm W) (C : ForestCall) (R : ForestRooms W) → asOne (checked (forestTests K C R)) ≡ firstFailed (
@@ -95,7 +95,7 @@ pub record OneForThree : Type 1 where
       ∷ test 3 (numbersGood (C .given))
       ∷ test 4 (countsGood (C .given) && countsOne (C .given))
       ∷ test 5 (listingsGood (C .shape) (C .given .inputs .values) (C .given .inputs .listings))
-      ∷ test 6 (leb (total roomFor (eachTree C)) (shortest (R .nodes)) && roomsGood K C R)
+      ∷ test 6 (leb (total roomFor (eachTree C)) (shortestOfEight (R .nodes) (R .behind)) && roomsGood K C R)
       ∷ []
       )
   pub listings : (S : Shape) (xs : List Float) (ls : List ℕ) → asOne (checkListings S xs ls) ≡ firstFailed (

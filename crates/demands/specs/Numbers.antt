@@ -1,5 +1,6 @@
 -- What R10.3 and R10.4 state of a fit's numbers. The root mass is the sum of all rows' masses by number, and the root's totals run likewise. The choice words used are
--- features times searches, and searches never exceed nodes. The node room that is asked is enough: a tree has at most max(1, 2 x kept rows - 1) nodes.
+-- features times searches, and searches never exceed nodes. The node room that is asked is enough: a tree has at most max(1, 2 x kept rows - 1) nodes, and each of the eight
+-- columns has at least as many places.
 -- The same of a forest, by the columns that it leaves: at each tree's place its root mass, words and searches; and the starts tell trees that lie one behind another,
 -- the sum of whose nodes is within the room. It holds of a forest because each of its trees is what the fit of that tree alone gives. Assumes nothing.
 use Prim.Native.Nat.{ℕ, zero, suc, _+_, _-_, _*_, _<_, _≤_}
@@ -16,7 +17,7 @@ use Rattle.rules.specs.declared.TreeAnswer.{TreeAnswer}
 use Rattle.rules.specs.declared.ForestAnswer.{ForestAnswer}
 use Rattle.rules.specs.Words.{from, front, total}
 use Rattle.rules.specs.Totals.{empty, takeIn}
-use Rattle.rules.specs.Lent.{Data, Given, OneTree, Reports, WaitingForm, TreeRooms, ForestRooms, shortest, massIn}
+use Rattle.rules.specs.Lent.{Data, Given, OneTree, Reports, WaitingForm, TreeRooms, ForestRooms, shortestOfEight, massIn}
 use Rattle.rules.specs.Checks.{roomFor, reportsExact}
 use Rattle.rules.specs.Draws.{tape}
 use Rattle.rules.specs.Search.{totalsOf, search}
@@ -24,8 +25,8 @@ use Rattle.rules.specs.Growth.{fromRoot}
 use Rattle.rules.specs.Fit.{elementIn, element, root, Tree, treeOf, growFrom, fit, paramsOf, TreeCall, oneTreeOf, fitTree}
 use Rattle.rules.specs.Forest.{ForestCall, oneTreeAt, startsFrom, forestEntries, fitForest}
 use Rattle.lemmas.specs.Lists.{Every, map-same}
-use Rattle.lemmas.specs.Outs.{Then, then-then, then-any, then-of}
-use Rattle.lemmas.specs.Root.{fit-reported, fit-nodes}
+use Rattle.lemmas.specs.Outs.{Then, then-then, then-of}
+use Rattle.lemmas.specs.Root.{fit-reported, fit-mass, fit-nodes}
 use Rattle.lemmas.specs.Spent.{growth-spent}
 use Rattle.lemmas.specs.Passed.{and2, and5, tree-passed, Binary64}
 use Rattle.lemmas.specs.Written.{first-start, last-start, next-start, length-forest}
@@ -63,7 +64,7 @@ TreeNumbers = (W : Type 0) (K : WaitingForm W) (C : TreeCall) (R : TreeRooms W) 
 abbrev pub TreeRoom : Type 1
 TreeRoom =
     (W : Type 0) (K : WaitingForm W) (C : TreeCall) (R : TreeRooms W) (r : Report) → Binary64 (C .given .inputs .values) → fitTree K C R .answer ≡ TreeAnswer.Grown r
-    → (r .nodes ≤ roomFor (oneTreeOf C)) × (roomFor (oneTreeOf C) ≤ shortest (R .nodes))
+    → (r .nodes ≤ roomFor (oneTreeOf C)) × (roomFor (oneTreeOf C) ≤ shortestOfEight (R .nodes) (R .behind))
 
 -- the same of a forest, by what its columns hold at each tree's place
 abbrev pub ForestMass : Type 1
@@ -86,7 +87,7 @@ pub record Lies (trees room : ℕ) (starts nodes : List ℕ) : Type 0 where
 abbrev pub ForestRoom : Type 1
 ForestRoom =
     (W : Type 0) (K : WaitingForm W) (C : ForestCall) (R : ForestRooms W) → Binary64 (C .given .inputs .values) → fitForest K C R .answer ≡ ForestAnswer.Grown
-    → Lies (C .trees) (shortest (R .nodes)) (fitForest K C R .rooms .starts) (fitForest K C R .rooms .reports .nodes)
+    → Lies (C .trees) (shortestOfEight (R .nodes) (R .behind)) (fitForest K C R .rooms .starts) (fitForest K C R .rooms .reports .nodes)
 
 -- ---- the root
 
@@ -104,11 +105,12 @@ unfolding root totalsTo
 root-by-number F D = totals-from F D 0 (F .rows) ∙ ap (totalsTo (givenBy F D)) (zero-add (F .rows))
 
 pub root-mass : RootMass
-unfolding fit growFrom treeOf oneTreeOf
+unfolding oneTreeOf
 root-mass W K C R r h =
     let a : TreeAnswered K C R r = tree-answered K C R r h in
     ap (λ (x : Report). x .mass) (sym (a .reported))
-    ∙ then-of (λ (t : Tree). t .report .mass ≡ root (oneTreeOf C) (C .given .inputs) .totals .mass) (fit (oneTreeOf C) (C .given .inputs)) (a .tree) (a .grew) (then-any _ _ _ (λ s. refl))
+    ∙ then-of (λ (t : Tree). t .report .mass ≡ root (oneTreeOf C) (C .given .inputs) .totals .mass) (fit (oneTreeOf C) (C .given .inputs)) (a .tree) (a .grew)
+    (fit-mass (oneTreeOf C) (C .given .inputs))
     ∙ ap (λ (t : Totals). t .mass) (root-by-number (oneTreeOf C) (C .given .inputs))
 
 -- ---- of a fit
@@ -181,11 +183,11 @@ lies trees room ts starts n h =
 
 pub forest-room-enough : ForestRoom
 forest-room-enough W K C R held g =
-    subst (λ (r : ForestRooms W). Lies (C .trees) (shortest (R .nodes)) (r .starts) (r .reports .nodes)) (sym (a .after))
-    (subst (Lies (C .trees) (shortest (R .nodes)) _)
+    subst (λ (r : ForestRooms W). Lies (C .trees) (shortestOfEight (R .nodes) (R .behind)) (r .starts) (r .reports .nodes)) (sym (a .after))
+    (subst (Lies (C .trees) (shortestOfEight (R .nodes) (R .behind)) _)
     (sym (nodes-written (a .trees) (R .reports .nodes) (columns-long (C .trees) (R .reports) (forest-right K C R a .reports) .0 ∙ sym n)
     (trees-each K C R a (λ (t : Tree). t .report .nodes ≡ length (t .nodes)) held (λ t l. fit-reported (oneTreeAt C t) (C .given .inputs)))))
-    (lies (C .trees) (shortest (R .nodes)) (a .trees) (R .starts) n (forest-room K C R a held)))
+    (lies (C .trees) (shortestOfEight (R .nodes) (R .behind)) (a .trees) (R .starts) n (forest-room K C R a held)))
   where
     a : ForestAnswered K C R
     a = forest-answered K C R g

@@ -22,7 +22,7 @@ use Rattle.rules.specs.declared.ErrorReply.{ErrorReply}
 use Rattle.rules.specs.declared.NodeReply.{NodeReply}
 use Rattle.rules.specs.declared.SizeReply.{SizeReply}
 use Rattle.rules.specs.Words.{nought, filled, from, joined}
-use Rattle.rules.specs.Lent.{Columns, Reports, WaitingForm, WaitingRoom, waitingRoom, Work, TreeRooms, ForestRooms, Outcome, cell, listingAt, shortest, entryAt, zeroColumns, zeroReports, zeroWork}
+use Rattle.rules.specs.Lent.{Columns, Behind, Reports, WaitingForm, WaitingRoom, waitingRoom, Work, TreeRooms, ForestRooms, Outcome, cell, listingAt, shortest, entryAt, zeroColumns, zeroBehind, zeroReports, zeroWork}
 use Rattle.rules.specs.Checks.{Test, test, checked, firstFailed, replies}
 use Rattle.rules.specs.Listing.{lowestLacking, testsFrom, columnTests, orderTests, listingTests, checkListings}
 use Rattle.rules.specs.Draws.{Out, bad, ok}
@@ -73,6 +73,10 @@ pub record NodesZero (before after : Columns) : Type 0 where
   pub trueChild : Everywhere 0 (before .trueChild) (after .trueChild)
   pub falseChild : Everywhere 0 (before .falseChild) (after .falseChild)
 
+pub record BehindZero (before after : Behind) : Type 0 where
+  pub count : Everywhere 0 (before .count) (after .count)
+  pub mass : Everywhere nought (before .mass) (after .mass)
+
 pub record ReportsZero (before after : Reports) : Type 0 where
   pub nodes : Everywhere 0 (before .nodes) (after .nodes)
   pub depth : Everywhere 0 (before .depth) (after .depth)
@@ -91,6 +95,7 @@ pub record WorkZero (before after : Work WaitingRoom) : Type 0 where
 
 pub record TreeZero (before after : TreeRooms WaitingRoom) : Type 0 where
   pub nodes : NodesZero (before .nodes) (after .nodes)
+  pub behind : BehindZero (before .behind) (after .behind)
   pub work : WorkZero (before .work) (after .work)
 
 abbrev pub TreeBad : Type 0
@@ -103,6 +108,7 @@ ForestRefused =
 
 pub record ForestZero (before after : ForestRooms WaitingRoom) : Type 0 where
   pub nodes : NodesZero (before .nodes) (after .nodes)
+  pub behind : BehindZero (before .behind) (after .behind)
   pub starts : Everywhere 0 (before .starts) (after .starts)
   pub reports : ReportsZero (before .reports) (after .reports)
   pub work : WorkZero (before .work) (after .work)
@@ -221,6 +227,9 @@ nodes-zero c =
       falseChild = all-filled 0 (c .falseChild);
     }
 
+behind-zero : (b : Behind) → BehindZero b (zeroBehind b)
+behind-zero b = record { count = all-filled 0 (b .count); mass = all-filled nought (b .mass) }
+
 reports-zero : (c : Reports) → ReportsZero c (zeroReports c)
 reports-zero c =
     record {
@@ -263,7 +272,7 @@ unfolding fitTree treeEnds treeDone
 tree-bad C R d h = go (checked (treeTests waitingRoom C R)) (grownTree C) h
   where
     go : (k : Checked) (o : Out Tree) → treeEnds waitingRoom k o R .answer ≡ TreeAnswer.BadDraw d → TreeZero R (treeEnds waitingRoom k o R .rooms)
-    go Checked.Passed (bad s) h = record { nodes = nodes-zero (R .nodes); work = work-zero (R .work) }
+    go Checked.Passed (bad s) h = record { nodes = nodes-zero (R .nodes); behind = behind-zero (R .behind); work = work-zero (R .work) }
     go Checked.Passed (ok t) h = let z : _≡_ {A = ℕ} 0 1 = cc in absurd (omega arith)
     go (Checked.Refused q) o h = let z : _≡_ {A = ℕ} 0 1 = cc in absurd (omega arith)
 
@@ -288,7 +297,14 @@ unfolding fitForest forestEnds forestDone
 forest-bad C R d h = go (checked (forestTests waitingRoom C R)) (grownForest C) h
   where
     go : (k : Checked) (f : Forest) → forestEnds waitingRoom k f R .answer ≡ ForestAnswer.BadDraw d → ForestZero R (forestEnds waitingRoom k f R .rooms)
-    go Checked.Passed (stopped e) h = record { nodes = nodes-zero (R .nodes); starts = all-filled 0 (R .starts); reports = reports-zero (R .reports); work = work-zero (R .work) }
+    go Checked.Passed (stopped e) h =
+        record {
+          nodes = nodes-zero (R .nodes);
+          behind = behind-zero (R .behind);
+          starts = all-filled 0 (R .starts);
+          reports = reports-zero (R .reports);
+          work = work-zero (R .work);
+        }
     go Checked.Passed (grownAll ts) h = let z : _≡_ {A = ℕ} 0 1 = cc in absurd (omega arith)
     go (Checked.Refused q) f h = let z : _≡_ {A = ℕ} 0 1 = cc in absurd (omega arith)
 

@@ -10,7 +10,7 @@ use Rattle.rules.specs.declared.Shape.{Shape}
 use Rattle.rules.specs.declared.Refusal.{Refusal}
 use Rattle.rules.specs.declared.Checked.{Checked}
 use Rattle.rules.specs.Words.{from, joined, total}
-use Rattle.rules.specs.Lent.{WaitingForm, TreeRooms, ForestRooms, listingAt, shortest}
+use Rattle.rules.specs.Lent.{WaitingForm, TreeRooms, ForestRooms, listingAt, shortestOfEight}
 use Rattle.rules.specs.Checks.{Test, checked, numberOf, roomFor, workEnough}
 use Rattle.rules.specs.Listing.{testsFrom, columnTests, orderTests}
 use Rattle.rules.specs.Fit.{TreeCall, oneTreeOf, treeTests}
@@ -48,14 +48,14 @@ module _ (Q : ℕ → Type 0) (q₁₁ : Q 11) (q₁₂ : Q 12) (q₁₃ : Q 13)
 
   module _ {W : Type 0} (K : WaitingForm W) (q₁ : Q 1) (q₂ : Q 2) (q₃ : Q 3) (q₄ : Q 4) where
     pub tree-number : (C : TreeCall) (R : TreeRooms W)
-        → ((leb (roomFor (oneTreeOf C)) (shortest (R .nodes)) && workEnough K (C .shape) (R .work)) ≡ false → Q 6)
+        → ((leb (roomFor (oneTreeOf C)) (shortestOfEight (R .nodes) (R .behind)) && workEnough K (C .shape) (R .work)) ≡ false → Q 6)
         → (r : Refusal) → checked (treeTests K C R) ≡ Checked.Refused r → Q (r .number)
     unfolding treeTests
     tree-number C R q₆ =
         told-number Q (treeTests K C R)
         (λ f. q₁, (λ f. q₂, (λ f. q₃, (λ f. q₄, every-append Fails (orderTests (C .shape) (C .given .inputs .values) (C .given .inputs .listings)) _ (orders-tell _ _ _) (q₆, tt)))))
 
-    pub forest-number : (C : ForestCall) (R : ForestRooms W) → ((leb (total roomFor (eachTree C)) (shortest (R .nodes)) && roomsGood K C R) ≡ false → Q 6)
+    pub forest-number : (C : ForestCall) (R : ForestRooms W) → ((leb (total roomFor (eachTree C)) (shortestOfEight (R .nodes) (R .behind)) && roomsGood K C R) ≡ false → Q 6)
         → (r : Refusal) → checked (forestTests K C R) ≡ Checked.Refused r → Q (r .number)
     unfolding forestTests
     forest-number C R q₆ =

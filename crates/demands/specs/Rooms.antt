@@ -1,8 +1,8 @@
 -- No fit answers in short rooms. Where a fit is not refused before growth, every slice that is lent to it is as long as R3.11 to R3.13 and R11.8 require: the order features x rows, the scratch
--- rows, the flags as many as the rows and as many as the features, both slices of the waiting list rows, each node column what the trees may come to,
+-- rows, the flags as many as the rows and as many as the features, both slices of the waiting list rows, each of the eight node columns what the trees may come to,
 -- max(1, 2 x kept rows - 1) a tree, the starts trees + 1; and each report column is as long as there are trees, no longer. And no fit is refused by 6 whose rooms are so.
 -- It holds because the last test says just that. Assumes nothing.
-use Prim.Native.Nat.{ℕ, suc, _+_, _-_, _*_, _≤_, max}
+use Prim.Native.Nat.{ℕ, suc, _+_, _-_, _*_, _≤_, min, max}
 use native.Mathlib.Omega.{arith}
 use mathlib.Core.Path.{_≡_, sym, _∙_, subst}
 use mathlib.Core.Logic.{_≢_}
@@ -14,7 +14,7 @@ use Rattle.rules.specs.declared.Refusal.{Refusal}
 use Rattle.rules.specs.declared.TreeAnswer.{TreeAnswer}
 use Rattle.rules.specs.declared.ForestAnswer.{ForestAnswer}
 use Rattle.rules.specs.Words.{from, total}
-use Rattle.rules.specs.Lent.{OneTree, Columns, Reports, WaitingRoom, waitingRoom, Work, TreeRooms, ForestRooms, keptRows, shortest}
+use Rattle.rules.specs.Lent.{OneTree, Columns, Behind, Reports, WaitingRoom, waitingRoom, Work, TreeRooms, ForestRooms, keptRows, shortest, shortestOfEight}
 use Rattle.rules.specs.Checks.{roomFor, workEnough, reportsExact}
 use Rattle.rules.specs.Fit.{TreeCall, oneTreeOf, treeTests, fitTree}
 use Rattle.rules.specs.Forest.{ForestCall, oneTreeAt, eachTree, roomsGood, forestTests, fitForest}
@@ -25,14 +25,16 @@ use Rattle.demands.specs.Refused.{tree-number, forest-number}
 
 -- ---- the statements
 
--- each column of the node room has so many places
-pub record NodesLong (n : ℕ) (c : Columns) : Type 0 where
+-- each column of the node room, the six and the two, has so many places
+pub record NodesLong (n : ℕ) (c : Columns) (b : Behind) : Type 0 where
   pub value : n ≤ length (c .value)
   pub feature : n ≤ length (c .feature)
   pub threshold : n ≤ length (c .threshold)
   pub score : n ≤ length (c .score)
   pub trueChild : n ≤ length (c .trueChild)
   pub falseChild : n ≤ length (c .falseChild)
+  pub count : n ≤ length (b .count)
+  pub mass : n ≤ length (b .mass)
 
 pub record WorkLong (S : Shape) (w : Work WaitingRoom) : Type 0 where
   pub order : S .features * S .rows ≤ length (w .order)
@@ -55,11 +57,11 @@ abbrev pub nodesAtMost : OneTree → ℕ
 nodesAtMost F = max 1 (2 * length (keptRows F) - 1)
 
 pub record TreeLong (C : TreeCall) (R : TreeRooms WaitingRoom) : Type 0 where
-  pub nodes : NodesLong (nodesAtMost (oneTreeOf C)) (R .nodes)
+  pub nodes : NodesLong (nodesAtMost (oneTreeOf C)) (R .nodes) (R .behind)
   pub work : WorkLong (C .shape) (R .work)
 
 pub record ForestLong (C : ForestCall) (R : ForestRooms WaitingRoom) : Type 0 where
-  pub nodes : NodesLong (total (λ t. nodesAtMost (oneTreeAt C t)) (from 0 (C .trees))) (R .nodes)
+  pub nodes : NodesLong (total (λ t. nodesAtMost (oneTreeAt C t)) (from 0 (C .trees))) (R .nodes) (R .behind)
   pub starts : C .trees + 1 ≤ length (R .starts)
   pub reports : ReportsLong (C .trees) (R .reports)
   pub work : WorkLong (C .shape) (R .work)
@@ -96,19 +98,40 @@ same {m} {n} h = eqb→eq m n (subst T (sym h) tt)
 exact : {m n : ℕ} → m ≡ n → eqb m n ≡ true
 exact {m} {n} h = is-true (eqb m n) (subst (λ k. T (eqb m k)) h (eqb-refl m))
 
-nodes-long : (n : ℕ) (c : Columns) → n ≤ shortest c → NodesLong n c
-nodes-long n c h =
+-- the shorter of the two
+abbrev shorter : Behind → ℕ
+shorter b = min (length (b .count)) (length (b .mass))
+
+each-long : (n : ℕ) (c : Columns) (b : Behind) → n ≤ shortest c → n ≤ shorter b → NodesLong n c b
+each-long n c b six two =
     record {
-      value = omega (arith, h);
-      feature = omega (arith, h);
-      threshold = omega (arith, h);
-      score = omega (arith, h);
-      trueChild = omega (arith, h);
-      falseChild = omega (arith, h);
+      value = omega (arith, six);
+      feature = omega (arith, six);
+      threshold = omega (arith, six);
+      score = omega (arith, six);
+      trueChild = omega (arith, six);
+      falseChild = omega (arith, six);
+      count = omega (arith, two);
+      mass = omega (arith, two);
     }
 
-nodes-fit : (n : ℕ) (c : Columns) → NodesLong n c → n ≤ shortest c
-nodes-fit n c h = omega (arith, h .value, h .feature, h .threshold, h .score, h .trueChild, h .falseChild)
+nodes-long : (n : ℕ) (c : Columns) (b : Behind) → n ≤ shortestOfEight c b → NodesLong n c b
+nodes-long n c b h = each-long n c b (first (shortest c) (shorter b) h) (last (shortest c) (shorter b) h)
+  where
+    first : (x y : ℕ) → n ≤ min x y → n ≤ x
+    first x y h = omega arith
+
+    last : (x y : ℕ) → n ≤ min x y → n ≤ y
+    last x y h = omega arith
+
+nodes-fit : (n : ℕ) (c : Columns) (b : Behind) → NodesLong n c b → n ≤ shortestOfEight c b
+nodes-fit n c b h =
+    let six : n ≤ shortest c = omega (arith, h .value, h .feature, h .threshold, h .score, h .trueChild, h .falseChild) in
+    let two : n ≤ shorter b = omega (arith, h .count, h .mass) in
+    all (shortest c) (shorter b) six two
+  where
+    all : (x y : ℕ) → n ≤ x → n ≤ y → n ≤ min x y
+    all x y h k = omega arith
 
 work-long : (S : Shape) (w : Work WaitingRoom) → workEnough waitingRoom S w ≡ true → WorkLong S w
 unfolding workEnough
@@ -153,7 +176,7 @@ pub tree-rooms-long : TreeRoomsLong
 unfolding roomFor
 tree-rooms-long C R un =
     let p = tree-passed waitingRoom C R (tree-passes waitingRoom C R un) in
-    record { nodes = nodes-long (nodesAtMost (oneTreeOf C)) (R .nodes) (p .room); work = work-long (C .shape) (R .work) (is-true (workEnough waitingRoom (C .shape) (R .work)) (p .work)) }
+    record { nodes = nodes-long (nodesAtMost (oneTreeOf C)) (R .nodes) (R .behind) (p .room); work = work-long (C .shape) (R .work) (is-true (workEnough waitingRoom (C .shape) (R .work)) (p .work)) }
 
 pub tree-rooms-taken : TreeRoomsTaken
 unfolding treeTests roomFor
@@ -161,8 +184,8 @@ tree-rooms-taken C R long r h =
     tree-number (λ n. n ≢ 6) (other 11 tt) (other 12 tt) (other 13 tt) waitingRoom (other 1 tt) (other 2 tt) (other 3 tt) (other 4 tt) C R (λ f. absurd (subst T (sym passes ∙ f) tt))
     r (tree-refused WaitingRoom waitingRoom C R r h .1)
   where
-    passes : leb (nodesAtMost (oneTreeOf C)) (shortest (R .nodes)) && workEnough waitingRoom (C .shape) (R .work) ≡ true
-    passes = both (enough (nodes-fit (nodesAtMost (oneTreeOf C)) (R .nodes) (long .nodes))) (work-fits (C .shape) (R .work) (long .work))
+    passes : leb (nodesAtMost (oneTreeOf C)) (shortestOfEight (R .nodes) (R .behind)) && workEnough waitingRoom (C .shape) (R .work) ≡ true
+    passes = both (enough (nodes-fit (nodesAtMost (oneTreeOf C)) (R .nodes) (R .behind) (long .nodes))) (work-fits (C .shape) (R .work) (long .work))
 
 -- ---- a forest
 
@@ -175,7 +198,7 @@ pub forest-rooms-long : ForestRoomsLong
 forest-rooms-long C R un =
     let p = forest-passed waitingRoom C R (forest-passes waitingRoom C R un) in
     record {
-      nodes = nodes-long (total (λ t. nodesAtMost (oneTreeAt C t)) (from 0 (C .trees))) (R .nodes) (subst (λ n. n ≤ shortest (R .nodes)) (room-same C) (p .room));
+      nodes = nodes-long (total (λ t. nodesAtMost (oneTreeAt C t)) (from 0 (C .trees))) (R .nodes) (R .behind) (subst (λ n. n ≤ shortestOfEight (R .nodes) (R .behind)) (room-same C) (p .room));
       starts = omega (arith, p .startsRoom);
       reports = reports-long (C .trees) (R .reports) (is-true (reportsExact (C .trees) (R .reports)) (p .reports));
       work = work-long (C .shape) (R .work) (is-true (workEnough waitingRoom (C .shape) (R .work)) (p .work));
@@ -187,8 +210,8 @@ forest-rooms-taken C R long r h =
     forest-number (λ n. n ≢ 6) (other 11 tt) (other 12 tt) (other 13 tt) waitingRoom (other 1 tt) (other 2 tt) (other 3 tt) (other 4 tt) C R (λ f. absurd (subst T (sym passes ∙ f) tt))
     r (forest-refused WaitingRoom waitingRoom C R r h .1)
   where
-    passes : leb (total roomFor (eachTree C)) (shortest (R .nodes)) && roomsGood waitingRoom C R ≡ true
+    passes : leb (total roomFor (eachTree C)) (shortestOfEight (R .nodes) (R .behind)) && roomsGood waitingRoom C R ≡ true
     passes =
         let starts : suc (C .trees) ≤ length (R .starts) = omega (arith, long .starts) in
-        both (enough (subst (λ n. n ≤ shortest (R .nodes)) (sym (room-same C)) (nodes-fit (total (λ t. nodesAtMost (oneTreeAt C t)) (from 0 (C .trees))) (R .nodes) (long .nodes))))
+        both (enough (subst (λ n. n ≤ shortestOfEight (R .nodes) (R .behind)) (sym (room-same C)) (nodes-fit _ (R .nodes) (R .behind) (long .nodes))))
         (both (work-fits (C .shape) (R .work) (long .work)) (both (enough starts) (reports-fit (C .trees) (R .reports) (long .reports))))

@@ -17,7 +17,7 @@ use Rattle.rules.specs.declared.Report.{Report}
 use Rattle.rules.specs.declared.TreeAnswer.{TreeAnswer}
 use Rattle.rules.specs.declared.ForestAnswer.{ForestAnswer}
 use Rattle.rules.specs.Words.{every, member, total}
-use Rattle.rules.specs.Lent.{WaitingForm, TreeRooms, ForestRooms, shortest}
+use Rattle.rules.specs.Lent.{WaitingForm, TreeRooms, ForestRooms, shortestOfEight}
 use Rattle.rules.specs.Checks.{test, checked, firstFailed, shapeIn, treesIn, lengths, numbersGood, countsGood, countsOne, roomFor, workEnough}
 use Rattle.rules.specs.Listing.{listingTests, checkListings}
 use Rattle.rules.specs.Fit.{TreeCall, oneTreeOf, fitTree}
@@ -38,7 +38,7 @@ treeRules K C R =
     ∷ numbersGood (C .given)
     ∷ countsGood (C .given)
     ∷ listingsGood (C .shape) (C .given .inputs .values) (C .given .inputs .listings)
-    ∷ (leb (roomFor (oneTreeOf C)) (shortest (R .nodes)) && workEnough K (C .shape) (R .work))
+    ∷ (leb (roomFor (oneTreeOf C)) (shortestOfEight (R .nodes) (R .behind)) && workEnough K (C .shape) (R .work))
     ∷ []
 
 abbrev pub forestRules : {W : Type 0} → WaitingForm W → ForestCall → ForestRooms W → List Bool
@@ -48,7 +48,7 @@ forestRules K C R =
     ∷ numbersGood (C .given)
     ∷ (countsGood (C .given) && countsOne (C .given))
     ∷ listingsGood (C .shape) (C .given .inputs .values) (C .given .inputs .listings)
-    ∷ (leb (total roomFor (eachTree C)) (shortest (R .nodes)) && roomsGood K C R)
+    ∷ (leb (total roomFor (eachTree C)) (shortestOfEight (R .nodes) (R .behind)) && roomsGood K C R)
     ∷ []
 
 -- the rule at place n of the list is broken, and all before it hold

@@ -1,7 +1,7 @@
 -- The walk of a good table ends: at a leaf, inside the tree, within as many steps as it has nodes. And what a fit that answers leaves is a good table,
 -- of the trees that it grew, so that every reader can go on from it. Assumes nothing.
 use Prim.Native.Nat.{ℕ, _<_}
-use mathlib.Core.Path.{_≡_, sym, _∙_, subst}
+use mathlib.Core.Path.{_≡_, sym, ap, _∙_, subst}
 use mathlib.Core.Bool.{true}
 use mathlib.Core.List.{List}
 use lib.ListN.{length, getD}
@@ -17,11 +17,13 @@ use Rattle.rules.specs.Table.{isLeaf, goodTree, ForestTable, tableOf, goodFores
 use Rattle.rules.specs.Reading.{noEntry, walked}
 use Rattle.rules.specs.Forest.{ForestCall, oneTreeAt, fitForest}
 use Rattle.lemmas.specs.Outs.{then-of}
+use Rattle.lemmas.specs.Nodes.{behindEach}
 use Rattle.lemmas.specs.Root.{fit-reported}
-use Rattle.lemmas.specs.Passed.{Binary64}
+use Rattle.lemmas.specs.Passed.{six-of-eight, Binary64}
 use Rattle.lemmas.specs.Tables.{fit-good}
 use Rattle.lemmas.specs.Tables as Tables
 use Rattle.lemmas.specs.Written.{tree-written, written-good}
+use Rattle.lemmas.specs.Beside.{behindAt, behind-written}
 use Rattle.lemmas.specs.Answered.{TreeAnswered, tree-answered, tree-listed, ForestAnswered, forest-answered, trees-length, trees-each, forest-room}
 
 -- ---- the statements
@@ -63,6 +65,13 @@ pub tree-left : {W : Type 0} (K : WaitingForm W) (C : TreeCall) (R : TreeRooms W
 tree-left K C R r a =
     (λ i. entriesAt (a .after i .nodes) 0 (sym (a .reported) i .nodes)) ∙ tree-written (a .tree) (R .nodes) (reported-nodes C (a .tree) (a .grew))
 
+-- and so are the counts and masses beside them
+pub beside-left : {W : Type 0} (K : WaitingForm W) (C : TreeCall) (R : TreeRooms W) (r : Report) (a : TreeAnswered K C R r)
+    → behindAt (fitTree K C R .rooms .behind) 0 (r .nodes) ≡ behindEach (a .tree .nodes)
+beside-left K C R r a =
+    (λ i. behindAt (a .after i .behind) 0 (r .nodes))
+    ∙ behind-written (a .tree .nodes) (R .behind) (r .nodes) (ap (λ (x : Report). x .nodes) (sym (a .reported)) ∙ reported-nodes C (a .tree) (a .grew))
+
 pub tree-good : TreeGood
 unfolding oneTreeOf paramsOf
 tree-good W K C R r held h =
@@ -81,7 +90,7 @@ forest-good W K C R held h =
     subst (λ (r : ForestRooms W). T (goodForest (C .shape .features) (tableAfter C r))) (sym (a .after))
     (written-good (C .shape .features) (C .trees) (R .nodes) (R .starts) (a .trees) (trees-length K C R a)
     (trees-each K C R a (λ (t : Tree). T (goodTree (C .shape .features) (entries (t .nodes)))) held (λ t l. fit-good (oneTreeAt C t) (C .given .inputs) l))
-    (forest-room K C R a held))
+    (six-of-eight _ (R .nodes) (R .behind) (forest-room K C R a held)))
   where
     a : ForestAnswered K C R
     a = forest-answered K C R h

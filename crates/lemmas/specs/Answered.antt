@@ -10,11 +10,11 @@ use Rattle.rules.specs.declared.Checked.{Checked}
 use Rattle.rules.specs.declared.TreeAnswer.{TreeAnswer}
 use Rattle.rules.specs.declared.ForestAnswer.{ForestAnswer}
 use Rattle.rules.specs.Words.{from, front, total}
-use Rattle.rules.specs.Lent.{Data, OneTree, WaitingForm, TreeRooms, ForestRooms, shortest, writeEntries, writeReports, zeroWork}
+use Rattle.rules.specs.Lent.{Data, OneTree, WaitingForm, TreeRooms, ForestRooms, shortestOfEight, writeEntries, writeReports, zeroWork}
 use Rattle.rules.specs.Checks.{checked, roomFor}
 use Rattle.rules.specs.Draws.{Out, bad, ok}
-use Rattle.rules.specs.Fit.{Tree, fit, entries, paramsOf, TreeCall, oneTreeOf, grownTree, treeTests, treeDone, treeEnds, fitTree}
-use Rattle.rules.specs.Forest.{ForestCall, oneTreeAt, eachTree, Forest, stopped, grownAll, withTree, nextTree, growTrees, grownForest, startsFrom, forestEntries, forestTests, forestDone, forestEnds, fitForest}
+use Rattle.rules.specs.Fit.{Tree, fit, entries, writeBehind, paramsOf, TreeCall, oneTreeOf, grownTree, treeTests, treeDone, treeEnds, fitTree}
+use Rattle.rules.specs.Forest.{ForestCall, oneTreeAt, eachTree, Forest, stopped, grownAll, withTree, nextTree, growTrees, grownForest, startsFrom, forestEntries, forestNodes, forestTests, forestDone, forestEnds, fitForest}
 use Rattle.lemmas.specs.Lists.{Every, every-all, every-map, length-from}
 use Rattle.lemmas.specs.Outs.{Then, then-of}
 use Rattle.lemmas.specs.Root.{Listed, fit-nodes}
@@ -39,7 +39,7 @@ module _ {W : Type 0} (K : WaitingForm W) where
     pub tree : Tree
     pub grew : fit (oneTreeOf C) (C .given .inputs) ≡ ok tree
     pub reported : tree .report ≡ r
-    pub after : fitTree K C R .rooms ≡ record { nodes = writeEntries (entries (tree .nodes)) (R .nodes); work = zeroWork K (R .work) }
+    pub after : fitTree K C R .rooms ≡ record { nodes = writeEntries (entries (tree .nodes)) (R .nodes); behind = writeBehind (tree .nodes) (R .behind); work = zeroWork K (R .work) }
 
   pub tree-answered : (C : TreeCall) (R : TreeRooms W) (r : Report) → fitTree K C R .answer ≡ TreeAnswer.Grown r → TreeAnswered C R r
   unfolding fitTree treeEnds treeDone grownTree
@@ -137,6 +137,7 @@ module _ {W : Type 0} (K : WaitingForm W) where
     pub grew : Grew (eachTree C) (C .given .inputs) trees
     pub after : fitForest K C R .rooms ≡ record {
       nodes = writeEntries (forestEntries trees) (R .nodes);
+      behind = writeBehind (forestNodes trees) (R .behind);
       starts = front (startsFrom 0 trees) (R .starts);
       reports = writeReports (map (λ (t : Tree). t .report) trees) (R .reports);
       work = zeroWork K (R .work);
@@ -176,7 +177,7 @@ module _ {W : Type 0} (K : WaitingForm W) where
         (every-all _ (λ t. h t (listed-right (C .shape) (C .trees) (C .given) p (oneTreeAt C t) (forest-framed C p t) held)) (from 0 (C .trees))))
 
     -- the node room is enough for all the trees together
-    pub forest-room : Binary64 (C .given .inputs .values) → length (forestEntries (a .trees)) ≤ shortest (R .nodes)
+    pub forest-room : Binary64 (C .given .inputs .values) → length (forestEntries (a .trees)) ≤ shortestOfEight (R .nodes) (R .behind)
     unfolding eachTree oneTreeAt paramsOf
     forest-room held =
         let p = forest-right .passed in

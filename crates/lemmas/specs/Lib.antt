@@ -6,6 +6,8 @@ pub mod Once
 pub mod Outs
 -- growth over any way to choose: the last to wait is split first
 pub mod WaitingOrder
+-- its nodes, and what a split does to them
+pub mod Nodes
 -- a change of what is left to choose by goes through the whole growth
 pub mod Lifted
 -- a limit that a growth stays below does not show
@@ -35,9 +37,10 @@ pub mod TwinFits
 pub mod Passed
 -- good tables: a walk ends at a leaf, and what a fit grows is one
 pub mod Tables
--- what is written can be read back: trees laid out as a table, and those of a fit
+-- what is written can be read back: trees laid out as a table, those of a fit, and the two columns beside them
 pub mod Laid
 pub mod Written
+pub mod Beside
 -- what a fit that answers has passed, grown and written
 pub mod Answered
 -- the number of features tried by default

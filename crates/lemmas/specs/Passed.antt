@@ -1,5 +1,5 @@
 -- What a fit knows once its checks have passed: lengths, ranges, and that its listings are in order. Assumes nothing.
-use Prim.Native.Nat.{ℕ, suc, _+_, _*_, _<_, _≤_}
+use Prim.Native.Nat.{ℕ, suc, _+_, _*_, _<_, _≤_, min}
 use native.Mathlib.Nat.{zero-add, le-trans}
 use native.Mathlib.Decide.{ℕ-discrete}
 use native.Mathlib.Omega.{arith}
@@ -15,7 +15,7 @@ use Rattle.floats.specs.Order.{le-trans64}
 use Rattle.rules.specs.declared.Shape.{Shape}
 use Rattle.rules.specs.declared.Checked.{Checked}
 use Rattle.rules.specs.Words.{from, every, along, total, eachOnce}
-use Rattle.rules.specs.Lent.{Given, OneTree, WaitingForm, TreeRooms, ForestRooms, valuesAt, listingAt, unweighted, shortest, cell}
+use Rattle.rules.specs.Lent.{Given, OneTree, Columns, Behind, WaitingForm, TreeRooms, ForestRooms, valuesAt, listingAt, unweighted, shortest, shortestOfEight, cell}
 use Rattle.rules.specs.Checks.{Test, test, checked, firstFailed, within, rowsIn, featuresIn, treesIn, shapeIn, lengths, goodTapeStarts, goodWeight, numbersGood, countsGood, countsOne, roomFor, workEnough, reportsExact}
 use Rattle.rules.specs.Listing.{orderTests}
 use Rattle.rules.specs.Search.{at}
@@ -121,10 +121,17 @@ from-tests S trees G i l n c g =
       listings = subst T (listings-sound S (G .inputs .values) (G .inputs .listings) (eqb→eq (length (G .inputs .listings)) (S .features * S .rows) l₅)) (subst (λ c. T (isPassed c)) (sym g) tt);
     }
 
+-- a room of eight columns is one of six
+pub six-of-eight : (n : ℕ) (c : Columns) (b : Behind) → n ≤ shortestOfEight c b → n ≤ shortest c
+six-of-eight n c b h = le-trans h (least (shortest c) (min (length (b .count)) (length (b .mass))))
+  where
+    least : (x y : ℕ) → min x y ≤ x
+    least x y = omega arith
+
 module _ {W : Type 0} (K : WaitingForm W) where
   pub record TreePassed (C : TreeCall) (R : TreeRooms W) : Type 0 where
     pub passed : Passed (C .shape) 1 (C .given)
-    pub room : roomFor (oneTreeOf C) ≤ shortest (R .nodes)
+    pub room : roomFor (oneTreeOf C) ≤ shortestOfEight (R .nodes) (R .behind)
     pub work : T (workEnough K (C .shape) (R .work))
 
   pub tree-passed : (C : TreeCall) (R : TreeRooms W) → checked (treeTests K C R) ≡ Checked.Passed → TreePassed C R
@@ -132,8 +139,8 @@ module _ {W : Type 0} (K : WaitingForm W) where
   tree-passed C R h₁ =
       let (t₁, h₂) = past-test _ _ h₁ in let (t₂, h₃) = past-test _ _ h₂ in let (t₃, h₄) = past-test _ _ h₃ in
       let (t₄, h₅) = past-test _ _ h₄ in let (t₅, h₆) = past-all _ _ h₅ in let (t₆, h₇) = past-test _ _ h₆ in
-      let (a, b) = and2 (leb (roomFor (oneTreeOf C)) (shortest (R .nodes))) (workEnough K (C .shape) (R .work)) t₆ in
-      record { passed = from-tests (C .shape) 1 (C .given) t₁ t₂ t₃ t₄ t₅; room = leb→le (roomFor (oneTreeOf C)) (shortest (R .nodes)) a; work = b }
+      let (a, b) = and2 (leb (roomFor (oneTreeOf C)) (shortestOfEight (R .nodes) (R .behind))) (workEnough K (C .shape) (R .work)) t₆ in
+      record { passed = from-tests (C .shape) 1 (C .given) t₁ t₂ t₃ t₄ t₅; room = leb→le (roomFor (oneTreeOf C)) (shortestOfEight (R .nodes) (R .behind)) a; work = b }
 
   -- what a forest's checks say besides
   pub record ForestPassed (C : ForestCall) (R : ForestRooms W) : Type 0 where
@@ -142,7 +149,7 @@ module _ {W : Type 0} (K : WaitingForm W) where
     pub someTrees : 1 ≤ C .trees
     pub fewTrees : C .trees ≤ 1024
     pub tapes : T (tapesGood C)
-    pub room : total roomFor (eachTree C) ≤ shortest (R .nodes)
+    pub room : total roomFor (eachTree C) ≤ shortestOfEight (R .nodes) (R .behind)
     pub work : T (workEnough K (C .shape) (R .work))
     pub startsRoom : suc (C .trees) ≤ length (R .starts)
     pub reports : T (reportsExact (C .trees) (R .reports))
@@ -153,7 +160,7 @@ module _ {W : Type 0} (K : WaitingForm W) where
       let (t₁, h₂) = past-test _ _ h₁ in let (t₂, h₃) = past-test _ _ h₂ in let (t₃, h₄) = past-test _ _ h₃ in
       let (t₄, h₅) = past-test _ _ h₄ in let (t₅, h₆) = past-all _ _ h₅ in let (t₆, h₇) = past-test _ _ h₆ in
       let (s, n) = and2 (shapeIn (C .shape)) (treesIn (C .trees)) t₁ in
-      let (a, k, b, e) = and4 (leb (total roomFor (eachTree C)) (shortest (R .nodes))) (workEnough K (C .shape) (R .work))
+      let (a, k, b, e) = and4 (leb (total roomFor (eachTree C)) (shortestOfEight (R .nodes) (R .behind))) (workEnough K (C .shape) (R .work))
       (leb (suc (C .trees)) (length (R .starts))) (reportsExact (C .trees) (R .reports)) t₆ in
       record {
         passed = from-tests (C .shape) (C .trees) (C .given) s (and-l (lengths (C .shape) (C .trees) (C .given)) (tapesGood C) t₂) t₃ (and-l (countsGood (C .given)) (countsOne (C .given)) t₄) t₅;
@@ -161,7 +168,7 @@ module _ {W : Type 0} (K : WaitingForm W) where
         someTrees = leb→le 1 (C .trees) (and-l (leb 1 (C .trees)) (leb (C .trees) 1024) n);
         fewTrees = leb→le (C .trees) 1024 (and-r (leb 1 (C .trees)) (leb (C .trees) 1024) n);
         tapes = and-r (lengths (C .shape) (C .trees) (C .given)) (tapesGood C) t₂;
-        room = leb→le (total roomFor (eachTree C)) (shortest (R .nodes)) a;
+        room = leb→le (total roomFor (eachTree C)) (shortestOfEight (R .nodes) (R .behind)) a;
         work = k;
         startsRoom = leb→le (suc (C .trees)) (length (R .starts)) b;
         reports = e;

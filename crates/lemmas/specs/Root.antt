@@ -20,6 +20,7 @@ use Rattle.rules.specs.Fit.{listing, elementIn, element, column, root, treeOf, 
 use Rattle.lemmas.specs.Lists.{Every, every-imp, every-keep, every-map, kept-pass, keep-map, keep-keep, total-map, length-total, getD-from, Ordered, ordered-keep, ordered-map}
 use Rattle.lemmas.specs.Once.{once-below, once-keep}
 use Rattle.lemmas.specs.Outs.{Then, then-then, then-any}
+use Rattle.lemmas.specs.Nodes.{First, growth-first}
 use Rattle.lemmas.specs.Values.{Value}
 use Rattle.lemmas.specs.Cuts.{Good, search-fine, tape-fair}
 use Rattle.lemmas.specs.Room.{rowsOf, room-enough}
@@ -44,6 +45,19 @@ kept-some F i e = ltb→lt 0 (countIn (F .counts) i) (and-l (ltb 0 (countIn (F .
 pub fit-reported : (F : OneTree) (D : Data) → Then (fit F D) (λ t. t .report .nodes ≡ length (t .nodes))
 unfolding fit growFrom treeOf
 fit-reported F D = then-any _ _ _ (λ s. refl)
+
+-- and the mass reported is the root's
+pub fit-mass : (F : OneTree) (D : Data) → Then (fit F D) (λ t. t .report .mass ≡ root F D .totals .mass)
+unfolding fit growFrom treeOf
+fit-mass F D = then-any _ _ _ (λ s. refl)
+
+-- the first of the nodes is the root
+pub fit-first : (F : OneTree) (D : Data) → Then (fit F D) (λ t. First (root F D) (t .nodes))
+unfolding fit growFrom treeOf
+fit-first F D =
+    then-then (fromRoot (F .params) (search (tape (F .params .features)) (F .params)) (root F D) _) _ _ _
+    (growth-first (F .params) (search (tape (F .params .features)) (F .params)) (root F D) _)
+    (λ s h. h)
 
 module _ (F : OneTree) (D : Data) (ok : Listed F D) where
   pub column-at : (j : ℕ) → j < F .params .features → getD (root F D .columns) j [] ≡ column F D j

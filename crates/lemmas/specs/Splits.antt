@@ -5,24 +5,22 @@ use native.Mathlib.Nat.{le-trans}
 use native.Mathlib.Decide.{ℕ-discrete, decLt}
 use native.Mathlib.Omega.{arith}
 use mathlib.Core.Path.{_≡_, refl, sym, ap, _∙_, subst}
-use mathlib.Core.Logic.{_≢_}
 use mathlib.Core.Bool.{Bool}
 use mathlib.Core.List.{List, [], _∷_, _++_}
-use lib.ListN.{length, getD, set, length-set, List·getD-append}
-use lib.Seq.{getD-set-same, getD-set-other, getD-append-add}
+use lib.ListN.{length, getD}
 use lib.Dec.{lit<}
 use Rattle.rules.specs.declared.Params.{Params}
 use Rattle.rules.specs.declared.Fork.{Fork}
 use Rattle.rules.specs.declared.Kind.{Kind}
 use Rattle.rules.specs.declared.Kind.the-variants.{Leaf, Split}
 use Rattle.rules.specs.Words.{keep, total}
-use Rattle.rules.specs.Totals.{empty}
 use Rattle.rules.specs.Draws.{Out}
 use Rattle.rules.specs.Search.{NodeRows, goesTrue, onTrue, onFalse, Found, noCut, cutFound}
 use Rattle.rules.specs.Growth.{TreeNode, Waiting, State, child, leafOf, splitting, splitOf, withChildren, joins, searchIf, expand, fromRoot}
-use Rattle.lemmas.specs.Lists.{Every, every-imp, every-append, every-keep, total-le, total-sides}
-use Rattle.lemmas.specs.Outs.{Then, then-both, then-after, always}
+use Rattle.lemmas.specs.Lists.{Every, every-append, every-keep, total-le, total-sides}
+use Rattle.lemmas.specs.Outs.{Then, then-both, then-after}
 use Rattle.lemmas.specs.WaitingOrder.{children-length, searchIf-joins, expand-joins, expand-nodes, root-keep}
+use Rattle.lemmas.specs.Nodes.{noNode, kindAt, countAt, Sits, at-split, at-other, at-new, at-true, at-false, as-it-was, longer, expand-sits, root-sits}
 use Rattle.lemmas.specs.Cuts.{Good, Suits, Ripe, side-good}
 
 -- ---- the counts of a fine cut's two sides
@@ -55,15 +53,6 @@ module _ (P : Params) (w : Waiting) (h : Ripe P w) where
 
 -- ---- nodes
 
-abbrev pub noNode : TreeNode
-noNode = record { totals = empty; count = 0; kind = Leaf }
-
-abbrev pub kindAt : List TreeNode → ℕ → Kind
-kindAt ns k = getD ns k noNode .kind
-
-abbrev pub countAt : List TreeNode → ℕ → ℕ
-countAt ns k = getD ns k noNode .count
-
 -- a split's feature is in range, its children lie above it and inside, and each has some of its count, the least leaf at the least
 pub record Divides (P : Params) (ns : List TreeNode) (k : ℕ) (s : Fork) : Type 0 where
   pub known : s .cut .feature < P .features
@@ -82,8 +71,7 @@ pub record Stands (P : Params) (ns : List TreeNode) : Type 0 where
 -- a node that waits, and its place among the nodes
 pub record Placed (P : Params) (ns : List TreeNode) (w : Waiting) : Type 0 where
   pub ripe : Ripe P w
-  pub inside : w .number < length ns
-  pub count : countAt ns (w .number) ≡ w .node .count
+  pub sits : Sits ns w
 
 abbrev isLeaf : Kind → Type 0
 isLeaf Leaf = Unit {0}
@@ -97,92 +85,59 @@ forkOf d Leaf = d
 forkOf d (Split s) = s
 
 module _ (P : Params) (w : Waiting) (ns : List TreeNode) (h : Stands P ns) (p : Placed P ns w) where
-  abbrev after : List TreeNode
-  after = withChildren w ns
-
-  -- the split node, and the two new ones
-  at-split : getD after (w .number) noNode ≡ splitOf w (length ns)
-  unfolding withChildren
-  at-split =
-      List·getD-append (set ns (w .number) (splitOf w (length ns))) _ noNode (w .number) (subst (λ n. w .number < n) (sym (length-set ns (w .number) (splitOf w (length ns)))) (p .inside))
-      ∙ getD-set-same ns (w .number) (splitOf w (length ns)) noNode (p .inside)
-
-  at-other : (k : ℕ) → k < length ns → k ≢ w .number → getD after k noNode ≡ getD ns k noNode
-  unfolding withChildren
-  at-other k l d =
-      List·getD-append (set ns (w .number) (splitOf w (length ns))) _ noNode k (subst (λ n. k < n) (sym (length-set ns (w .number) (splitOf w (length ns)))) l)
-      ∙ getD-set-other ns (w .number) k (splitOf w (length ns)) noNode d
-
-  at-new : (i : ℕ) → getD after (length ns + i) noNode ≡ getD (leafOf (child onTrue w) ∷ leafOf (child onFalse w) ∷ []) i noNode
-  unfolding withChildren
-  at-new i =
-      ap (λ n. getD (set ns (w .number) (splitOf w (length ns)) ++ (leafOf (child onTrue w) ∷ leafOf (child onFalse w) ∷ [])) (n + i) noNode) (sym (length-set ns (w .number) (splitOf w (length ns))))
-      ∙ getD-append-add (set ns (w .number) (splitOf w (length ns))) (leafOf (child onTrue w) ∷ leafOf (child onFalse w) ∷ []) i noNode
+  abbrev now : List TreeNode
+  now = withChildren w ns
 
   -- counts that stood still stand
-  count-stays : (k : ℕ) → k < length ns → countAt after k ≡ countAt ns k
-  unfolding splitOf
-  count-stays k l = go (ℕ-discrete k (w .number))
-    where
-      go : Dec (k ≡ w .number) → countAt after k ≡ countAt ns k
-      go (yes q) = ap (countAt after) q ∙ ap (λ (n : TreeNode). n .count) at-split ∙ sym (p .count) ∙ ap (countAt ns) (sym q)
-      go (no d) = ap (λ (n : TreeNode). n .count) (at-other k l d)
+  count-stays : (k : ℕ) → k < length ns → countAt now k ≡ countAt ns k
+  count-stays k l = ap (λ (n : TreeNode). n .count) (as-it-was w ns (p .sits) k l)
 
-  pub true-count : countAt after (length ns) ≡ child onTrue w .count
+  true-count : countAt now (length ns) ≡ child onTrue w .count
   unfolding leafOf
-  true-count = ap (countAt after) (zero-more (length ns)) ∙ ap (λ (n : TreeNode). n .count) (at-new 0)
-    where
-      zero-more : (n : ℕ) → n ≡ n + 0
-      zero-more n = omega arith
+  true-count = ap (λ (n : TreeNode). n .count) (at-true w ns (p .sits))
 
-  pub false-count : countAt after (suc (length ns)) ≡ child onFalse w .count
+  false-count : countAt now (suc (length ns)) ≡ child onFalse w .count
   unfolding leafOf
-  false-count = ap (countAt after) (one-more (length ns)) ∙ ap (λ (n : TreeNode). n .count) (at-new 1)
-    where
-      one-more : (n : ℕ) → suc n ≡ n + 1
-      one-more n = omega arith
+  false-count = ap (λ (n : TreeNode). n .count) (at-false w ns (p .sits))
 
   -- the node just split
-  divides-new : Divides P after (w .number) (splitting w (length ns))
+  divides-new : Divides P now (w .number) (splitting w (length ns))
   unfolding splitting splitOf
   divides-new =
       let c = counts P w (p .ripe) in
       record {
         known = p .ripe .fine .known;
-        above = p .inside;
-        inside = two-more (length ns) (length after) (children-length w ns);
+        above = p .sits .inside;
+        inside = two-more (length ns) (length now) (children-length w ns);
         someTrue = subst (λ n. 1 ≤ n) (sym true-count) (c .someTrue);
         someFalse = subst (λ n. 1 ≤ n) (sym false-count) (c .someFalse);
         leafTrue = subst (λ n. P .leaf ≤ n) (sym true-count) (c .leafTrue);
         leafFalse = subst (λ n. P .leaf ≤ n) (sym false-count) (c .leafFalse);
-        whole = (λ i. true-count i + false-count i) ∙ c .whole ∙ sym (ap (λ (n : TreeNode). n .count) at-split);
+        whole = (λ i. true-count i + false-count i) ∙ c .whole ∙ sym (ap (λ (n : TreeNode). n .count) (at-split w ns (p .sits)));
       }
     where
       two-more : (n n′ : ℕ) → n′ ≡ n + 2 → suc n < n′
       two-more n n′ q = omega arith
 
   -- and one split before
-  divides-old : (k : ℕ) → k < length ns → (s : Fork) → Divides P ns k s → Divides P after k s
+  divides-old : (k : ℕ) → k < length ns → (s : Fork) → Divides P ns k s → Divides P now k s
   divides-old k l s d =
       let t : s .children < length ns = omega (arith, d .inside) in
       record {
         known = d .known;
         above = d .above;
-        inside = longer (suc (s .children)) (length ns) (length after) (d .inside) (children-length w ns);
+        inside = longer w ns (p .sits) (suc (s .children)) (d .inside);
         someTrue = subst (λ n. 1 ≤ n) (sym (count-stays _ t)) (d .someTrue);
         someFalse = subst (λ n. 1 ≤ n) (sym (count-stays _ (d .inside))) (d .someFalse);
         leafTrue = subst (λ n. P .leaf ≤ n) (sym (count-stays _ t)) (d .leafTrue);
         leafFalse = subst (λ n. P .leaf ≤ n) (sym (count-stays _ (d .inside))) (d .leafFalse);
         whole = (λ i. count-stays _ t i + count-stays _ (d .inside) i) ∙ d .whole ∙ sym (count-stays k l);
       }
-    where
-      longer : (k n n′ : ℕ) → k < n → n′ ≡ n + 2 → k < n′
-      longer k n n′ l q = omega arith
 
   -- from the end on all are leaves
-  leaf-past : (k : ℕ) → ¬ (k < length ns) → kindAt after k ≡ Leaf
+  leaf-past : (k : ℕ) → ¬ (k < length ns) → kindAt now k ≡ Leaf
   unfolding leafOf
-  leaf-past k l = ap (kindAt after) (back (length ns) k l) ∙ ap (λ (n : TreeNode). n .kind) (at-new (k - length ns)) ∙ new (k - length ns)
+  leaf-past k l = ap (kindAt now) (back (length ns) k l) ∙ ap (λ (n : TreeNode). n .kind) (at-new w ns (p .sits) (k - length ns)) ∙ new (k - length ns)
     where
       back : (n k : ℕ) → ¬ (k < n) → k ≡ n + (k - n)
       back n k l = omega arith
@@ -192,74 +147,45 @@ module _ (P : Params) (w : Waiting) (ns : List TreeNode) (h : Stands P ns) (p : 
       new (suc zero) = refl
       new (suc (suc i)) = refl
 
-  pub stands-on : Stands P after
+  stands-on : Stands P now
   unfolding splitOf
   stands-on =
       record {
-        some = more (length ns) (length after) (h .some) (children-length w ns);
+        some = longer w ns (p .sits) 0 (h .some);
         splits = λ k s q. go k s q (ℕ-discrete k (w .number)) (decLt k (length ns));
       }
     where
-      more : (n n′ : ℕ) → 0 < n → n′ ≡ n + 2 → 0 < n′
-      more n n′ l q = omega arith
-
-      go : (k : ℕ) (s : Fork) → kindAt after k ≡ Split s → Dec (k ≡ w .number) → Dec (k < length ns) → Divides P after k s
+      go : (k : ℕ) (s : Fork) → kindAt now k ≡ Split s → Dec (k ≡ w .number) → Dec (k < length ns) → Divides P now k s
       go k s q (yes e) l =
-          subst (λ z. Divides P after z s) (sym e)
-          (subst (Divides P after (w .number)) (ap (forkOf s) (sym (ap (λ (n : TreeNode). n .kind) at-split) ∙ ap (kindAt after) (sym e) ∙ q)) divides-new)
-      go k s q (no d) (yes l) = divides-old k l s (h .splits k s (sym (ap (λ (n : TreeNode). n .kind) (at-other k l d)) ∙ q))
+          subst (λ z. Divides P now z s) (sym e)
+          (subst (Divides P now (w .number)) (ap (forkOf s) (sym (ap (λ (n : TreeNode). n .kind) (at-split w ns (p .sits))) ∙ ap (kindAt now) (sym e) ∙ q)) divides-new)
+      go k s q (no d) (yes l) = divides-old k l s (h .splits k s (sym (ap (λ (n : TreeNode). n .kind) (at-other w ns (p .sits) k l d)) ∙ q))
       go k s q (no d) (no l) = absurd (leaf≢split s (sym (leaf-past k l) ∙ q))
-
-  pub placed-on : (v : Waiting) → Placed P ns v → Placed P after v
-  placed-on v q =
-      record { ripe = q .ripe; inside = longer (v .number) (length ns) (length after) (q .inside) (children-length w ns); count = count-stays (v .number) (q .inside) ∙ q .count }
-    where
-      longer : (k n n′ : ℕ) → k < n → n′ ≡ n + 2 → k < n′
-      longer k n n′ l q = omega arith
 
 module _ (P : Params) {S : Type 0} (choose : S → NodeRows → Out (Found × S))
     (fine : (s : S) (node : NodeRows) → Good P node → Then (choose s node) (λ r. Suits P node (r .0))) where
-  joins-placed : (ns : List TreeNode) (n level : ℕ) (node : NodeRows) (f : Found) → Good P node → Suits P node f → n < length ns → countAt ns n ≡ node .count
-      → Every (Placed P ns) (joins n level node f)
+  -- whoever joins is ripe
+  joins-ripe : (n level : ℕ) (node : NodeRows) (t : S) → Good P node → Then (choose t node) (λ r. Every (Ripe P) (joins n level node (r .0)))
   unfolding joins
-  joins-placed ns n level node noCut g s l c = tt
-  joins-placed ns n level node (cutFound x) g s l c = (record { ripe = record { good = g; fine = s }; inside = l; count = c }, tt)
+  joins-ripe n level node t g = then-after (choose t node) _ _ (fine t node g) (λ r f. go (r .0) f)
+    where
+      go : (f : Found) → Suits P node f → Every (Ripe P) (joins n level node f)
+      go noCut s = tt
+      go (cutFound x) s = (record { good = g; fine = s }, tt)
 
   abbrev Kept : List Waiting → State S → Type 0
-  Kept ws s = Every (Placed P (s .nodes)) ws × Stands P (s .nodes)
-
-  withTree : (w : Waiting) (s : State S) → Placed P (s .nodes) w → Stands P (s .nodes) → Then (expand P choose w s) (λ r. Every (Placed P (withChildren w (s .nodes))) (r .0))
-  withTree w s p k =
-      expand-joins P choose _ w s
-      (λ t a. one onTrue (length (s .nodes)) t (first n n′ (children-length w (s .nodes))) (true-count P w (s .nodes) k p))
-      (λ t a. one onFalse (suc (length (s .nodes))) t (second n n′ (children-length w (s .nodes))) (false-count P w (s .nodes) k p))
-    where
-      n : ℕ
-      n = length (s .nodes)
-
-      n′ : ℕ
-      n′ = length (withChildren w (s .nodes))
-
-      first : (n n′ : ℕ) → n′ ≡ n + 2 → n < n′
-      first n n′ q = omega arith
-
-      second : (n n′ : ℕ) → n′ ≡ n + 2 → suc n < n′
-      second n n′ q = omega arith
-
-      one : (b : Bool → Bool) (i : ℕ) (t : S) → i < n′ → countAt (withChildren w (s .nodes)) i ≡ child b w .count
-          → Then (choose t (child b w)) (λ r. Every (Placed P (withChildren w (s .nodes))) (joins i (suc (w .level)) (child b w) (r .0)))
-      one b i t l c =
-          then-after (choose t (child b w)) _ _ (fine t (child b w) (side-good P b w (p .ripe)))
-          (λ r f. joins-placed (withChildren w (s .nodes)) i (suc (w .level)) (child b w) (r .0) (side-good P b w (p .ripe)) f l c)
+  Kept ws s = Every (Ripe P) ws × Every (Sits (s .nodes)) ws × Stands P (s .nodes)
 
   expand-kept : (w : Waiting) (ws : List Waiting) (s : State S) → w .level < P .limit → Kept (w ∷ ws) s → Then (expand P choose w s) (λ r. Kept (r .0 ++ ws) (r .1))
   expand-kept w ws s b h =
       then-after (expand P choose w s) _ _
-      (then-both (expand P choose w s) _ _ (withTree w s (h .0 .0) (h .1)) (expand-nodes P choose w s))
+      (then-both (expand P choose w s) _ _
+      (expand-joins P choose _ w s (λ t a. joins-ripe _ _ (child onTrue w) t (side-good P onTrue w (h .0 .0))) (λ t a. joins-ripe _ _ (child onFalse w) t (side-good P onFalse w (h .0 .0))))
+      (then-both (expand P choose w s) _ _ (expand-sits P choose w ws s (h .1)) (expand-nodes P choose w s)))
       (λ r q. (
-        subst (λ ns. Every (Placed P ns) (r .0 ++ ws)) (sym (q .1))
-            (every-append _ (r .0) ws (q .0) (every-imp _ _ (λ v k. placed-on P w (s .nodes) (h .1) (h .0 .0) v k) ws (h .0 .1))),
-        subst (Stands P) (sym (q .1)) (stands-on P w (s .nodes) (h .1) (h .0 .0)),
+        every-append _ (r .0) ws (q .0) (h .0 .1),
+        q .1 .0,
+        subst (Stands P) (sym (q .1 .1)) (stands-on P w (s .nodes) (h .2) (record { ripe = h .0 .0; sits = h .1 .0 })),
       ))
 
   -- every split of a growth that ends divides its node
@@ -268,11 +194,10 @@ module _ (P : Params) {S : Type 0} (choose : S → NodeRows → Out (Found × S)
   growth-stands root s g =
       then-after (fromRoot P choose root s) _ _
       (root-keep P choose Kept expand-kept root s
-      (λ b. then-both (searchIf P choose b 0 1 root s) _ _
-      (searchIf-joins P choose _ b 0 1 root s
-      (λ t. then-after (choose s root) _ _ (fine s root g) (λ r f. joins-placed (leafOf root ∷ []) 0 1 root (r .0) g f (lit< tt) refl)))
-      (always (searchIf P choose b 0 1 root s) _ (λ r. start))))
-      (λ s′ h. h .1)
+      (λ b. then-after (searchIf P choose b 0 1 root s) _ _
+      (then-both (searchIf P choose b 0 1 root s) _ _ (searchIf-joins P choose _ b 0 1 root s (λ t. joins-ripe 0 1 root s g)) (root-sits P choose b root s))
+      (λ r q. (q .0, q .1, start))))
+      (λ s′ h. h .2)
     where
       only : (k : ℕ) → kindAt (leafOf root ∷ []) k ≡ Leaf
       only zero = refl

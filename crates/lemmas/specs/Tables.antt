@@ -22,7 +22,8 @@ use Rattle.rules.specs.Reading.{noEntry, onto, walked}
 use Rattle.lemmas.specs.Lists.{or-other}
 use Rattle.lemmas.specs.Outs.{Then, then-after}
 use Rattle.lemmas.specs.Passed.{and4}
-use Rattle.lemmas.specs.Splits.{noNode, kindAt, Divides, Stands}
+use Rattle.lemmas.specs.Nodes.{noNode, kindAt}
+use Rattle.lemmas.specs.Splits.{Divides, Stands}
 use Rattle.lemmas.specs.Root.{Listed, fit-stands}
 
 -- ---- node by node
@@ -143,7 +144,7 @@ unfolding entries
 length-entries [] = refl
 length-entries (n ∷ ns) = ap suc (length-entries ns)
 
-entry-of : (ns : List TreeNode) (k : ℕ) → k < length ns → getD (entries ns) k noEntry ≡ entryOf (valueOf (getD ns k noNode .totals)) (kindAt ns k)
+pub entry-of : (ns : List TreeNode) (k : ℕ) → k < length ns → getD (entries ns) k noEntry ≡ entryOf (valueOf (getD ns k noNode .totals)) (kindAt ns k)
 unfolding entries
 entry-of [] k h = absurd (not-suc-le-zero h)
 entry-of (n ∷ ns) zero h = refl

@@ -12,14 +12,15 @@ use Rattle.rules.specs.declared.Kind.{Kind}
 use Rattle.rules.specs.declared.Kind.the-variants.{Leaf, Split}
 use Rattle.rules.specs.Words.{nought, from, keep}
 use Rattle.rules.specs.Totals.{valueOf}
-use Rattle.rules.specs.Lent.{Data, OneTree, Entry, kept, keptRows}
+use Rattle.rules.specs.Lent.{Data, OneTree, behindOf, Entry, kept, keptRows}
 use Rattle.rules.specs.Draws.{Out, bad, ok, Tapes, tape}
 use Rattle.rules.specs.Search.{Element, at, NodeRows, Found, search}
 use Rattle.rules.specs.Growth.{TreeNode, State, fromRoot}
 use Rattle.rules.specs.Fit.{element, listing, column, root, Tree, treeOf, growFrom, fit, entryOf, entries}
-use Rattle.lemmas.specs.Lists.{every-imp, every-both, every-keep, every-map, kept-pass, length-from, from-below, Pairs, pairs-length}
+use Rattle.lemmas.specs.Lists.{every-imp, every-both, every-keep, every-map, kept-pass, length-from, from-below, Pairs, pairs-map, pairs-length}
 use Rattle.lemmas.specs.Once.{once-below}
 use Rattle.lemmas.specs.Outs.{Both, both-then, both-after}
+use Rattle.lemmas.specs.Nodes.{behindEach}
 use Rattle.lemmas.specs.Values.{Value}
 use Rattle.lemmas.specs.Heights.{reheight}
 use Rattle.lemmas.specs.Cuts.{search-fine, tape-fair}
@@ -32,7 +33,9 @@ bareEntry e = record { value = e .value; feature = e .feature; threshold = nough
 
 -- two trees, the same but for their thresholds
 abbrev pub Alike : Tree → Tree → Type 0
-Alike t t′ = (map bareEntry (entries (t .nodes)) ≡ map bareEntry (entries (t′ .nodes))) × (length (t .nodes) ≡ length (t′ .nodes)) × (t .report ≡ t′ .report)
+Alike t t′ =
+    (map bareEntry (entries (t .nodes)) ≡ map bareEntry (entries (t′ .nodes))) × (length (t .nodes) ≡ length (t′ .nodes)) × (t .report ≡ t′ .report)
+    × (behindEach (t .nodes) ≡ behindEach (t′ .nodes))
 
 module _ (F : OneTree) (D : Data) (right : Listed F D) (g : Height) where
   -- an element of a kept row
@@ -112,8 +115,14 @@ module _ (F : OneTree) (D : Data) (right : Listed F D) (g : Height) where
   nodes-bare (n ∷ ns) [] h = absurd h
   nodes-bare (n ∷ ns) (n′ ∷ ns′) h = λ i. node-bare n n′ (h .0) i ∷ nodes-bare ns ns′ (h .1) i
 
+  nodes-behind : (ns ns′ : List TreeNode) → Pairs Nodes ns ns′ → behindEach ns ≡ behindEach ns′
+  nodes-behind ns ns′ h =
+      λ i. behindOf (pairs-map Nodes (λ n. n .count) (λ n. n .count) (λ n n′ b. b .1) ns ns′ h i) (pairs-map Nodes (λ n. n .totals .mass) (λ n. n .totals .mass) (λ n n′ b k. b .0 k .mass) ns ns′ h i)
+
   pub fit-alike : Both Alike (fit F D) (fit oneTreeCut D)
-  fit-alike = both-after Trees Alike (fit F D) (fit oneTreeCut D) fit-both (λ t t′ h. (nodes-bare (t .nodes) (t′ .nodes) (h .0), pairs-length Nodes (t .nodes) (t′ .nodes) (h .0), h .1))
+  fit-alike =
+      both-after Trees Alike (fit F D) (fit oneTreeCut D) fit-both
+      (λ t t′ h. (nodes-bare (t .nodes) (t′ .nodes) (h .0), pairs-length Nodes (t .nodes) (t′ .nodes) (h .0), h .1, nodes-behind (t .nodes) (t′ .nodes) (h .0)))
 
   -- ---- and what it leaves of the random splitter's tree
 

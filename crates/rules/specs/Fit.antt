@@ -15,9 +15,9 @@ use Rattle.rules.specs.declared.Kind.the-variants.{Leaf, Split}
 use Rattle.rules.specs.declared.Report.{Report}
 use Rattle.rules.specs.declared.Checked.{Checked}
 use Rattle.rules.specs.declared.TreeAnswer.{TreeAnswer}
-use Rattle.rules.specs.Words.{from, keep, total}
+use Rattle.rules.specs.Words.{from, keep, front, total}
 use Rattle.rules.specs.Totals.{empty, valueOf}
-use Rattle.rules.specs.Lent.{Data, Given, OneTree, Entry, WaitingForm, TreeRooms, Outcome, valuesAt, listingAt, countIn, massIn, kept, keptRows, shortest, leafEntry, writeEntries, zeroColumns, zeroWork}
+use Rattle.rules.specs.Lent.{Data, Given, OneTree, Behind, Entry, WaitingForm, TreeRooms, Outcome, valuesAt, listingAt, countIn, massIn, kept, keptRows, shortestOfEight, leafEntry, writeEntries, zeroColumns, zeroBehind, zeroWork}
 use Rattle.rules.specs.Checks.{Test, test, checked, shapeIn, lengths, numbersGood, countsGood, roomFor, workEnough}
 use Rattle.rules.specs.Listing.{orderTests}
 use Rattle.rules.specs.Draws.{Out, bad, ok, bind, Tapes, tape}
@@ -102,6 +102,14 @@ unfoldable pub entries : List TreeNode → List Entry
 entries [] = []
 entries (n ∷ ns) = entryOf (valueOf (n .totals)) (n .kind) ∷ entries ns
 
+-- R10.6: and beside its entry: its count, and the mass that its value was divided by, or would have been
+abbrev pub writeBehind : List TreeNode → Behind → Behind
+writeBehind ns b =
+    record {
+      count = front (map (λ (n : TreeNode). n .count) ns) (b .count);
+      mass = front (map (λ (n : TreeNode). n .totals .mass) ns) (b .mass);
+    }
+
 -- ---- the call
 
 -- R10.7: no greatest depth acts as 65,535
@@ -153,7 +161,7 @@ module _ {W : Type 0} (K : WaitingForm W) where
       ∷ test 3 (numbersGood (C .given))
       ∷ test 4 (countsGood (C .given))
       ∷ orderTests (C .shape) (C .given .inputs .values) (C .given .inputs .listings)
-      ++ test 6 (leb (roomFor (oneTreeOf C)) (shortest (R .nodes)) && workEnough K (C .shape) (R .work))
+      ++ test 6 (leb (roomFor (oneTreeOf C)) (shortestOfEight (R .nodes) (R .behind)) && workEnough K (C .shape) (R .work))
       ∷ []
 
   -- R10.11: a bad draw leaves all rooms zero; an answer leaves the nodes, and the work room zero
@@ -161,12 +169,12 @@ module _ {W : Type 0} (K : WaitingForm W) where
   treeDone (bad s) R =
       record {
         answer = TreeAnswer.BadDraw (record { tree = 0; search = s });
-        rooms = record { nodes = zeroColumns (R .nodes); work = zeroWork K (R .work) };
+        rooms = record { nodes = zeroColumns (R .nodes); behind = zeroBehind (R .behind); work = zeroWork K (R .work) };
       }
   treeDone (ok t) R =
       record {
         answer = TreeAnswer.Grown (t .report);
-        rooms = record { nodes = writeEntries (entries (t .nodes)) (R .nodes); work = zeroWork K (R .work) };
+        rooms = record { nodes = writeEntries (entries (t .nodes)) (R .nodes); behind = writeBehind (t .nodes) (R .behind); work = zeroWork K (R .work) };
       }
 
   -- R10.12: a refusal by one of these leaves the rooms as they were

@@ -12,12 +12,13 @@ use Rattle.rules.specs.declared.Tried.the-variants.{Unsaid, Number}
 use Rattle.rules.specs.declared.Place.{Place}
 use Rattle.rules.specs.declared.Checked.{Checked}
 use Rattle.rules.specs.declared.ForestAnswer.{ForestAnswer}
-use Rattle.rules.specs.Words.{from, stretch, front, filled, total}
-use Rattle.rules.specs.Lent.{Data, Given, OneTree, Entry, WaitingForm, ForestRooms, Outcome, shortest, writeEntries, writeReports, zeroColumns, zeroReports, zeroWork}
+use Rattle.rules.specs.Words.{from, stretch, front, filled, joined, total}
+use Rattle.rules.specs.Lent.{Data, Given, OneTree, Entry, WaitingForm, ForestRooms, Outcome, shortestOfEight, writeEntries, writeReports, zeroColumns, zeroBehind, zeroReports, zeroWork}
 use Rattle.rules.specs.Checks.{Test, test, checked, treesIn, shapeIn, lengths, goodTapeStarts, numbersGood, countsGood, countsOne, roomFor, workEnough, reportsExact}
 use Rattle.rules.specs.Listing.{orderTests}
 use Rattle.rules.specs.Draws.{Out, bad, ok}
-use Rattle.rules.specs.Fit.{Tree, fit, entries, paramsOf}
+use Rattle.rules.specs.Growth.{TreeNode}
+use Rattle.rules.specs.Fit.{Tree, fit, entries, writeBehind, paramsOf}
 
 -- R11.1
 pub record ForestCall : Type 0 where
@@ -114,6 +115,10 @@ unfoldable pub forestEntries : List Tree → List Entry
 forestEntries [] = []
 forestEntries (t ∷ ts) = entries (t .nodes) ++ forestEntries ts
 
+-- R11.6: all nodes, tree after tree
+unfoldable pub forestNodes : List Tree → List TreeNode
+forestNodes ts = joined (λ (t : Tree). t .nodes) ts
+
 -- R11.7
 unfoldable pub tapesGood : ForestCall → Bool
 tapesGood C = goodTapeStarts (C .trees) (length (C .words)) (C .wordStarts) && goodTapeStarts (C .trees) (length (C .thresholds)) (C .thresholdStarts)
@@ -132,7 +137,7 @@ module _ {W : Type 0} (K : WaitingForm W) where
       ∷ test 3 (numbersGood (C .given))
       ∷ test 4 (countsGood (C .given) && countsOne (C .given))
       ∷ orderTests (C .shape) (C .given .inputs .values) (C .given .inputs .listings)
-      ++ test 6 (leb (total roomFor (eachTree C)) (shortest (R .nodes)) && roomsGood C R)
+      ++ test 6 (leb (total roomFor (eachTree C)) (shortestOfEight (R .nodes) (R .behind)) && roomsGood C R)
       ∷ []
 
   -- R11.9: a bad draw leaves all rooms zero; an answer leaves nodes, starts and reports, and the work room zero
@@ -142,6 +147,7 @@ module _ {W : Type 0} (K : WaitingForm W) where
         answer = ForestAnswer.BadDraw d;
         rooms = record {
           nodes = zeroColumns (R .nodes);
+          behind = zeroBehind (R .behind);
           starts = filled 0 (R .starts);
           reports = zeroReports (R .reports);
           work = zeroWork K (R .work);
@@ -152,6 +158,7 @@ module _ {W : Type 0} (K : WaitingForm W) where
         answer = ForestAnswer.Grown;
         rooms = record {
           nodes = writeEntries (forestEntries ts) (R .nodes);
+          behind = writeBehind (forestNodes ts) (R .behind);
           starts = front (startsFrom 0 ts) (R .starts);
           reports = writeReports (map (λ (t : Tree). t .report) ts) (R .reports);
           work = zeroWork K (R .work);

@@ -14,7 +14,7 @@ use Rattle.rules.specs.Totals.{empty, score}
 use Rattle.rules.specs.Draws.{Out, ok, bind}
 use Rattle.rules.specs.Search.{totalsOf, tally, NodeRows, onTrue, onFalse, sideOf, Found, noCut, cutFound}
 
--- R9.1: a node of a tree that grows; of its totals the value is written, and its count is for theorems
+-- R9.1: a node of a tree that grows; of its totals the value and the mass are written
 pub record TreeNode : Type 0 where
   pub totals : Totals
   pub count : ℕ

@@ -90,7 +90,16 @@ pub record Columns : Type 0 where
 abbrev pub columnsOf : List Float → List ℕ → List Float → List Float → List ℕ → List ℕ → Columns
 columnsOf v j t s y n = record { value = v; feature = j; threshold = t; score = s; trueChild = y; falseChild = n }
 
--- R2.10: a node's place in them
+-- R2.9: of a fit two more: the kept counts in each node, and its mass
+pub record Behind : Type 0 where
+  pub count : List ℕ
+  pub mass : List Float
+
+-- R2.9: from slices
+abbrev pub behindOf : List ℕ → List Float → Behind
+behindOf k m = record { count = k; mass = m }
+
+-- R2.10: a node's place in the six
 pub record Entry : Type 0 where
   pub value : Float
   pub feature : ℕ
@@ -145,22 +154,24 @@ workOf order scratch flags wholes reals =
 -- R2.15
 pub record TreeRooms (W : Type 0) : Type 0 where
   pub nodes : Columns
+  pub behind : Behind
   pub work : Work W
 
 -- R2.15
 pub record ForestRooms (W : Type 0) : Type 0 where
   pub nodes : Columns
+  pub behind : Behind
   pub starts : List ℕ
   pub reports : Reports
   pub work : Work W
 
 -- R2.15
-abbrev pub treeRoomsOf : Columns → Work WaitingRoom → TreeRooms WaitingRoom
-treeRoomsOf nodes work = record { nodes = nodes; work = work }
+abbrev pub treeRoomsOf : Columns → Behind → Work WaitingRoom → TreeRooms WaitingRoom
+treeRoomsOf nodes behind work = record { nodes = nodes; behind = behind; work = work }
 
 -- R2.15
-abbrev pub forestRoomsOf : Columns → List ℕ → Reports → Work WaitingRoom → ForestRooms WaitingRoom
-forestRoomsOf nodes starts reports work = record { nodes = nodes; starts = starts; reports = reports; work = work }
+abbrev pub forestRoomsOf : Columns → Behind → List ℕ → Reports → Work WaitingRoom → ForestRooms WaitingRoom
+forestRoomsOf nodes behind starts reports work = record { nodes = nodes; behind = behind; starts = starts; reports = reports; work = work }
 
 -- R2.16: what a call leaves: its answer, and the rooms
 pub record Outcome (A R : Type 0) : Type 0 where
@@ -178,6 +189,10 @@ abbrev pub shortest : Columns → ℕ
 shortest c =
     min (length (c .value)) (min (length (c .feature)) (min (length (c .threshold))
     (min (length (c .score)) (min (length (c .trueChild)) (length (c .falseChild))))))
+
+-- R2.17: in a fit all eight count
+abbrev pub shortestOfEight : Columns → Behind → ℕ
+shortestOfEight c b = min (shortest c) (min (length (b .count)) (length (b .mass)))
 
 -- R2.18
 abbrev pub entryAt : Columns → ℕ → Entry
@@ -236,6 +251,10 @@ zeroColumns c =
       trueChild = filled 0 (c .trueChild);
       falseChild = filled 0 (c .falseChild);
     }
+
+-- R2.21
+abbrev pub zeroBehind : Behind → Behind
+zeroBehind b = record { count = filled 0 (b .count); mass = filled nought (b .mass) }
 
 -- R2.21
 abbrev pub zeroReports : Reports → Reports
