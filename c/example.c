@@ -20,7 +20,7 @@ static const uint32_t listings[FEATURES * ROWS] = {2, 3, 0, 1, 0, 2, 1, 3};
 /* No weights: a slice of length 0, whose pointer must still not be null. */
 static const double weights[1] = {0};
 
-/* What a fit of either kind is lent: a place in six columns for each node, and memory to work in. */
+/* What a fit of either kind is lent: a place for each node in six columns and in the two that only a fit fills, and memory to work in. */
 typedef struct {
     double value[TREES * NODES];
     uint32_t feature[TREES * NODES];
@@ -29,6 +29,11 @@ typedef struct {
     uint32_t true_child[TREES * NODES];
     uint32_t false_child[TREES * NODES];
 } Nodes;
+
+typedef struct {
+    uint32_t count[TREES * NODES];
+    double mass[TREES * NODES];
+} Behind;
 
 typedef struct {
     uint32_t order[FEATURES * ROWS];
@@ -43,12 +48,14 @@ static void stop(const char *call, uint32_t number) {
     exit(1);
 }
 
-/* Prints some of the nodes, numbered from 0. */
-static void print_nodes(const Nodes *nodes, uint32_t start, uint32_t end) {
-    printf("node  value  feature  threshold  score  true  false\n");
+/* Prints some of the nodes, numbered from 0, and what stands behind them, if that is known. */
+static void print_nodes(const Nodes *nodes, const Behind *behind, uint32_t start, uint32_t end) {
+    printf("node  value  feature  threshold  score  true  false%s\n", behind == NULL ? "" : "  count   mass");
     for (uint32_t at = start; at < end; at++) {
-        printf("%4" PRIu32 " %6g %8" PRIu32 " %10g %6g %5" PRIu32 " %6" PRIu32 "\n", at - start, nodes->value[at],
+        printf("%4" PRIu32 " %6g %8" PRIu32 " %10g %6g %5" PRIu32 " %6" PRIu32, at - start, nodes->value[at],
             nodes->feature[at], nodes->threshold[at], nodes->score[at], nodes->true_child[at], nodes->false_child[at]);
+        if (behind != NULL) printf(" %6" PRIu32 " %6g", behind->count[at], behind->mass[at]);
+        printf("\n");
     }
 }
 
@@ -57,14 +64,14 @@ static const TailboardyTreeSettings drawn = {.leaf = 1, .split = 2, .tried = FEA
 static const TailboardyTreeSettings measured = {.leaf = 1, .split = 2, .tried = FEATURES, .lower = true};
 
 /* Fits one tree, each row once. */
-static TailboardyTreeTold fit_tree(Nodes *nodes, TailboardyTreeSettings settings, const uint32_t *listing,
+static TailboardyTreeTold fit_tree(Nodes *nodes, Behind *behind, TailboardyTreeSettings settings, const uint32_t *listing,
     const double *thresholds) {
     static const uint32_t counts[ROWS] = {1, 1, 1, 1};
     static const uint32_t words[] = {1, 0, 0, 1, 1, 0};
     static Work work;
     return tailboardy_fit_tree(
         nodes->value, NODES, nodes->feature, NODES, nodes->threshold, NODES, nodes->score, NODES,
-        nodes->true_child, NODES, nodes->false_child, NODES,
+        nodes->true_child, NODES, nodes->false_child, NODES, behind->count, NODES, behind->mass, NODES,
         ALL(work.order), ALL(work.scratch), ALL(work.flags), ALL(work.wholes), ALL(work.reals),
         ALL(values), ALL(targets), weights, 0, ALL(counts), listing, FEATURES * ROWS, ALL(words), thresholds, 4,
         ROWS, FEATURES, settings);
@@ -72,12 +79,13 @@ static TailboardyTreeTold fit_tree(Nodes *nodes, TailboardyTreeSettings settings
 
 static void one_tree(void) {
     static Nodes nodes;
+    static Behind behind;
     static const double thresholds[] = {0.5, 7.0, 6.8, 7.2};
-    const TailboardyTreeTold told = fit_tree(&nodes, drawn, listings, thresholds);
+    const TailboardyTreeTold told = fit_tree(&nodes, &behind, drawn, listings, thresholds);
     if (told.number != 0) stop("tailboardy_fit_tree", told.number);
     printf("one tree: %" PRIu32 " nodes, depth %" PRIu32 ", mass %g, %" PRIu32 " searches, %" PRIu32 " words, %" PRIu32
            " thresholds\n", told.nodes, told.depth, told.mass, told.searches, told.words, told.thresholds);
-    print_nodes(&nodes, 0, told.nodes);
+    print_nodes(&nodes, &behind, 0, told.nodes);
 
     /* A reader takes all entries of the columns as the tree, so it is given as many as there are nodes. */
     static const double house[3 * FEATURES] = {6.5, -2.5, 7.4, 0.5, 9.0, 3.5};
@@ -100,9 +108,10 @@ static void print_damage(const char *by, uint32_t number, uint32_t column, uint3
 /* The listing of the truss offsets has row 0 a second time, in place of row 1. */
 static void damaged_listing(void) {
     static Nodes nodes;
+    static Behind behind;
     static const uint32_t damaged[FEATURES * ROWS] = {2, 3, 0, 1, 0, 2, 0, 3};
     static const double thresholds[] = {0.5, 7.0, 6.8, 7.2};
-    const TailboardyTreeTold told = fit_tree(&nodes, drawn, damaged, thresholds);
+    const TailboardyTreeTold told = fit_tree(&nodes, &behind, drawn, damaged, thresholds);
     print_damage("a fit", told.number, told.part, told.place, told.row);
     const TailboardyRefusal alone = tailboardy_check_listings(ROWS, FEATURES, ALL(values), ALL(damaged));
     print_damage("the check alone", alone.number, alone.part, alone.place, alone.row);
@@ -111,8 +120,9 @@ static void damaged_listing(void) {
 /* The third threshold, which search 1 takes for rows of trim heights 6.2 and 7.5, is not below the highest of these. */
 static void bad_draw(void) {
     static Nodes nodes;
+    static Behind behind;
     static const double thresholds[] = {0.5, 7.0, 7.5, 7.2};
-    const TailboardyTreeTold told = fit_tree(&nodes, drawn, listings, thresholds);
+    const TailboardyTreeTold told = fit_tree(&nodes, &behind, drawn, listings, thresholds);
     printf("a threshold out of range: refusal %" PRIu32 ", search %" PRIu32 "\n", told.number, told.place);
 }
 
@@ -120,11 +130,12 @@ static void bad_draw(void) {
  * and 6.2, as the forest below does. */
 static void measured_cuts(void) {
     static Nodes nodes;
+    static Behind behind;
     static const double unused[4] = {0};
-    const TailboardyTreeTold told = fit_tree(&nodes, measured, listings, unused);
+    const TailboardyTreeTold told = fit_tree(&nodes, &behind, measured, listings, unused);
     if (told.number != 0) stop("tailboardy_fit_tree", told.number);
     printf("a tree cut at measured values: %" PRIu32 " nodes\n", told.nodes);
-    print_nodes(&nodes, 0, told.nodes);
+    print_nodes(&nodes, &behind, 0, told.nodes);
 }
 
 /* Reads a forest from the bytes of a file. */
@@ -153,7 +164,7 @@ static void model_file(const Nodes *nodes, const uint32_t *starts) {
     if (told.number != 0) stop("tailboardy_read_model", told.number);
     printf("\nread from it: %" PRIu32 " features, %" PRIu32 " trees and %" PRIu32 " nodes, of which the last tree has\n",
         told.features, told.trees, told.nodes);
-    print_nodes(&back, back_starts[1], back_starts[2]);
+    print_nodes(&back, NULL, back_starts[1], back_starts[2]);
     const TailboardyModelTold cut = read_file(&back, back_starts, file, written.bytes - 1);
     printf("without its last byte: refusal %" PRIu32 " at byte %zu\n", cut.number, cut.place);
     free(file);
@@ -168,21 +179,22 @@ static void forest(void) {
     static const size_t word_starts[TREES + 1] = {0, 6, 12};
     static const size_t threshold_starts[TREES + 1] = {0, 0, 0};
     static Nodes nodes;
+    static Behind behind;
     static Work work;
     static uint32_t starts[TREES + 1], own[TREES], depth[TREES], searches[TREES], words_used[TREES], thresholds_used[TREES];
     static double mass[TREES], out[ROWS];
     const TailboardyForestSettings settings = {.leaf = 1, .split = 2, .said = true, .tried = FEATURES};
     const TailboardyRefusal told = tailboardy_fit_forest(
         ALL(nodes.value), ALL(nodes.feature), ALL(nodes.threshold), ALL(nodes.score), ALL(nodes.true_child),
-        ALL(nodes.false_child), ALL(starts), ALL(own), ALL(depth), ALL(mass), ALL(searches), ALL(words_used),
-        ALL(thresholds_used), ALL(work.order), ALL(work.scratch), ALL(work.flags), ALL(work.wholes), ALL(work.reals),
-        ALL(values), ALL(targets), weights, 0, ALL(counts), ALL(listings), ALL(words), thresholds, 0, ALL(word_starts),
-        ALL(threshold_starts), ROWS, FEATURES, TREES, settings);
+        ALL(nodes.false_child), ALL(behind.count), ALL(behind.mass), ALL(starts), ALL(own), ALL(depth), ALL(mass),
+        ALL(searches), ALL(words_used), ALL(thresholds_used), ALL(work.order), ALL(work.scratch), ALL(work.flags),
+        ALL(work.wholes), ALL(work.reals), ALL(values), ALL(targets), weights, 0, ALL(counts), ALL(listings), ALL(words),
+        thresholds, 0, ALL(word_starts), ALL(threshold_starts), ROWS, FEATURES, TREES, settings);
     if (told.number != 0) stop("tailboardy_fit_forest", told.number);
     for (size_t tree = 0; tree < TREES; tree++) {
         printf("tree %zu of the forest: mass %g, %" PRIu32 " searches, %" PRIu32 " words\n", tree, mass[tree],
             searches[tree], words_used[tree]);
-        print_nodes(&nodes, starts[tree], starts[tree + 1]);
+        print_nodes(&nodes, &behind, starts[tree], starts[tree + 1]);
     }
     const uint32_t number = tailboardy_out_of_bag_means(ROWS, FEATURES, TREES, ALL(values), ALL(counts), ALL(starts),
         ALL(nodes.value), ALL(nodes.feature), ALL(nodes.threshold), ALL(nodes.score), ALL(nodes.true_child),

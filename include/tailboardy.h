@@ -15,6 +15,13 @@
  * another, each with its own node numbers starting at 0; `starts` has trees + 1 positions: where each tree begins, and where the
  * last one ends.
  *
+ * What stands behind a node: a fit fills two more columns, which no other call takes and no file has. A row is kept if its count is
+ * above 0 and its weight, if there are weights, is above 0; its mass is its count, times its weight if there are weights.
+ *   - `node_count`: the sum of the counts of the kept rows in the node;
+ *   - `node_mass`: the mass that the node's value was divided by, or would have been if it were above 0: in the root the reported mass,
+ *     added up over all rows by number, and in any other node the sum, from 0, along the listing of the feature that its parent is
+ *     split by. It may be infinite, and since each addition is rounded, a split's mass need not be the sum of its children's.
+ *
  * Draws: nothing in the library is random. A fit takes its draws from two tapes, from front to back; in a forest each tree has its
  * own part of both:
  *   - `words`: each search of a node takes as many words as there are features. They must be the numbers of all features, each
@@ -43,14 +50,14 @@
  * 2, of node 2, takes 1 0: feature 1 is 3 in both rows and takes nothing; feature 0 takes 7.2. Node 2 was searched last and is
  * split first, into nodes 3 and 4, then node 1 into nodes 5 and 6. All four have one row, which is fewer than `split`, and are
  * not searched. 7 nodes, depth 3, mass 4, 3 searches, 6 words and 4 thresholds are reported:
- *     node  value  feature  threshold  score  true_child  false_child
- *        0      0        1        0.5   2304           1            2
- *        1    -24        0        6.8      8           5            6
- *        2     24        0        7.2      8           3            4
- *        3     26        0          0      0           0            0    (row 3)
- *        4     22        0          0      0           0            0    (row 1)
- *        5    -26        0          0      0           0            0    (row 2)
- *        6    -22        0          0      0           0            0    (row 0)
+ *     node  value  feature  threshold  score  true_child  false_child  node_count  node_mass
+ *        0      0        1        0.5   2304           1            2           4          4
+ *        1    -24        0        6.8      8           5            6           2          2
+ *        2     24        0        7.2      8           3            4           2          2
+ *        3     26        0          0      0           0            0           1          1    (row 3)
+ *        4     22        0          0      0           0            0           1          1    (row 1)
+ *        5    -26        0          0      0           0            0           1          1    (row 2)
+ *        6    -22        0          0      0           0            0           1          1    (row 0)
  *
  * Files: a forest can be written to bytes and read back; one tree is a forest of one. A file has these numbers one after another, each
  * with its least byte first, and nothing after the last node:
@@ -115,25 +122,16 @@ typedef struct {
  * and `place` the place in this listing, both counted from 0; with 12 `row` is the lowest row that is missing from the whole listing.
  * With 7 `part` is the tree, always 0 in the fit of one tree, and `place` the search of the bad draw. All other fields are 0. */
 typedef struct {
-    uint32_t number;
-    uint32_t part;
-    uint32_t place;
-    uint32_t row;
+    uint32_t number, part, place, row;
 } TailboardyRefusal;
 
 /* The four fields of a refusal and, if `number` is 0, a report: the number of nodes, the depth, the root mass, and how many searches,
  * words and thresholds were used. If it is not 0, these fields are 0. */
 typedef struct {
-    uint32_t number;
-    uint32_t part;
-    uint32_t place;
-    uint32_t row;
-    uint32_t nodes;
-    uint32_t depth;
+    uint32_t number, part, place, row;
+    uint32_t nodes, depth;
     double mass;
-    uint32_t searches;
-    uint32_t words;
-    uint32_t thresholds;
+    uint32_t searches, words, thresholds;
 } TailboardyTreeTold;
 
 /* 0 or a refusal. With 0: the error, and the number of rows that it is over; otherwise these fields are 0. */
@@ -173,10 +171,9 @@ typedef struct {
 } TailboardyModelTold;
 
 /* Grows one tree. Refusals: 1, 2, 3, 4, 11, 12, 13, 6, 7.
- * Required lengths: at least 2 x kept rows - 1, and at least 1, for the six columns of nodes (a row is kept if its count is above 0
- * and its weight, if there are weights, is above 0); at least features x rows for `order`, rows for `scratch`, the greater of rows
- * and features for `flags`, and rows for `wholes` and `reals`.
- * Afterwards the nodes are at the front of the six columns, the entries after them are unchanged, and the other five slices are all
+ * Required lengths: at least 2 x kept rows - 1, and at least 1, for the eight columns of nodes, from `value` to `node_mass`; at least
+ * features x rows for `order`, rows for `scratch`, the greater of rows and features for `flags`, and rows for `wholes` and `reals`.
+ * Afterwards the nodes are at the front of the eight columns, the entries after them are unchanged, and the other five slices are all
  * zero. */
 TailboardyTreeTold tailboardy_fit_tree(
     double *value, size_t value_length,
@@ -185,6 +182,8 @@ TailboardyTreeTold tailboardy_fit_tree(
     double *score, size_t score_length,
     uint32_t *true_child, size_t true_child_length,
     uint32_t *false_child, size_t false_child_length,
+    uint32_t *node_count, size_t node_count_length,
+    double *node_mass, size_t node_mass_length,
     uint32_t *order, size_t order_length,
     uint32_t *scratch, size_t scratch_length,
     bool *flags, size_t flags_length,
@@ -203,7 +202,7 @@ TailboardyTreeTold tailboardy_fit_tree(
 /* Grows a forest. Refusals: 1, 2, 3, 4, 11, 12, 13, 6, 7.
  * Each tree has its own counts and its own part of both tapes: `word_starts` and `threshold_starts` each have trees + 1 positions,
  * from 0 to the length of the tape, in ascending order.
- * Required lengths: for the six columns of nodes the sum over all trees of what one tree requires; at least trees + 1 for `starts`;
+ * Required lengths: for the eight columns of nodes the sum over all trees of what one tree requires; at least trees + 1 for `starts`;
  * exactly trees for the six columns from `nodes` to `thresholdsused`; for the five from `order` to `reals` as for one tree.
  * Afterwards the trees are at the front of the columns and `starts` says where each begins, the entries after them are unchanged, the
  * columns from `nodes` to `thresholdsused` report on each tree, and the five from `order` to `reals` are all zero. */
@@ -214,6 +213,8 @@ TailboardyRefusal tailboardy_fit_forest(
     double *score, size_t score_length,
     uint32_t *true_child, size_t true_child_length,
     uint32_t *false_child, size_t false_child_length,
+    uint32_t *node_count, size_t node_count_length,
+    double *node_mass, size_t node_mass_length,
     uint32_t *starts, size_t starts_length,
     uint32_t *nodes, size_t nodes_length,
     uint32_t *depth, size_t depth_length,

@@ -10,7 +10,7 @@ use lib.Ieee.{Float}
 use borrow.Author.Tests.{eqb-true}
 use Rattle.rules.specs.declared.Shape.{Shape}
 use Rattle.rules.specs.Words.{from, total}
-use Rattle.rules.specs.Lent.{Given, TreeRooms, ForestRooms, WaitingRoom, waitingRoom, unweighted, shortest}
+use Rattle.rules.specs.Lent.{Given, TreeRooms, ForestRooms, WaitingRoom, waitingRoom, unweighted, shortestOfEight}
 use Rattle.rules.specs.Checks.{Test, test, checked, shapeIn, treesIn, lengths, goodTapeStarts, numbersGood, countsGood, countsOne, roomFor, workEnough, reportsExact}
 use Rattle.rules.specs.Listing.{orderTests}
 use Rattle.rules.specs.Fit.{TreeCall, oneTreeOf, treeTests}
@@ -78,7 +78,7 @@ allTests a b c d listings f = test 1 a ∷ test 2 b ∷ test 3 c ∷ test 4 d �
 pub record TreeHas (S : Shape) (G : Given) (L : Lengths) (C : TreeCall) (R : TreeRooms WaitingRoom) : Type 0 where
   pub shape : S ≡ C .shape
   pub given : G ≡ C .given
-  pub nodes : L .nodes ≡ shortest (R .nodes)
+  pub nodes : L .nodes ≡ shortestOfEight (R .nodes) (R .behind)
   pub work : WorkHas L (R .work)
 
 tree-room-is : (C : TreeCall) → roomIn (C .shape .rows) (C .given .weights) (C .given .counts) ≡ roomFor (oneTreeOf C)
@@ -96,7 +96,7 @@ tree-same S G L C R h =
     (orderTests (h .shape i) (h .given i .inputs .values) (h .given i .inputs .listings))
     (leb (roomIn (h .shape i .rows) (h .given i .weights) (h .given i .counts)) (h .nodes i) && workEnough waitingRoom (h .shape i) (R .work))))
     ∙ ap (λ n. checked (allTests (shapeIn (C .shape)) (lengths (C .shape) 1 (C .given)) (numbersGood (C .given)) (countsGood (C .given))
-    (orderTests (C .shape) (C .given .inputs .values) (C .given .inputs .listings)) (leb n (shortest (R .nodes)) && workEnough waitingRoom (C .shape) (R .work))))
+    (orderTests (C .shape) (C .given .inputs .values) (C .given .inputs .listings)) (leb n (shortestOfEight (R .nodes) (R .behind)) && workEnough waitingRoom (C .shape) (R .work))))
     (tree-room-is C)
 
 -- ---- a forest
@@ -110,7 +110,7 @@ pub record ForestHas (S : Shape) (n : ℕ) (G : Given) (w t : ℕ) (wc tc : List
   pub thresholds : t ≡ length (C .thresholds)
   pub wordStarts : wc ≡ C .wordStarts
   pub thresholdStarts : tc ≡ C .thresholdStarts
-  pub nodes : L .nodes ≡ shortest (R .nodes)
+  pub nodes : L .nodes ≡ shortestOfEight (R .nodes) (R .behind)
   pub work : WorkHas L (R .work)
   pub starts : s ≡ length (R .starts)
   pub reports : ReportsHave P (R .reports)
@@ -139,5 +139,5 @@ forest-same S n G w t wc tc L s P C R h =
     ∙ ap (λ m. checked (allTests (shapeIn (C .shape) && treesIn (C .trees))
     (lengths (C .shape) (C .trees) (C .given) && (goodTapeStarts (C .trees) (length (C .words)) (C .wordStarts) && goodTapeStarts (C .trees) (length (C .thresholds)) (C .thresholdStarts)))
     (numbersGood (C .given)) (countsGood (C .given) && countsOne (C .given)) (orderTests (C .shape) (C .given .inputs .values) (C .given .inputs .listings))
-    (leb m (shortest (R .nodes)) && (workEnough waitingRoom (C .shape) (R .work) && (leb (suc (C .trees)) (length (R .starts)) && reportsExact (C .trees) (R .reports))))))
+    (leb m (shortestOfEight (R .nodes) (R .behind)) && (workEnough waitingRoom (C .shape) (R .work) && (leb (suc (C .trees)) (length (R .starts)) && reportsExact (C .trees) (R .reports))))))
     (forest-room-is C)

@@ -13,7 +13,7 @@ pub mod listing;
 pub mod rooms;
 pub mod tree;
 
-// How long the rooms of a fit are: node room and waiting list as their shortest column.
+// How long the rooms of a fit are: node room as the shortest of its eight columns, the waiting list as the shorter of its two.
 pub struct Lengths {
     pub nodes: usize,
     pub order: usize,

@@ -1,6 +1,6 @@
 // The fits.
 ghost use mathlib.Core.Path.{_≡_};
-ghost use Rattle.rules.specs.Lent.{waitingRoom, givenOf, columnsOf, reportsOf, workOf, treeRoomsOf, forestRoomsOf, outcomeOf};
+ghost use Rattle.rules.specs.Lent.{waitingRoom, givenOf, columnsOf, behindOf, reportsOf, workOf, treeRoomsOf, forestRoomsOf, outcomeOf};
 ghost use Rattle.rules.specs.Answers.{treeTold, forestTold, told};
 ghost use Rattle.rules.specs.Fit.{fitTree, treeCall};
 ghost use Rattle.rules.specs.Forest.{fitForest, forestCall};
@@ -19,6 +19,8 @@ pub extern "C" fn tailboardy_fit_tree(
     score: &mut [f64],
     truechild: &mut [u32],
     falsechild: &mut [u32],
+    nodecount: &mut [u32],
+    nodemass: &mut [f64],
     order: &mut [u32],
     scratch: &mut [u32],
     flags: &mut [bool],
@@ -37,12 +39,14 @@ pub extern "C" fn tailboardy_fit_tree(
 ) -> TreeTold
     ensures { λ r. ⌜ outcomeOf (treeNumbers r) (treeRoomsOf
         (columnsOf (now (value .exit)) (now (feature .exit)) (now (threshold .exit)) (now (score .exit)) (now (truechild .exit)) (now (falsechild .exit)))
+        (behindOf (now (nodecount .exit)) (now (nodemass .exit)))
         (workOf (now (order .exit)) (now (scratch .exit)) (now (flags .exit)) (now (wholes .exit)) (now (reals .exit))))
         ≡ told treeTold (fitTree waitingRoom
         (treeCall (record { rows = rows; features = features }) (treeSettingsOf plain) (plain .tried)
         (givenOf (now (values .entry)) (now (targets .entry)) (now (weights .entry)) (now (counts .entry)) (now (listings .entry))) (now (words .entry)) (now (thresholds .entry)))
         (treeRoomsOf
         (columnsOf (now (value .entry)) (now (feature .entry)) (now (threshold .entry)) (now (score .entry)) (now (truechild .entry)) (now (falsechild .entry)))
+        (behindOf (now (nodecount .entry)) (now (nodemass .entry)))
         (workOf (now (order .entry)) (now (scratch .entry)) (now (flags .entry)) (now (wholes .entry)) (now (reals .entry))))) ⌝ }
 {
     let settings = c_types::tree_settings_of(plain);
@@ -53,6 +57,8 @@ pub extern "C" fn tailboardy_fit_tree(
         score,
         truechild,
         falsechild,
+        nodecount,
+        nodemass,
         order,
         scratch,
         flags,
@@ -80,6 +86,8 @@ pub extern "C" fn tailboardy_fit_forest(
     score: &mut [f64],
     truechild: &mut [u32],
     falsechild: &mut [u32],
+    nodecount: &mut [u32],
+    nodemass: &mut [f64],
     starts: &mut [u32],
     nodes: &mut [u32],
     depth: &mut [u32],
@@ -108,6 +116,7 @@ pub extern "C" fn tailboardy_fit_forest(
 ) -> Refusal
     ensures { λ r. ⌜ outcomeOf r (forestRoomsOf
         (columnsOf (now (value .exit)) (now (feature .exit)) (now (threshold .exit)) (now (score .exit)) (now (truechild .exit)) (now (falsechild .exit)))
+        (behindOf (now (nodecount .exit)) (now (nodemass .exit)))
         (now (starts .exit))
         (reportsOf (now (nodes .exit)) (now (depth .exit)) (now (mass .exit)) (now (searches .exit)) (now (wordsused .exit)) (now (thresholdsused .exit)))
         (workOf (now (order .exit)) (now (scratch .exit)) (now (flags .exit)) (now (wholes .exit)) (now (reals .exit))))
@@ -117,6 +126,7 @@ pub extern "C" fn tailboardy_fit_forest(
         (now (words .entry)) (now (thresholds .entry)) (now (wordstarts .entry)) (now (thresholdstarts .entry)))
         (forestRoomsOf
         (columnsOf (now (value .entry)) (now (feature .entry)) (now (threshold .entry)) (now (score .entry)) (now (truechild .entry)) (now (falsechild .entry)))
+        (behindOf (now (nodecount .entry)) (now (nodemass .entry)))
         (now (starts .entry))
         (reportsOf (now (nodes .entry)) (now (depth .entry)) (now (mass .entry)) (now (searches .entry)) (now (wordsused .entry)) (now (thresholdsused .entry)))
         (workOf (now (order .entry)) (now (scratch .entry)) (now (flags .entry)) (now (wholes .entry)) (now (reals .entry))))) ⌝ }
@@ -130,6 +140,8 @@ pub extern "C" fn tailboardy_fit_forest(
         score,
         truechild,
         falsechild,
+        nodecount,
+        nodemass,
         starts,
         nodes,
         depth,

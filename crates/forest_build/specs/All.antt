@@ -7,27 +7,28 @@ use mathlib.Core.List.{List, _∷_, map}
 use lib.ListN.{length, getD, set, take, drop, length-map, length-drop, length-set}
 use Rattle.rules.specs.declared.Report.{Report}
 use Rattle.rules.specs.Words.{from, total}
-use Rattle.rules.specs.Lent.{Columns, shortest, writeEntries}
+use Rattle.rules.specs.Lent.{shortestOfEight}
 use Rattle.rules.specs.Checks.{roomFor}
 use Rattle.rules.specs.Fit.{Tree, fit}
-use Rattle.rules.specs.Forest.{stopped, grownAll, growTrees, startsFrom, forestEntries}
+use Rattle.rules.specs.Forest.{stopped, grownAll, growTrees, startsFrom}
 use Rattle.lemmas.specs.Lists.{length-from, getD-from}
 use Rattle.lemmas.specs.Passed.{PartAt}
 use Rattle.lemmas.specs.Outs.{Then, then-of}
-use Rattle.rooms.specs.Zero.{NodesLong}
-use Rattle.node_entries.specs.Entries.{LongAll}
+use Rattle.rooms.specs.Zero.{NodesLong, BehindLong}
+use Rattle.node_entries.specs.Entries.{NodeRoom, LongRoom}
 use Rattle.tree_report.specs.declared.Planted.{Planted}
 use Rattle.tree_report.specs.declared.Planted.the-variants.{BadDraw, Grown}
-use Rattle.tree_build.specs.Plant.{PlantDone, long-all}
+use Rattle.tree_build.specs.Plant.{PlantDone, long-room}
 use Rattle.forest_build.specs.declared.Grove.{Grove}
 use Rattle.forest_build.specs.declared.Grove.the-variants as U
 use Rattle.forest_build.specs.declared.Told.{Told}
 use Rattle.forest_build.specs.Lot.{Lot, Widths, lotTree, lotTrees, PlantIn}
-use Rattle.forest_build.specs.Standing.{dropAll, Standing, standing-first, standing-end, standing-stop, standing-next, room-here}
+use Rattle.forest_build.specs.Columns.{dropAll, columns-long}
+use Rattle.forest_build.specs.Standing.{writeTrees, trees-written, Standing, standing-first, standing-end, standing-stop, standing-next, room-here}
 use Rattle.forest_build.specs.Next.{NextAsks, NextDone}
 
-pub record AllAsks (trees : ℕ) (L : Lot) (c : Columns) (w : Widths) : Type 0 where
-  pub fine : (t : ℕ) → t < trees → (k : Columns) → roomFor (lotTree L t) ≤ shortest k → PlantIn L (lotTree L t) k w
+pub record AllAsks (trees : ℕ) (L : Lot) (c : NodeRoom) (w : Widths) : Type 0 where
+  pub fine : (t : ℕ) → t < trees → (k : NodeRoom) → roomFor (lotTree L t) ≤ shortestOfEight (k .nodes) (k .behind) → PlantIn L (lotTree L t) k w
   pub small : (t : ℕ) → t < trees → t * L .rows + L .rows < 4294967296
   pub counted : (t : ℕ) → t < trees → t * L .rows + L .rows ≤ length (L .counts)
   pub word : (t : ℕ) → t < trees → PartAt (L .wordStarts) (length (L .words)) t
@@ -35,18 +36,18 @@ pub record AllAsks (trees : ℕ) (L : Lot) (c : Columns) (w : Widths) : Type 0 w
   pub nodes : (t : ℕ) → t < trees → Then (fit (lotTree L t) (L .inputs)) (λ (x : Tree). length (x .nodes) ≤ roomFor (lotTree L t))
   pub reported : (t : ℕ) → t < trees → Then (fit (lotTree L t) (L .inputs)) (λ (x : Tree). x .report .nodes ≡ length (x .nodes))
   pub few : trees ≤ 1024
-  pub room : total roomFor (lotTrees trees L) ≤ shortest c
+  pub room : total roomFor (lotTrees trees L) ≤ shortestOfEight (c .nodes) (c .behind)
   pub low : total roomFor (lotTrees trees L) < 4294967296
 
 -- all trees as the definition has them: their nodes at the front of the columns, their reports and starts told
-pub record AllGrown (n : ℕ) (L : Lot) (c c′ : Columns) (rs : List Report) (es : List ℕ) : Type 0 where
+pub record AllGrown (n : ℕ) (L : Lot) (c c′ : NodeRoom) (rs : List Report) (es : List ℕ) : Type 0 where
   pub trees : List Tree
   pub same : growTrees 0 (lotTrees n L) (L .inputs) ≡ grownAll trees
-  pub nodes : c′ ≡ writeEntries (forestEntries trees) c
+  pub nodes : c′ ≡ writeTrees trees c
   pub reports : take n rs ≡ map (λ (x : Tree). x .report) trees
   pub starts : 0 ∷ take n es ≡ startsFrom 0 trees
 
-abbrev pub Answers : ℕ → Lot → Columns → Columns → List Report → List ℕ → Grove → Type 0
+abbrev pub Answers : ℕ → Lot → NodeRoom → NodeRoom → List Report → List ℕ → Grove → Type 0
 Answers n L c c′ rs es (U.Stopped d) = growTrees 0 (lotTrees n L) (L .inputs) ≡ stopped d
 Answers n L c c′ rs es U.Grown = AllGrown n L c c′ rs es
 
@@ -55,7 +56,7 @@ pub record ToldLong (rs : List Report) (es : List ℕ) : Type 0 where
   pub reports : length rs ≡ 1024
   pub ends : length es ≡ 1024
 
-pub record AllDone (trees : ℕ) (L : Lot) (c c′ : Columns) (told : Told) : Type 0 where
+pub record AllDone (trees : ℕ) (L : Lot) (c c′ : NodeRoom) (told : Told) : Type 0 where
   pub long : ToldLong (told .reports) (told .ends)
   pub done : Answers trees L c c′ (told .reports) (told .ends) (told .end)
 
@@ -64,45 +65,34 @@ pub record AllDone (trees : ℕ) (L : Lot) (c c′ : Columns) (told : Told) : Ty
 over : (m a b : ℕ) → m ≤ a → m ≤ b → m ≤ min a b
 over m a b h k = omega arith
 
-all-long : (m : ℕ) (c : Columns) → LongAll m c → m ≤ shortest c
-all-long m c h = over m _ _ (h .value) (over m _ _ (h .feature) (over m _ _ (h .threshold) (over m _ _ (h .score) (over m _ _ (h .truechild) (h .falsechild)))))
+room-long : (m : ℕ) (c : NodeRoom) → LongRoom m c → m ≤ shortestOfEight (c .nodes) (c .behind)
+room-long m c h =
+    let l = h .nodes in
+    over m _ _ (over m _ _ (l .value) (over m _ _ (l .feature) (over m _ _ (l .threshold) (over m _ _ (l .score) (over m _ _ (l .truechild) (l .falsechild))))))
+    (over m _ _ (h .count) (h .mass))
 
 -- the room from place `at` on
-left-room : (at n : ℕ) (c₀ c : Columns) → NodesLong c₀ c → at + n ≤ shortest c₀ → LongAll at c × (n ≤ shortest (dropAll at c))
-left-room at n c₀ c l h =
-    let e = long-all (at + n) c₀ h in (
-      record {
-        value = near (l .value) (e .value);
-        feature = near (l .feature) (e .feature);
-        threshold = near (l .threshold) (e .threshold);
-        score = near (l .score) (e .score);
-        truechild = near (l .truechild) (e .truechild);
-        falsechild = near (l .falsechild) (e .falsechild);
-      },
-      all-long n (dropAll at c) (record {
-        value = far (c .value) (l .value) (e .value);
-        feature = far (c .feature) (l .feature) (e .feature);
-        threshold = far (c .threshold) (l .threshold) (e .threshold);
-        score = far (c .score) (l .score) (e .score);
-        truechild = far (c .trueChild) (l .truechild) (e .truechild);
-        falsechild = far (c .falseChild) (l .falsechild) (e .falsechild);
-      }),
-    )
+left-room : (at n : ℕ) (c₀ c : NodeRoom) → NodesLong (c₀ .nodes) (c .nodes) → BehindLong (c₀ .behind) (c .behind) → at + n ≤ shortestOfEight (c₀ .nodes) (c₀ .behind)
+    → LongRoom at c × (n ≤ shortestOfEight (dropAll at c .nodes) (dropAll at c .behind))
+left-room at n c₀ c l b h =
+    let e = long-room (at + n) c₀ h in
+    (columns-long (λ A k. k) (at + n) at (λ A. near) c₀ c l b e, room-long n (dropAll at c) (columns-long (λ A. drop at) (at + n) n (λ A. far) c₀ c l b e))
   where
-    near : {a b : ℕ} → a ≡ b → at + n ≤ b → at ≤ a
-    near e h = omega arith
+    near : {A : Type 0} (k₀ k : List A) → length k ≡ length k₀ → at + n ≤ length k₀ → at ≤ length k
+    near k₀ k e h = omega arith
 
-    far : {A : Type 0} (k : List A) {b : ℕ} → length k ≡ b → at + n ≤ b → n ≤ length (drop at k)
-    far k e h = omega (arith, length-drop at k)
+    far : {A : Type 0} (k₀ k : List A) → length k ≡ length k₀ → at + n ≤ length k₀ → n ≤ length (drop at k)
+    far k₀ k e h = omega (arith, length-drop at k)
 
 -- ---- the loop
 
-pub record Going (trees : ℕ) (L : Lot) (c₀ : Columns) (w₀ : Widths) (t at : ℕ) (c : Columns) (w : Widths) (rs : List Report) (es : List ℕ) : Type 0 where
+pub record Going (trees : ℕ) (L : Lot) (c₀ : NodeRoom) (w₀ : Widths) (t at : ℕ) (c : NodeRoom) (w : Widths) (rs : List Report) (es : List ℕ) : Type 0 where
   pub asks : AllAsks trees L c₀ w₀
   pub within : t ≤ trees
   pub standing : Standing (lotTrees trees L) (L .inputs) c₀ t at c rs es
   pub long : ToldLong rs es
-  pub nodes : NodesLong c₀ c
+  pub nodes : NodesLong (c₀ .nodes) (c .nodes)
+  pub behind : BehindLong (c₀ .behind) (c .behind)
   pub order : w .order ≡ w₀ .order
   pub scratch : w .scratch ≡ w₀ .scratch
   pub flags : w .flags ≡ w₀ .flags
@@ -115,7 +105,7 @@ frames-long n L = length-map (from 0 n) (lotTree L) ∙ length-from 0 n
 frame-at : (n : ℕ) (L : Lot) (t : ℕ) → t < n → getD (lotTrees n L) t (lotTree L t) ≡ lotTree L t
 frame-at n L t h = getD-from (lotTree L) 0 n t (lotTree L t) h ∙ ap (lotTree L) (zero-add t)
 
-pub going-first : (n : ℕ) (L : Lot) (c : Columns) (w : Widths) (rs : List Report) (es : List ℕ) → AllAsks n L c w → ToldLong rs es → Going n L c w 0 0 c w rs es
+pub going-first : (n : ℕ) (L : Lot) (c : NodeRoom) (w : Widths) (rs : List Report) (es : List ℕ) → AllAsks n L c w → ToldLong rs es → Going n L c w 0 0 c w rs es
 going-first n L c w rs es h l =
     record {
       asks = h;
@@ -123,6 +113,7 @@ going-first n L c w rs es h l =
       standing = standing-first (lotTrees n L) (L .inputs) c rs es;
       long = l;
       nodes = record { value = refl; feature = refl; threshold = refl; score = refl; truechild = refl; falsechild = refl };
+      behind = record { count = refl; mass = refl };
       order = refl;
       scratch = refl;
       flags = refl;
@@ -130,7 +121,7 @@ going-first n L c w rs es h l =
       reals = refl;
     }
 
-module _ (n : ℕ) (L : Lot) (c₀ : Columns) (w₀ : Widths) (t at : ℕ) (c : Columns) (w : Widths) (rs : List Report) (es : List ℕ) (g : Going n L c₀ w₀ t at c w rs es) where
+module _ (n : ℕ) (L : Lot) (c₀ : NodeRoom) (w₀ : Widths) (t at : ℕ) (c : NodeRoom) (w : Widths) (rs : List Report) (es : List ℕ) (g : Going n L c₀ w₀ t at c w rs es) where
   pub going-end : n ≤ t → AllDone n L c₀ c (record { end = U.Grown; reports = rs; ends = es })
   going-end h =
       let st = g .standing in
@@ -140,7 +131,7 @@ module _ (n : ℕ) (L : Lot) (c₀ : Columns) (w₀ : Widths) (t at : ℕ) (c : 
         done = record {
           trees = st .trees;
           same = standing-end (lotTrees n L) (L .inputs) c₀ t at c rs es st (subst (λ k. k ≤ t) (sym (frames-long n L)) h);
-          nodes = st .nodes;
+          nodes = st .nodes ∙ trees-written (st .trees) c₀;
           reports = subst (λ k. take k rs ≡ map (λ (x : Tree). x .report) (st .trees)) all (st .reports);
           starts = subst (λ k. 0 ∷ take k es ≡ startsFrom 0 (st .trees)) all (st .starts);
         };
@@ -156,10 +147,10 @@ module _ (n : ℕ) (L : Lot) (c₀ : Columns) (w₀ : Widths) (t at : ℕ) (c : 
     here : at + roomFor (lotTree L t) + total roomFor (drop (suc t) (lotTrees n L)) ≤ total roomFor (lotTrees n L)
     here = room-here (lotTrees n L) (L .inputs) c₀ t at c rs es (g .standing) inside (lotTree L t) (frame-at n L t h)
 
-    room : LongAll at c × (roomFor (lotTree L t) ≤ shortest (dropAll at c))
+    room : LongRoom at c × (roomFor (lotTree L t) ≤ shortestOfEight (dropAll at c .nodes) (dropAll at c .behind))
     room =
-        left-room at (roomFor (lotTree L t)) c₀ c (g .nodes)
-        (less at (roomFor (lotTree L t)) (total roomFor (drop (suc t) (lotTrees n L))) (total roomFor (lotTrees n L)) (shortest c₀) here (g .asks .room))
+        left-room at (roomFor (lotTree L t)) c₀ c (g .nodes) (g .behind)
+        (less at (roomFor (lotTree L t)) (total roomFor (drop (suc t) (lotTrees n L))) (total roomFor (lotTrees n L)) (shortestOfEight (c₀ .nodes) (c₀ .behind)) here (g .asks .room))
       where
         less : (a b c d e : ℕ) → a + b + c ≤ d → d ≤ e → a + b ≤ e
         less a b c d e h k = omega arith
@@ -178,7 +169,7 @@ module _ (n : ℕ) (L : Lot) (c₀ : Columns) (w₀ : Widths) (t at : ℕ) (c : 
           threshold = g .asks .threshold t h;
         }
 
-    module _ (c′ : Columns) (r : Planted) (d : NextDone L t at c c′ r) where
+    module _ (c′ : NodeRoom) (r : Planted) (d : NextDone L t at c c′ r) where
       pub going-stop : (k : ℕ) → r ≡ BadDraw k → {m : ℕ} → m ≡ t → AllDone n L c₀ c′ (record { end = U.Stopped (record { tree = m; search = k }); reports = rs; ends = es })
       going-stop k e em =
           record {
@@ -215,11 +206,11 @@ module _ (n : ℕ) (L : Lot) (c₀ : Columns) (w₀ : Widths) (t at : ℕ) (c : 
             fits : (a n m r x d : ℕ) → n ≡ m → m ≤ r → a + r + x ≤ d → d < 4294967296 → a + n < 4294967296
             fits a n m r x d e h k l = omega arith
 
-        pub going-on : (at′ : ℕ) → at′ ≡ at + report .nodes → NodesLong c c′ → (w′ : Widths)
+        pub going-on : (at′ : ℕ) → at′ ≡ at + report .nodes → NodesLong (c .nodes) (c′ .nodes) → BehindLong (c .behind) (c′ .behind) → (w′ : Widths)
             → w′ .order ≡ w .order → w′ .scratch ≡ w .scratch → w′ .flags ≡ w .flags → w′ .wholes ≡ w .wholes → w′ .reals ≡ w .reals
             → Going n L c₀ w₀ (t + 1) at′ c′ w′ (set rs t report) (set es t at′)
         unfolding tree
-        going-on at′ ea ln w′ eo es′ ef ew er =
+        going-on at′ ea ln lb w′ eo es′ ef ew er =
             record {
               asks = g .asks;
               within = omega arith;
@@ -237,6 +228,7 @@ module _ (n : ℕ) (L : Lot) (c₀ : Columns) (w₀ : Widths) (t at : ℕ) (c : 
                 truechild = ln .truechild ∙ g .nodes .truechild;
                 falsechild = ln .falsechild ∙ g .nodes .falsechild;
               };
+              behind = record { count = lb .count ∙ g .behind .count; mass = lb .mass ∙ g .behind .mass };
               order = eo ∙ g .order;
               scratch = es′ ∙ g .scratch;
               flags = ef ∙ g .flags;

@@ -6,8 +6,9 @@ use lib.ListN.{length}
 use lib.Ieee.{Float}
 use Rattle.rules.specs.declared.Params.{Params}
 use Rattle.rules.specs.Words.{from, stretch}
-use Rattle.rules.specs.Lent.{Data, OneTree, Columns}
+use Rattle.rules.specs.Lent.{Data, OneTree}
 use Rattle.rules.specs.Forest.{part}
+use Rattle.node_entries.specs.Entries.{NodeRoom}
 use Rattle.tree_build.specs.Plant.{oneTreeIn, PlantAsks}
 
 -- all that the trees share, and the counts and tapes of which each has its part
@@ -60,5 +61,5 @@ lotTree L t =
 abbrev pub lotTrees : ℕ → Lot → List OneTree
 lotTrees trees L = map (lotTree L) (from 0 trees)
 
-abbrev pub PlantIn : Lot → OneTree → Columns → Widths → Type 0
+abbrev pub PlantIn : Lot → OneTree → NodeRoom → Widths → Type 0
 PlantIn L F c w = PlantAsks (L .features) F (L .inputs) c (w .order) (w .scratch) (w .flags) (w .wholes) (w .reals)

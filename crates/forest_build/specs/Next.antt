@@ -7,28 +7,28 @@ use mathlib.Core.List.{List, _++_, append-nil}
 use lib.ListN.{length, getD, take, drop, length-append, length-drop, drop-of-length-le}
 use lib.Seq.{take-all, take-at, drop-at, length-take-le, length-front}
 use lib.Ieee.{Float}
-use Rattle.rules.specs.Lent.{OneTree, Columns, kept, keptRows}
+use Rattle.rules.specs.Lent.{OneTree, kept, keptRows}
 use Rattle.rules.specs.Checks.{roomFor}
 use Rattle.rules.specs.Fit.{element, listing}
 use Rattle.rules.specs.Forest.{part}
 use Rattle.lemmas.specs.Passed.{PartAt}
-use Rattle.node_entries.specs.Entries.{LongAll}
+use Rattle.node_entries.specs.Entries.{NodeRoom, LongRoom}
 use Rattle.tree_report.specs.declared.Planted.{Planted}
 use Rattle.tree_build.specs.Plant.{oneTreeIn, PlantDone}
 use Rattle.forest_parts.specs.declared.Parts.{Parts}
 use Rattle.forest_parts.specs.Parts.{PartsAsk, partsAt}
 use Rattle.forest_build.specs.Lot.{Lot, Widths, lotTree, PlantIn}
-use Rattle.forest_build.specs.Standing.{dropAll, takeAll}
+use Rattle.forest_build.specs.Columns.{columnwise, each, dropAll, takeAll, columns-same}
 
-pub record NextAsks (L : Lot) (t at : ℕ) (c : Columns) (w : Widths) : Type 0 where
+pub record NextAsks (L : Lot) (t at : ℕ) (c : NodeRoom) (w : Widths) : Type 0 where
   pub plant : PlantIn L (lotTree L t) (dropAll at c) w
-  pub long : LongAll at c
+  pub long : LongRoom at c
   pub small : t * L .rows + L .rows < 4294967296
   pub counted : t * L .rows + L .rows ≤ length (L .counts)
   pub word : PartAt (L .wordStarts) (length (L .words)) t
   pub threshold : PartAt (L .thresholdStarts) (length (L .thresholds)) t
 
-pub record NextDone (L : Lot) (t at : ℕ) (c c′ : Columns) (r : Planted) : Type 0 where
+pub record NextDone (L : Lot) (t at : ℕ) (c c′ : NodeRoom) (r : Planted) : Type 0 where
   pub kept : takeAll at c′ ≡ takeAll at c
   pub done : PlantDone (lotTree L t) (L .inputs) (dropAll at c) (dropAll at c′) r
 
@@ -57,60 +57,20 @@ back-long at l last h e =
     sum : (a b n : ℕ) → a ≡ at → b ≡ n - at → at ≤ n → a + b ≡ n
     sum a b n x y z = omega arith
 
-abbrev pub lentAll : ℕ → Columns → Columns
-lentAll at c =
-    record {
-      value = take (length (c .value) - at) (drop at (c .value));
-      feature = take (length (c .feature) - at) (drop at (c .feature));
-      threshold = take (length (c .threshold) - at) (drop at (c .threshold));
-      score = take (length (c .score) - at) (drop at (c .score));
-      trueChild = take (length (c .trueChild) - at) (drop at (c .trueChild));
-      falseChild = take (length (c .falseChild) - at) (drop at (c .falseChild));
-    }
+abbrev pub lentAll : ℕ → NodeRoom → NodeRoom
+lentAll at c = each (λ A k. take (length k - at) (drop at k)) c
 
-abbrev pub backAll : ℕ → Columns → Columns → Columns
-backAll at c l =
-    record {
-      value = back at (c .value) (l .value);
-      feature = back at (c .feature) (l .feature);
-      threshold = back at (c .threshold) (l .threshold);
-      score = back at (c .score) (l .score);
-      trueChild = back at (c .trueChild) (l .trueChild);
-      falseChild = back at (c .falseChild) (l .falseChild);
-    }
+abbrev pub backAll : ℕ → NodeRoom → NodeRoom → NodeRoom
+backAll at c l = columnwise (λ A. back at) c l
 
-columns-lent : (at : ℕ) (c : Columns) → lentAll at c ≡ dropAll at c
-columns-lent at c = λ i.
-    record {
-      value = lent-is at (c .value) i;
-      feature = lent-is at (c .feature) i;
-      threshold = lent-is at (c .threshold) i;
-      score = lent-is at (c .score) i;
-      trueChild = lent-is at (c .trueChild) i;
-      falseChild = lent-is at (c .falseChild) i;
-    }
+columns-lent : (at : ℕ) (c : NodeRoom) → LongRoom at c → lentAll at c ≡ dropAll at c
+columns-lent at c h = columns-same (λ A k l. take (length k - at) (drop at k)) (λ A k l. drop at k) at (λ A k l b. lent-is at k) c c h
 
-columns-kept : (at : ℕ) (c l : Columns) → LongAll at c → takeAll at (backAll at c l) ≡ takeAll at c
-columns-kept at c l h = λ i.
-    record {
-      value = back-take at (c .value) (l .value) (h .value) i;
-      feature = back-take at (c .feature) (l .feature) (h .feature) i;
-      threshold = back-take at (c .threshold) (l .threshold) (h .threshold) i;
-      score = back-take at (c .score) (l .score) (h .score) i;
-      trueChild = back-take at (c .trueChild) (l .trueChild) (h .truechild) i;
-      falseChild = back-take at (c .falseChild) (l .falseChild) (h .falsechild) i;
-    }
+columns-kept : (at : ℕ) (c l : NodeRoom) → LongRoom at c → takeAll at (backAll at c l) ≡ takeAll at c
+columns-kept at c l h = columns-same (λ A k last. take at (back at k last)) (λ A k last. take at k) at (λ A. back-take at) c l h
 
-columns-back : (at : ℕ) (c l : Columns) → LongAll at c → dropAll at (backAll at c l) ≡ l
-columns-back at c l h = λ i.
-    record {
-      value = back-drop at (c .value) (l .value) (h .value) i;
-      feature = back-drop at (c .feature) (l .feature) (h .feature) i;
-      threshold = back-drop at (c .threshold) (l .threshold) (h .threshold) i;
-      score = back-drop at (c .score) (l .score) (h .score) i;
-      trueChild = back-drop at (c .trueChild) (l .trueChild) (h .truechild) i;
-      falseChild = back-drop at (c .falseChild) (l .falseChild) (h .falsechild) i;
-    }
+columns-back : (at : ℕ) (c l : NodeRoom) → LongRoom at c → dropAll at (backAll at c l) ≡ l
+columns-back at c l h = columns-same (λ A k last. drop at (back at k last)) (λ A k last. last) at (λ A. back-drop at) c l h
 
 -- what the code lends of the counts, and the tree as the code lends it
 abbrev pub countsLent : Lot → Parts → List ℕ
@@ -121,7 +81,7 @@ oneTreeLent L P =
     oneTreeIn (L .rows) (L .params) (L .weights) (countsLent L P) (take (P .wordend - P .word) (drop (P .word) (L .words)))
     (take (P .thresholdend - P .threshold) (drop (P .threshold) (L .thresholds)))
 
-module _ (L : Lot) (t at : ℕ) (c : Columns) (w : Widths) (h : NextAsks L t at c w) where
+module _ (L : Lot) (t at : ℕ) (c : NodeRoom) (w : Widths) (h : NextAsks L t at c w) where
   pub parts-ask : PartsAsk (L .rows) t (L .wordStarts) (L .thresholdStarts)
   parts-ask = record { small = h .small; words = h .word .known; thresholds = h .threshold .known }
 
@@ -141,7 +101,7 @@ module _ (L : Lot) (t at : ℕ) (c : Columns) (w : Widths) (h : NextAsks L t at 
     pub next-asks : (W : List ℕ) (M : List Float) → PlantIn L (oneTreeIn (L .rows) (L .params) (L .weights) (countsLent L P) W M) (lentAll at c) w
     unfolding listing element roomFor keptRows kept
     next-asks W M =
-        let k = subst (λ k. PlantIn L (lotTree L t) k w) (sym (columns-lent at c)) (h .plant) in
+        let k = subst (λ k. PlantIn L (lotTree L t) k w) (sym (columns-lent at c (h .long))) (h .plant) in
         let q = subst (λ F. PlantIn L F (lentAll at c) w) (sym frame-lent) k in
         record {
           listed = record { once = q .listed .once; rising = q .listed .rising; values = q .listed .values };
@@ -164,12 +124,12 @@ module _ (L : Lot) (t at : ℕ) (c : Columns) (w : Widths) (h : NextAsks L t at 
           node-room = q .node-room;
         }
 
-    pub next-done : (l : Columns) (r : Planted) → PlantDone (oneTreeLent L P) (L .inputs) (lentAll at c) l r → NextDone L t at c (backAll at c l) r
+    pub next-done : (l : NodeRoom) (r : Planted) → PlantDone (oneTreeLent L P) (L .inputs) (lentAll at c) l r → NextDone L t at c (backAll at c l) r
     next-done l r d =
         record {
           kept = columns-kept at c l (h .long);
           done =
               subst (λ k. PlantDone (lotTree L t) (L .inputs) (dropAll at c) k r) (sym (columns-back at c l (h .long)))
-              (subst (λ k. PlantDone (lotTree L t) (L .inputs) k l r) (columns-lent at c)
+              (subst (λ k. PlantDone (lotTree L t) (L .inputs) k l r) (columns-lent at c (h .long))
               (subst (λ F. PlantDone F (L .inputs) (lentAll at c) l r) frame-lent d));
         }

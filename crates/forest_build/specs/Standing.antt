@@ -9,37 +9,18 @@ use lib.ListN.{length, getD, set, take, drop, length-append, length-map, drop-of
 use lib.Seq.{drop-cons, drop-drop, take-at, drop-at}
 use Rattle.rules.specs.declared.Report.{Report}
 use Rattle.rules.specs.declared.Place.{Place}
-use Rattle.rules.specs.Words.{front, total}
-use Rattle.rules.specs.Lent.{Data, OneTree, Columns, Entry, writeEntries}
+use Rattle.rules.specs.Words.{front, joined, total}
+use Rattle.rules.specs.Lent.{Data, OneTree, Entry, writeEntries}
 use Rattle.rules.specs.Checks.{roomFor}
 use Rattle.rules.specs.Draws.{bad, ok}
-use Rattle.rules.specs.Fit.{Tree, fit, entries}
-use Rattle.rules.specs.Forest.{Forest, stopped, grownAll, withTree, nextTree, growTrees, startsFrom, forestEntries}
+use Rattle.rules.specs.Growth.{TreeNode}
+use Rattle.rules.specs.Fit.{Tree, fit, entries, writeBehind}
+use Rattle.rules.specs.Forest.{Forest, stopped, grownAll, withTree, nextTree, growTrees, startsFrom, forestEntries, forestNodes}
 use Rattle.lemmas.specs.Tables.{length-entries}
-
--- ---- columns from place n on, and before it
-
-abbrev pub dropAll : ℕ → Columns → Columns
-dropAll n c =
-    record {
-      value = drop n (c .value);
-      feature = drop n (c .feature);
-      threshold = drop n (c .threshold);
-      score = drop n (c .score);
-      trueChild = drop n (c .trueChild);
-      falseChild = drop n (c .falseChild);
-    }
-
-abbrev pub takeAll : ℕ → Columns → Columns
-takeAll n c =
-    record {
-      value = take n (c .value);
-      feature = take n (c .feature);
-      threshold = take n (c .threshold);
-      score = take n (c .score);
-      trueChild = take n (c .trueChild);
-      falseChild = take n (c .falseChild);
-    }
+use Rattle.lemmas.specs.Beside.{entries-append, entries-joined}
+use Rattle.node_entries.specs.Entries.{NodeRoom}
+use Rattle.node_entries.specs.Nodes.{writeNodes}
+use Rattle.forest_build.specs.Columns.{dropAll, takeAll}
 
 -- ---- forests grown so far, and the rest
 
@@ -64,28 +45,24 @@ over-all (x ∷ ts) us = ap (withTree x) (over-all ts us)
 
 -- ---- one tree more
 
-entries-next : (ts : List Tree) (t : Tree) → forestEntries (ts ++ (t ∷ [])) ≡ forestEntries ts ++ entries (t .nodes)
-unfolding forestEntries
-entries-next [] t = append-nil (entries (t .nodes))
-entries-next (x ∷ ts) t = ap (λ z. entries (x .nodes) ++ z) (entries-next ts t) ∙ sym (append-assoc (entries (x .nodes)) (forestEntries ts) (entries (t .nodes)))
+nodes-next : (ts : List Tree) (t : Tree) → forestNodes (ts ++ (t ∷ [])) ≡ forestNodes ts ++ t .nodes
+unfolding forestNodes joined
+nodes-next [] t = append-nil (t .nodes)
+nodes-next (x ∷ ts) t = ap (λ z. x .nodes ++ z) (nodes-next ts t) ∙ sym (append-assoc (x .nodes) (forestNodes ts) (t .nodes))
 
-starts-next : (a : ℕ) (ts : List Tree) (t : Tree) → startsFrom a (ts ++ (t ∷ [])) ≡ startsFrom a ts ++ ((a + length (forestEntries ts) + length (t .nodes)) ∷ [])
-unfolding startsFrom forestEntries
+starts-next : (a : ℕ) (ts : List Tree) (t : Tree) → startsFrom a (ts ++ (t ∷ [])) ≡ startsFrom a ts ++ ((a + length (forestNodes ts) + length (t .nodes)) ∷ [])
+unfolding startsFrom forestNodes joined
 starts-next a [] t = ap (λ n. a ∷ (n + length (t .nodes)) ∷ []) (same a)
   where
     same : (a : ℕ) → a ≡ a + 0
     same a = omega arith
 starts-next a (x ∷ ts) t =
     ap (λ z. a ∷ z) (starts-next (a + length (x .nodes)) ts t
-    ∙ ap (λ n. startsFrom (a + length (x .nodes)) ts ++ ((n + length (t .nodes)) ∷ [])) (sum a (length (x .nodes)) (length (forestEntries ts)) (length (entries (x .nodes) ++ forestEntries ts))
-    (length-append (entries (x .nodes)) (forestEntries ts) ∙ ap (λ n. n + length (forestEntries ts)) (length-entries (x .nodes)))))
+    ∙ ap (λ n. startsFrom (a + length (x .nodes)) ts ++ ((n + length (t .nodes)) ∷ []))
+    (sum a (length (x .nodes)) (length (forestNodes ts)) (length (x .nodes ++ forestNodes ts)) (length-append (x .nodes) (forestNodes ts))))
   where
     sum : (a b c d : ℕ) → d ≡ b + c → a + b + c ≡ a + d
     sum a b c d e = omega arith
-
-map-next : {A B : Type 0} (f : A → B) (l : List A) (x : A) → map f (l ++ (x ∷ [])) ≡ map f l ++ (f x ∷ [])
-map-next f [] x = refl
-map-next f (y ∷ l) x = ap (λ z. f y ∷ z) (map-next f l x)
 
 -- an entry written behind the first ones
 take-next : {A : Type 0} (l : List A) (t : ℕ) (x : A) → t < length l → take (suc t) (set l t x) ≡ take t l ++ (x ∷ [])
@@ -104,39 +81,62 @@ front-more k m old new n e a b =
 
 -- ---- node columns, a tree at a time
 
-nodes-next : (c₀ c c′ : Columns) (es fs : List Entry) → c ≡ writeEntries es c₀ → takeAll (length es) c′ ≡ takeAll (length es) c
-    → dropAll (length es) c′ ≡ writeEntries fs (dropAll (length es) c) → c′ ≡ writeEntries (es ++ fs) c₀
-nodes-next c₀ c c′ es fs e a b = λ i.
+-- of one column, whatever it has of the nodes
+column-next : {A : Type 0} (f : List TreeNode → List A) (ns ms : List TreeNode) (old now new : List A) → length (f ns) ≡ length ns → f (ns ++ ms) ≡ f ns ++ f ms
+    → now ≡ front (f ns) old → take (length ns) new ≡ take (length ns) now → drop (length ns) new ≡ front (f ms) (drop (length ns) now) → new ≡ front (f (ns ++ ms)) old
+column-next f ns ms old now new l p e a b =
+    front-more (f ns) (f ms) old new (length ns) l (a ∙ ap (take (length ns)) e) (b ∙ ap (λ z. front (f ms) (drop (length ns) z)) e) ∙ ap (λ z. front z old) (sym p)
+
+-- of all eight
+room-next : (c₀ c c′ : NodeRoom) (ns ms : List TreeNode) → c ≡ writeNodes ns c₀ → takeAll (length ns) c′ ≡ takeAll (length ns) c
+    → dropAll (length ns) c′ ≡ writeNodes ms (dropAll (length ns) c) → c′ ≡ writeNodes (ns ++ ms) c₀
+room-next c₀ c c′ ns ms e a b = λ i.
     record {
-      value = one (λ (x : Entry). x .value) (λ (z : Columns). z .value) (λ i. e i .value) (λ i. a i .value) (λ i. b i .value) i;
-      feature = one (λ (x : Entry). x .feature) (λ (z : Columns). z .feature) (λ i. e i .feature) (λ i. a i .feature) (λ i. b i .feature) i;
-      threshold = one (λ (x : Entry). x .threshold) (λ (z : Columns). z .threshold) (λ i. e i .threshold) (λ i. a i .threshold) (λ i. b i .threshold) i;
-      score = one (λ (x : Entry). x .score) (λ (z : Columns). z .score) (λ i. e i .score) (λ i. a i .score) (λ i. b i .score) i;
-      trueChild = one (λ (x : Entry). x .trueChild) (λ (z : Columns). z .trueChild) (λ i. e i .trueChild) (λ i. a i .trueChild) (λ i. b i .trueChild) i;
-      falseChild = one (λ (x : Entry). x .falseChild) (λ (z : Columns). z .falseChild) (λ i. e i .falseChild) (λ i. a i .falseChild) (λ i. b i .falseChild) i;
+      nodes = record {
+        value = six (λ x. x .value) (λ z. z .nodes .value) (λ i. e i .nodes .value) (λ i. a i .nodes .value) (λ i. b i .nodes .value) i;
+        feature = six (λ x. x .feature) (λ z. z .nodes .feature) (λ i. e i .nodes .feature) (λ i. a i .nodes .feature) (λ i. b i .nodes .feature) i;
+        threshold = six (λ x. x .threshold) (λ z. z .nodes .threshold) (λ i. e i .nodes .threshold) (λ i. a i .nodes .threshold) (λ i. b i .nodes .threshold) i;
+        score = six (λ x. x .score) (λ z. z .nodes .score) (λ i. e i .nodes .score) (λ i. a i .nodes .score) (λ i. b i .nodes .score) i;
+        trueChild = six (λ x. x .trueChild) (λ z. z .nodes .trueChild) (λ i. e i .nodes .trueChild) (λ i. a i .nodes .trueChild) (λ i. b i .nodes .trueChild) i;
+        falseChild = six (λ x. x .falseChild) (λ z. z .nodes .falseChild) (λ i. e i .nodes .falseChild) (λ i. a i .nodes .falseChild) (λ i. b i .nodes .falseChild) i;
+      };
+      behind = record {
+        count = two (λ n. n .count) (λ z. z .behind .count) (λ i. e i .behind .count) (λ i. a i .behind .count) (λ i. b i .behind .count) i;
+        mass = two (λ n. n .totals .mass) (λ z. z .behind .mass) (λ i. e i .behind .mass) (λ i. a i .behind .mass) (λ i. b i .behind .mass) i;
+      };
     }
   where
-    one : {A : Type 0} (f : Entry → A) (col : Columns → List A) → col c ≡ front (map f es) (col c₀) → take (length es) (col c′) ≡ take (length es) (col c)
-        → drop (length es) (col c′) ≡ front (map f fs) (drop (length es) (col c)) → col c′ ≡ front (map f (es ++ fs)) (col c₀)
-    one f col e a b =
-        front-more (map f es) (map f fs) (col c₀) (col c′) (length es) (length-map es f) (a ∙ ap (take (length es)) e)
-        (b ∙ ap (λ z. front (map f fs) (drop (length es) z)) e)
-        ∙ ap (λ z. front z (col c₀)) (sym (map-append f es fs))
+    six : {A : Type 0} (f : Entry → A) (col : NodeRoom → List A) → col c ≡ front (map f (entries ns)) (col c₀) → take (length ns) (col c′) ≡ take (length ns) (col c)
+        → drop (length ns) (col c′) ≡ front (map f (entries ms)) (drop (length ns) (col c)) → col c′ ≡ front (map f (entries (ns ++ ms))) (col c₀)
+    six f col =
+        column-next (λ l. map f (entries l)) ns ms (col c₀) (col c) (col c′) (length-map (entries ns) f ∙ length-entries ns)
+        (ap (map f) (entries-append ns ms) ∙ map-append f (entries ns) (entries ms))
+
+    two : {A : Type 0} (f : TreeNode → A) (col : NodeRoom → List A) → col c ≡ front (map f ns) (col c₀) → take (length ns) (col c′) ≡ take (length ns) (col c)
+        → drop (length ns) (col c′) ≡ front (map f ms) (drop (length ns) (col c)) → col c′ ≡ front (map f (ns ++ ms)) (col c₀)
+    two f col = column-next (map f) ns ms (col c₀) (col c) (col c′) (length-map ns f) (map-append f ns ms)
+
+-- all trees, as the rules write them
+abbrev pub writeTrees : List Tree → NodeRoom → NodeRoom
+writeTrees ts c = record { nodes = writeEntries (forestEntries ts) (c .nodes); behind = writeBehind (forestNodes ts) (c .behind) }
+
+pub trees-written : (ts : List Tree) (c : NodeRoom) → writeNodes (forestNodes ts) c ≡ writeTrees ts c
+trees-written ts c = λ i. record { nodes = writeEntries (entries-joined ts i) (c .nodes); behind = writeBehind (forestNodes ts) (c .behind) }
 
 -- ---- where the loop stands
 
-pub record Standing (Fs : List OneTree) (D : Data) (c₀ : Columns) (t at : ℕ) (c : Columns) (rs : List Report) (es : List ℕ) : Type 0 where
+pub record Standing (Fs : List OneTree) (D : Data) (c₀ : NodeRoom) (t at : ℕ) (c : NodeRoom) (rs : List Report) (es : List ℕ) : Type 0 where
   pub trees : List Tree
   pub count : length trees ≡ t
   pub so : over trees (growTrees t (drop t Fs) D) ≡ growTrees 0 Fs D
-  pub end : length (forestEntries trees) ≡ at
-  pub nodes : c ≡ writeEntries (forestEntries trees) c₀
+  pub end : length (forestNodes trees) ≡ at
+  pub nodes : c ≡ writeNodes (forestNodes trees) c₀
   pub reports : take t rs ≡ map (λ (x : Tree). x .report) trees
   pub starts : 0 ∷ take t es ≡ startsFrom 0 trees
   pub room : at + total roomFor (drop t Fs) ≤ total roomFor Fs
 
-pub standing-first : (Fs : List OneTree) (D : Data) (c₀ : Columns) (rs : List Report) (es : List ℕ) → Standing Fs D c₀ 0 0 c₀ rs es
-unfolding over forestEntries startsFrom
+pub standing-first : (Fs : List OneTree) (D : Data) (c₀ : NodeRoom) (rs : List Report) (es : List ℕ) → Standing Fs D c₀ 0 0 c₀ rs es
+unfolding over forestNodes joined entries startsFrom
 standing-first Fs D c₀ rs es =
     record {
       trees = [];
@@ -149,7 +149,7 @@ standing-first Fs D c₀ rs es =
       room = subst (λ n. n ≤ total roomFor Fs) (sym (zero-add (total roomFor Fs))) (le-refl (total roomFor Fs));
     }
 
-module _ (Fs : List OneTree) (D : Data) (c₀ : Columns) (t at : ℕ) (c : Columns) (rs : List Report) (es : List ℕ) (st : Standing Fs D c₀ t at c rs es) where
+module _ (Fs : List OneTree) (D : Data) (c₀ : NodeRoom) (t at : ℕ) (c : NodeRoom) (rs : List Report) (es : List ℕ) (st : Standing Fs D c₀ t at c rs es) where
   pub standing-end : length Fs ≤ t → growTrees 0 Fs D ≡ grownAll (st .trees)
   unfolding growTrees
   standing-end h =
@@ -190,28 +190,27 @@ module _ (Fs : List OneTree) (D : Data) (c₀ : Columns) (t at : ℕ) (c : Colum
       starts-more he =
           ap (λ l. 0 ∷ l) (ap (λ k. take k (set es t at′)) (add-one t) ∙ take-next es t at′ he)
           ∙ ap (λ l. l ++ (at′ ∷ [])) (st .starts)
-          ∙ ap (λ k. startsFrom 0 (st .trees) ++ (k ∷ [])) (ea ∙ ap (λ k. k + length (tree .nodes)) (sym (st .end) ∙ sym (zero-add (length (forestEntries (st .trees))))))
+          ∙ ap (λ k. startsFrom 0 (st .trees) ++ (k ∷ [])) (ea ∙ ap (λ k. k + length (tree .nodes)) (sym (st .end) ∙ sym (zero-add (length (forestNodes (st .trees))))))
           ∙ sym (starts-next 0 (st .trees) tree)
 
       reports-more : t < length rs → take (t + 1) (set rs t (tree .report)) ≡ map (λ (x : Tree). x .report) (st .trees ++ (tree ∷ []))
       reports-more hr =
           ap (λ k. take k (set rs t (tree .report))) (add-one t) ∙ take-next rs t (tree .report) hr
           ∙ ap (λ l. l ++ (tree .report ∷ [])) (st .reports)
-          ∙ sym (map-next (λ (x : Tree). x .report) (st .trees) tree)
+          ∙ sym (map-append (λ (x : Tree). x .report) (st .trees) (tree ∷ []))
 
-      pub standing-next : (c′ : Columns) → takeAll at c′ ≡ takeAll at c → dropAll at c′ ≡ writeEntries (entries (tree .nodes)) (dropAll at c)
+      pub standing-next : (c′ : NodeRoom) → takeAll at c′ ≡ takeAll at c → dropAll at c′ ≡ writeNodes (tree .nodes) (dropAll at c)
           → t < length rs → t < length es → Standing Fs D c₀ (t + 1) at′ c′ (set rs t (tree .report)) (set es t at′)
       standing-next c′ ct cd hr he =
           record {
             trees = st .trees ++ (tree ∷ []);
             count = length-append (st .trees) (tree ∷ []) ∙ ap (λ k. k + 1) (st .count);
             so = so-next;
-            end = ap length (entries-next (st .trees) tree) ∙ length-append (forestEntries (st .trees)) (entries (tree .nodes))
-                ∙ (λ i. st .end i + length-entries (tree .nodes) i) ∙ sym ea;
+            end = ap length (nodes-next (st .trees) tree) ∙ length-append (forestNodes (st .trees)) (tree .nodes) ∙ ap (λ n. n + length (tree .nodes)) (st .end) ∙ sym ea;
             nodes =
-                nodes-next c₀ c c′ (forestEntries (st .trees)) (entries (tree .nodes)) (st .nodes) (subst (λ k. takeAll k c′ ≡ takeAll k c) (sym (st .end)) ct)
-                (subst (λ k. dropAll k c′ ≡ writeEntries (entries (tree .nodes)) (dropAll k c)) (sym (st .end)) cd)
-                ∙ ap (λ l. writeEntries l c₀) (sym (entries-next (st .trees) tree));
+                room-next c₀ c c′ (forestNodes (st .trees)) (tree .nodes) (st .nodes) (subst (λ k. takeAll k c′ ≡ takeAll k c) (sym (st .end)) ct)
+                (subst (λ k. dropAll k c′ ≡ writeNodes (tree .nodes) (dropAll k c)) (sym (st .end)) cd)
+                ∙ ap (λ l. writeNodes l c₀) (sym (nodes-next (st .trees) tree));
             reports = reports-more hr;
             starts = starts-more he;
             room = subst (λ k. at′ + total roomFor (drop k Fs) ≤ total roomFor Fs) (sym (add-one t))

@@ -1,6 +1,6 @@
 // The trees of a forest, one after another: each with its own counts and its own part of both tapes, its nodes behind those of the one before.
 ghost use lib.ListN.{length};
-ghost use Rattle.rules.specs.Lent.{columnsOf};
+ghost use Rattle.node_entries.specs.Entries.{nodeRoomOf};
 ghost use Rattle.tree_build.specs.Plant.{dataIn};
 ghost use Rattle.forest_build.specs.Lot.{lotOf, widthsOf};
 ghost use Rattle.forest_build.specs.Next.{NextAsks, NextDone};
@@ -31,6 +31,8 @@ pub fn plant_next(
     score: &mut [f64],
     truechild: &mut [u32],
     falsechild: &mut [u32],
+    nodecount: &mut [u32],
+    nodemass: &mut [f64],
     order: &mut [u32],
     scratch: &mut [u32],
     flags: &mut [bool],
@@ -53,13 +55,15 @@ pub fn plant_next(
 ) -> Planted
     requires { ⌜ NextAsks
         (lotOf rows features p (now weights) (now counts) (now words) (now thresholds) (now wordstarts) (now thresholdstarts) (dataIn (now values) (now targets) (now listings)))
-        t at (columnsOf (now value) (now feature) (now threshold) (now score) (now truechild) (now falsechild))
+        t at (nodeRoomOf (now value) (now feature) (now threshold) (now score) (now truechild) (now falsechild) (now nodecount) (now nodemass))
         (widthsOf (length (now order)) (now scratch) (now flags) (now wholes) (now reals)) ⌝ }
     ensures { λ r. ⌜ NextDone
         (lotOf rows features p (now (weights .entry)) (now (counts .entry)) (now (words .entry)) (now (thresholds .entry)) (now (wordstarts .entry)) (now (thresholdstarts .entry))
         (dataIn (now (values .entry)) (now (targets .entry)) (now (listings .entry)))) t at
-        (columnsOf (now (value .entry)) (now (feature .entry)) (now (threshold .entry)) (now (score .entry)) (now (truechild .entry)) (now (falsechild .entry)))
-        (columnsOf (now (value .exit)) (now (feature .exit)) (now (threshold .exit)) (now (score .exit)) (now (truechild .exit)) (now (falsechild .exit))) r ⌝ }
+        (nodeRoomOf (now (value .entry)) (now (feature .entry)) (now (threshold .entry)) (now (score .entry)) (now (truechild .entry)) (now (falsechild .entry))
+        (now (nodecount .entry)) (now (nodemass .entry)))
+        (nodeRoomOf (now (value .exit)) (now (feature .exit)) (now (threshold .exit)) (now (score .exit)) (now (truechild .exit)) (now (falsechild .exit))
+        (now (nodecount .exit)) (now (nodemass .exit))) r ⌝ }
 {
     let part = forest_parts::parts_of(wordstarts, thresholdstarts, rows, t);
     let count = part.count;
@@ -75,6 +79,8 @@ pub fn plant_next(
         &mut score[at..],
         &mut truechild[at..],
         &mut falsechild[at..],
+        &mut nodecount[at..],
+        &mut nodemass[at..],
         order,
         scratch,
         flags,
@@ -101,6 +107,8 @@ pub fn plant_all(
     score: &mut [f64],
     truechild: &mut [u32],
     falsechild: &mut [u32],
+    nodecount: &mut [u32],
+    nodemass: &mut [f64],
     order: &mut [u32],
     scratch: &mut [u32],
     flags: &mut [bool],
@@ -122,13 +130,15 @@ pub fn plant_all(
 ) -> Told
     requires { ⌜ AllAsks trees
         (lotOf rows features p (now weights) (now counts) (now words) (now thresholds) (now wordstarts) (now thresholdstarts) (dataIn (now values) (now targets) (now listings)))
-        (columnsOf (now value) (now feature) (now threshold) (now score) (now truechild) (now falsechild))
+        (nodeRoomOf (now value) (now feature) (now threshold) (now score) (now truechild) (now falsechild) (now nodecount) (now nodemass))
         (widthsOf (length (now order)) (now scratch) (now flags) (now wholes) (now reals)) ⌝ }
     ensures { λ r. ⌜ AllDone trees
         (lotOf rows features p (now (weights .entry)) (now (counts .entry)) (now (words .entry)) (now (thresholds .entry)) (now (wordstarts .entry)) (now (thresholdstarts .entry))
         (dataIn (now (values .entry)) (now (targets .entry)) (now (listings .entry))))
-        (columnsOf (now (value .entry)) (now (feature .entry)) (now (threshold .entry)) (now (score .entry)) (now (truechild .entry)) (now (falsechild .entry)))
-        (columnsOf (now (value .exit)) (now (feature .exit)) (now (threshold .exit)) (now (score .exit)) (now (truechild .exit)) (now (falsechild .exit))) r ⌝ }
+        (nodeRoomOf (now (value .entry)) (now (feature .entry)) (now (threshold .entry)) (now (score .entry)) (now (truechild .entry)) (now (falsechild .entry))
+        (now (nodecount .entry)) (now (nodemass .entry)))
+        (nodeRoomOf (now (value .exit)) (now (feature .exit)) (now (threshold .exit)) (now (score .exit)) (now (truechild .exit)) (now (falsechild .exit))
+        (now (nodecount .exit)) (now (nodemass .exit))) r ⌝ }
 {
     let blank = Report {
         nodes: 0,
@@ -150,6 +160,8 @@ pub fn plant_all(
             score,
             truechild,
             falsechild,
+            nodecount,
+            nodemass,
             order,
             scratch,
             flags,

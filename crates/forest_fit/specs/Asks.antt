@@ -25,7 +25,7 @@ use Rattle.forest_build.specs.All.{AllAsks, ToldLong}
 use Rattle.forest_reports.specs.Reports.{ReportsLong, AllAsk}
 use Rattle.forest_grow.specs.Grown.{GrowAsks}
 use Rattle.forest_ready.specs.Ready.{Made}
-use Rattle.forest_fit.specs.Ends.{lot}
+use Rattle.forest_fit.specs.Ends.{lot, nodeRoom}
 
 reports-exact : (n : ℕ) (p : Reports) → T (reportsExact n p) → ReportsLong n p
 unfolding reportsExact
@@ -87,13 +87,13 @@ module _ (C : ForestCall) (R : ForestRooms WaitingRoom) (e : checked (forestTest
     listed : (t : ℕ) → Listed (oneTreeAt C t) (C .given .inputs)
     listed t = listed-right (C .shape) (C .trees) (C .given) (right .passed) (oneTreeAt C t) (forest-framed C (right .passed) t) held
 
-    trees-ask : AllAsks (C .trees) (lot C p) (R .nodes) (widthsOf k (R .work .scratch) (R .work .flags) (R .work .waiting .wholes) (R .work .waiting .reals))
+    trees-ask : AllAsks (C .trees) (lot C p) (nodeRoom R) (widthsOf k (R .work .scratch) (R .work .flags) (R .work .waiting .wholes) (R .work .waiting .reals))
     unfolding eachTree oneTreeAt tapesGood paramsOf
     trees-ask =
         let q = right .passed in
         let (w, d) =
         and2 (goodTapeStarts (C .trees) (length (C .words)) (C .wordStarts)) (goodTapeStarts (C .trees) (length (C .thresholds)) (C .thresholdStarts)) (right .tapes) in
-        subst (λ p′. AllAsks (C .trees) (lot C p′) (R .nodes) (widthsOf k (R .work .scratch) (R .work .flags) (R .work .waiting .wholes) (R .work .waiting .reals)))
+        subst (λ p′. AllAsks (C .trees) (lot C p′) (nodeRoom R) (widthsOf k (R .work .scratch) (R .work .flags) (R .work .waiting .wholes) (R .work .waiting .reals)))
         (sym (m .same))
         (record {
           fine = λ t b c r.
@@ -132,5 +132,5 @@ module _ (C : ForestCall) (R : ForestRooms WaitingRoom) (e : checked (forestTest
             → length (stretch (t * C .shape .rows) (C .shape .rows) (C .given .counts)) ≡ C .shape .rows
         part-long t b = length-take-le (C .shape .rows) (drop (t * C .shape .rows) (C .given .counts)) (omega (arith, length-drop (t * C .shape .rows) (C .given .counts)))
 
-    pub all-asks : GrowAsks (C .trees) (lot C p) (R .nodes) (R .work .order) k (widthsOf k (R .work .scratch) (R .work .flags) (R .work .waiting .wholes) (R .work .waiting .reals))
+    pub all-asks : GrowAsks (C .trees) (lot C p) (nodeRoom R) (R .work .order) k (widthsOf k (R .work .scratch) (R .work .flags) (R .work .waiting .wholes) (R .work .waiting .reals))
     all-asks = record { high = subst (λ n. n ≤ length (R .work .order)) (sym ek) (room .order); all = trees-ask }

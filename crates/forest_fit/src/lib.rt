@@ -1,6 +1,6 @@
 // The fit of a forest: checks, its trees one after another, and what is told of them.
 ghost use mathlib.Core.Path.{_≡_};
-ghost use Rattle.rules.specs.Lent.{waitingRoom, givenOf, columnsOf, reportsOf, workOf, forestRoomsOf, outcomeOf};
+ghost use Rattle.rules.specs.Lent.{waitingRoom, givenOf, columnsOf, behindOf, reportsOf, workOf, forestRoomsOf, outcomeOf};
 ghost use Rattle.rules.specs.Forest.{fitForest, forestCall};
 use checks::Lengths;
 use checks::ReportLengths;
@@ -17,6 +17,8 @@ pub fn fit_forest(
     score: &mut [f64],
     truechild: &mut [u32],
     falsechild: &mut [u32],
+    nodecount: &mut [u32],
+    nodemass: &mut [f64],
     starts: &mut [u32],
     nodes: &mut [u32],
     depth: &mut [u32],
@@ -45,6 +47,7 @@ pub fn fit_forest(
 ) -> ForestAnswer
     ensures { λ a. ⌜ outcomeOf a (forestRoomsOf
         (columnsOf (now (value .exit)) (now (feature .exit)) (now (threshold .exit)) (now (score .exit)) (now (truechild .exit)) (now (falsechild .exit)))
+        (behindOf (now (nodecount .exit)) (now (nodemass .exit)))
         (now (starts .exit))
         (reportsOf (now (nodes .exit)) (now (depth .exit)) (now (mass .exit)) (now (searches .exit)) (now (wordsused .exit)) (now (thresholdsused .exit)))
         (workOf (now (order .exit)) (now (scratch .exit)) (now (flags .exit)) (now (wholes .exit)) (now (reals .exit))))
@@ -54,17 +57,20 @@ pub fn fit_forest(
         (now (words .entry)) (now (thresholds .entry)) (now (wordstarts .entry)) (now (thresholdstarts .entry)))
         (forestRoomsOf
         (columnsOf (now (value .entry)) (now (feature .entry)) (now (threshold .entry)) (now (score .entry)) (now (truechild .entry)) (now (falsechild .entry)))
+        (behindOf (now (nodecount .entry)) (now (nodemass .entry)))
         (now (starts .entry))
         (reportsOf (now (nodes .entry)) (now (depth .entry)) (now (mass .entry)) (now (searches .entry)) (now (wordsused .entry)) (now (thresholdsused .entry)))
         (workOf (now (order .entry)) (now (scratch .entry)) (now (flags .entry)) (now (wholes .entry)) (now (reals .entry)))) ⌝ }
 {
-    let places = slices::shortest_of(
+    let places = slices::shortest_of_eight(
         value.len(),
         feature.len(),
         threshold.len(),
         score.len(),
         truechild.len(),
         falsechild.len(),
+        nodecount.len(),
+        nodemass.len(),
     );
     let waiting = slices::least(wholes.len(), reals.len());
     let room = Lengths {
@@ -110,6 +116,8 @@ pub fn fit_forest(
                 score,
                 truechild,
                 falsechild,
+                nodecount,
+                nodemass,
                 order,
                 scratch,
                 flags,

@@ -12,7 +12,7 @@ use Rattle.rules.specs.declared.Shape.{Shape}
 use Rattle.rules.specs.declared.Tried.{Tried}
 use Rattle.rules.specs.declared.Checked.{Checked}
 use Rattle.rules.specs.Words.{nought}
-use Rattle.rules.specs.Lent.{Given, ForestRooms, WaitingRoom, waitingRoom, columnsOf, reportsOf, workOf, forestRoomsOf}
+use Rattle.rules.specs.Lent.{Given, ForestRooms, WaitingRoom, waitingRoom, columnsOf, behindOf, reportsOf, workOf, forestRoomsOf}
 use Rattle.rules.specs.Checks.{checked}
 use Rattle.rules.specs.Forest.{ForestCall, forestCall, triedOf, forestTests}
 use Rattle.lemmas.specs.Passed.{ForestPassed, forest-passed}
@@ -46,6 +46,7 @@ module _ (S : Shape) (n : ℕ) (G : Given) (w t : ℕ) (ws ts : List ℕ) (L : L
   someRooms =
       forestRoomsOf
       (columnsOf (replicate (L .nodes) nought) (replicate (L .nodes) 0) (replicate (L .nodes) nought) (replicate (L .nodes) nought) (replicate (L .nodes) 0) (replicate (L .nodes) 0))
+      (behindOf (replicate (L .nodes) 0) (replicate (L .nodes) nought))
       (replicate s 0)
       (reportsOf (replicate (P .nodes) 0) (replicate (P .depth) 0) (replicate (P .mass) nought) (replicate (P .searches) 0) (replicate (P .words) 0) (replicate (P .thresholds) 0))
       (workOf (replicate (L .order) 0) (replicate (L .scratch) 0) (replicate (L .flags) false) (replicate (L .waiting) []) (replicate (L .waiting) []))
@@ -62,8 +63,10 @@ module _ (S : Shape) (n : ℕ) (G : Given) (w t : ℕ) (ws ts : List ℕ) (L : L
         wordStarts = refl;
         thresholdStarts = refl;
         nodes =
-            six (L .nodes) (length-replicate (L .nodes) nought) (length-replicate (L .nodes) 0) (length-replicate (L .nodes) nought)
-            (length-replicate (L .nodes) nought) (length-replicate (L .nodes) 0) (length-replicate (L .nodes) 0);
+            let k = L .nodes in
+            let reals = length-replicate k nought in
+            let wholes = length-replicate {A = ℕ} k 0 in
+            sym (two k (two k reals (two k wholes (two k reals (two k reals (two k wholes wholes))))) (two k wholes reals));
         work = record {
           order = length-replicate (L .order) 0;
           scratch = length-replicate (L .scratch) 0;
@@ -81,9 +84,6 @@ module _ (S : Shape) (n : ℕ) (G : Given) (w t : ℕ) (ws ts : List ℕ) (L : L
         };
       }
     where
-      six : (k : ℕ) {a b c d e f : ℕ} → a ≡ k → b ≡ k → c ≡ k → d ≡ k → e ≡ k → f ≡ k → k ≡ min a (min b (min c (min d (min e f))))
-      six k a b c d e f = omega arith
-
       two : (k : ℕ) {a b : ℕ} → a ≡ k → b ≡ k → min a b ≡ k
       two k a b = omega arith
 

@@ -22,10 +22,10 @@ abbrev pub flatWork : Work (List Waiting) → Work WaitingRoom
 flatWork w = record { order = w .order; scratch = w .scratch; flags = w .flags; waiting = flat (w .waiting) }
 
 abbrev pub flatTree : TreeRooms (List Waiting) → TreeRooms WaitingRoom
-flatTree R = record { nodes = R .nodes; work = flatWork (R .work) }
+flatTree R = record { nodes = R .nodes; behind = R .behind; work = flatWork (R .work) }
 
 abbrev pub flatForest : ForestRooms (List Waiting) → ForestRooms WaitingRoom
-flatForest R = record { nodes = R .nodes; starts = R .starts; reports = R .reports; work = flatWork (R .work) }
+flatForest R = record { nodes = R .nodes; behind = R .behind; starts = R .starts; reports = R .reports; work = flatWork (R .work) }
 
 -- a form with so many places, that is v when all are zero
 abbrev form : {W : Type 0} → ℕ → W → WaitingForm W

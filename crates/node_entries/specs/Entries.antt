@@ -1,12 +1,13 @@
--- A waiting node in two slices of arrays, and a node in the six columns. Definitions only. Assumes nothing.
+-- A waiting node in two slices of arrays, and a node in eight columns: six for its entry, two for its count and mass. Definitions only. Assumes nothing.
 use Prim.Native.Nat.{ℕ, _+_, _≤_}
 use mathlib.Core.List.{List, [], _∷_}
 use lib.ListN.{length, getD, set}
 use lib.Ieee.{Float, nan}
 use Rattle.rules.specs.declared.Totals.{Totals}
-use Rattle.rules.specs.Lent.{Columns}
+use Rattle.rules.specs.Lent.{Columns, Behind, columnsOf, behindOf}
 use Rattle.rules.specs.Words.{nought}
 use Rattle.rules.specs.Totals.{valueOf}
+use Rattle.criterion.specs.declared.Side.{Side}
 use Rattle.node_entries.specs.declared.WaitingNode.{WaitingNode}
 use Rattle.node_entries.specs.declared.NodeEntry.{NodeEntry}
 
@@ -70,6 +71,29 @@ splitWith w v q n = record { value = v; feature = w .feature; threshold = w .cut
 abbrev pub splitFor : WaitingNode → Float → ℕ → NodeEntry
 splitFor w q n = splitWith w (valueOf (record { sum = w .sum; mass = w .mass })) q n
 
--- with its children's totals t and f
-unfoldable pub wroteSplit : WaitingNode → Totals → Totals → Float → ℕ → Columns → Columns
-wroteSplit w t f q n c = putEntry (n + 1) (leafFor f) (putEntry n (leafFor t) (putEntry (w .node) (splitFor w q n) c))
+-- ---- the eight columns of a growth: the six, and the two behind them
+
+pub record NodeRoom : Type 0 where
+  pub nodes : Columns
+  pub behind : Behind
+
+-- from slices
+abbrev pub nodeRoomOf : List Float → List ℕ → List Float → List Float → List ℕ → List ℕ → List ℕ → List Float → NodeRoom
+nodeRoomOf v j t s y n k m = record { nodes = columnsOf v j t s y n; behind = behindOf k m }
+
+-- each of the eight has n places
+pub record LongRoom (n : ℕ) (c : NodeRoom) : Type 0 where
+  pub nodes : LongAll n (c .nodes)
+  pub count : n ≤ length (c .behind .count)
+  pub mass : n ≤ length (c .behind .mass)
+
+-- a node with count k and mass m
+unfoldable pub putNode : ℕ → NodeEntry → ℕ → Float → NodeRoom → NodeRoom
+putNode i r k m c = record { nodes = putEntry i r (c .nodes); behind = record { count = set (c .behind .count) i k; mass = set (c .behind .mass) i m } }
+
+abbrev pub putLeaf : ℕ → Side → NodeRoom → NodeRoom
+putLeaf i a c = putNode i (leafFor (a .totals)) (a .count) (a .totals .mass) c
+
+-- a split, and its children a and b
+unfoldable pub wroteSplit : WaitingNode → Side → Side → Float → ℕ → NodeRoom → NodeRoom
+wroteSplit w a b q n c = putLeaf (n + 1) b (putLeaf n a (putNode (w .node) (splitFor w q n) (a .count + b .count) (w .mass) c))

@@ -10,7 +10,8 @@ use Rattle.rules.specs.Words.{front}
 use Rattle.rules.specs.Lent.{Columns, Entry, writeEntries}
 use Rattle.rules.specs.Totals.{valueOf}
 use Rattle.rules.specs.Growth.{TreeNode}
-use Rattle.rules.specs.Fit.{entryOf, entries}
+use Rattle.rules.specs.Fit.{entryOf, entries, writeBehind}
+use Rattle.node_entries.specs.Entries.{NodeRoom}
 
 module _ {A : Type 0} (f : TreeNode → A) where
   abbrev pub columnOf : List TreeNode → List A → List A
@@ -84,8 +85,7 @@ module _ {A : Type 0} (f : Entry → A) where
   column-written : (ns : List TreeNode) (old : List A) → columnOf (λ n. f (entryFor n)) ns old ≡ front (map f (entries ns)) old
   column-written ns old = λ i. mapped ns i ++ drop ((sym (length-map ns (λ n. f (entryFor n))) ∙ ap length (mapped ns)) i) old
 
--- as the rules write them
-pub nodes-written : (old c : Columns) (ns : List TreeNode) → NodesIn old ns c → c ≡ writeEntries (entries ns) old
+nodes-written : (old c : Columns) (ns : List TreeNode) → NodesIn old ns c → c ≡ writeEntries (entries ns) old
 nodes-written old c ns h = λ i.
     record {
       value = (h .value ∙ column-written (λ e. e .value) ns (old .value)) i;
@@ -95,3 +95,24 @@ nodes-written old c ns h = λ i.
       trueChild = (h .truechild ∙ column-written (λ e. e .trueChild) ns (old .trueChild)) i;
       falseChild = (h .falsechild ∙ column-written (λ e. e .falseChild) ns (old .falseChild)) i;
     }
+
+-- ---- the eight columns
+
+pub record RoomIn (old : NodeRoom) (ns : List TreeNode) (c : NodeRoom) : Type 0 where
+  pub nodes : NodesIn (old .nodes) ns (c .nodes)
+  pub count : c .behind .count ≡ columnOf (λ n. n .count) ns (old .behind .count)
+  pub mass : c .behind .mass ≡ columnOf (λ n. n .totals .mass) ns (old .behind .mass)
+
+-- as the rules write them
+abbrev pub writeNodes : List TreeNode → NodeRoom → NodeRoom
+writeNodes ns c = record { nodes = writeEntries (entries ns) (c .nodes); behind = writeBehind ns (c .behind) }
+
+pub room-written : (old c : NodeRoom) (ns : List TreeNode) → RoomIn old ns c → c ≡ writeNodes ns old
+room-written old c ns h = λ i.
+    record {
+      nodes = nodes-written (old .nodes) (c .nodes) ns (h .nodes) i;
+      behind = record { count = (h .count ∙ fronted (λ n. n .count) (old .behind .count)) i; mass = (h .mass ∙ fronted (λ n. n .totals .mass) (old .behind .mass)) i };
+    }
+  where
+    fronted : {A : Type 0} (f : TreeNode → A) (l : List A) → columnOf f ns l ≡ front (map f ns) l
+    fronted f l = ap (λ n. map f ns ++ drop n l) (sym (length-map ns f))

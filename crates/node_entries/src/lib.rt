@@ -1,9 +1,10 @@
-// What stands at one place of the rooms of a growth: a waiting node in two slices of arrays, and a node's entry in the six columns.
+// What stands at one place of the rooms of a growth: a waiting node in two slices of arrays, and a node in eight columns: its entry in six, its count and its mass in two.
 ghost use mathlib.Core.Path.{_≡_};
 ghost use Prim.Native.Nat.{_+_, _<_};
 ghost use lib.ListN.{length, set};
 ghost use Rattle.rules.specs.Lent.{columnsOf};
-ghost use Rattle.node_entries.specs.Entries.{wholesOf, realsOf, waitingAt, LongAll, putEntry, leafFor, wroteSplit};
+ghost use Rattle.node_entries.specs.Entries.{wholesOf, realsOf, waitingAt, LongAll, putEntry, nodeRoomOf, LongRoom, putNode, putLeaf, splitFor, wroteSplit};
+use criterion::Side;
 use rules::Totals;
 
 // A node that waits: its number, where its rows lie, its level, its totals, and the cut that its search found, with how many rows are on the true side.
@@ -79,22 +80,28 @@ pub fn put_entry(
     falsechild[i] = r.falsechild;
 }
 
-pub fn put_leaf(
+// A node's entry, its count and its mass, at place i.
+pub fn put_node(
     value: &mut [f64],
     feature: &mut [u32],
     threshold: &mut [f64],
     score: &mut [f64],
     truechild: &mut [u32],
     falsechild: &mut [u32],
+    nodecount: &mut [u32],
+    nodemass: &mut [f64],
     i: usize,
-    t: Totals,
+    r: NodeEntry,
+    k: u32,
+    m: f64,
 )
-    requires { ⌜ LongAll (i + 1) (columnsOf (now value) (now feature) (now threshold) (now score) (now truechild) (now falsechild)) ⌝ }
+    requires { ⌜ LongRoom (i + 1) (nodeRoomOf (now value) (now feature) (now threshold) (now score) (now truechild) (now falsechild) (now nodecount) (now nodemass)) ⌝ }
     ensures { λ _. ⌜
-        columnsOf (now (value .exit)) (now (feature .exit)) (now (threshold .exit)) (now (score .exit)) (now (truechild .exit)) (now (falsechild .exit))
-        ≡ putEntry i (leafFor t) (columnsOf (now (value .entry)) (now (feature .entry)) (now (threshold .entry)) (now (score .entry)) (now (truechild .entry)) (now (falsechild .entry))) ⌝ }
+        nodeRoomOf (now (value .exit)) (now (feature .exit)) (now (threshold .exit)) (now (score .exit)) (now (truechild .exit)) (now (falsechild .exit)) (now (nodecount .exit))
+        (now (nodemass .exit))
+        ≡ putNode i r k m (nodeRoomOf (now (value .entry)) (now (feature .entry)) (now (threshold .entry)) (now (score .entry)) (now (truechild .entry)) (now (falsechild .entry))
+        (now (nodecount .entry)) (now (nodemass .entry))) ⌝ }
 {
-    let v = criterion::value_of(t);
     put_entry(
         value,
         feature,
@@ -102,6 +109,43 @@ pub fn put_leaf(
         score,
         truechild,
         falsechild,
+        i,
+        r,
+    );
+    nodecount[i] = k;
+    nodemass[i] = m;
+}
+
+pub fn put_leaf(
+    value: &mut [f64],
+    feature: &mut [u32],
+    threshold: &mut [f64],
+    score: &mut [f64],
+    truechild: &mut [u32],
+    falsechild: &mut [u32],
+    nodecount: &mut [u32],
+    nodemass: &mut [f64],
+    i: usize,
+    t: Totals,
+    k: u32,
+)
+    requires { ⌜ LongRoom (i + 1) (nodeRoomOf (now value) (now feature) (now threshold) (now score) (now truechild) (now falsechild) (now nodecount) (now nodemass)) ⌝ }
+    ensures { λ _. ⌜
+        nodeRoomOf (now (value .exit)) (now (feature .exit)) (now (threshold .exit)) (now (score .exit)) (now (truechild .exit)) (now (falsechild .exit)) (now (nodecount .exit))
+        (now (nodemass .exit))
+        ≡ putLeaf i (record { totals = t; count = k }) (nodeRoomOf (now (value .entry)) (now (feature .entry)) (now (threshold .entry)) (now (score .entry)) (now (truechild .entry)) (now (falsechild .entry))
+        (now (nodecount .entry)) (now (nodemass .entry))) ⌝ }
+{
+    let v = criterion::value_of(t);
+    put_node(
+        value,
+        feature,
+        threshold,
+        score,
+        truechild,
+        falsechild,
+        nodecount,
+        nodemass,
         i,
         NodeEntry {
             value: v,
@@ -111,40 +155,46 @@ pub fn put_leaf(
             truechild: 0,
             falsechild: 0,
         },
+        k,
+        t.mass,
     );
 }
 
-// A split node and its two children, n and n + 1, in the node columns.
-pub fn write_split(
+// The split of a waiting node, in the node's own place: its mass is the one that its value is divided by, and not that of the score.
+pub fn put_split(
     value: &mut [f64],
     feature: &mut [u32],
     threshold: &mut [f64],
     score: &mut [f64],
     truechild: &mut [u32],
     falsechild: &mut [u32],
+    nodecount: &mut [u32],
+    nodemass: &mut [f64],
     w: WaitingNode,
-    t: Totals,
-    f: Totals,
+    k: u32,
     q: f64,
     n: u32,
 )
-    requires { ⌜ LongAll (n + 2) (columnsOf (now value) (now feature) (now threshold) (now score) (now truechild) (now falsechild)) × (w .node < n) × (n + 2 < 4294967296) ⌝ }
+    requires { ⌜ LongRoom (w .node + 1) (nodeRoomOf (now value) (now feature) (now threshold) (now score) (now truechild) (now falsechild) (now nodecount) (now nodemass)) × (n + 1 < 4294967296) ⌝ }
     ensures { λ _. ⌜
-        columnsOf (now (value .exit)) (now (feature .exit)) (now (threshold .exit)) (now (score .exit)) (now (truechild .exit)) (now (falsechild .exit))
-        ≡ wroteSplit w t f q n (columnsOf (now (value .entry)) (now (feature .entry)) (now (threshold .entry)) (now (score .entry)) (now (truechild .entry)) (now (falsechild .entry))) ⌝ }
+        nodeRoomOf (now (value .exit)) (now (feature .exit)) (now (threshold .exit)) (now (score .exit)) (now (truechild .exit)) (now (falsechild .exit)) (now (nodecount .exit))
+        (now (nodemass .exit))
+        ≡ putNode (w .node) (splitFor w q n) k (w .mass) (nodeRoomOf (now (value .entry)) (now (feature .entry)) (now (threshold .entry)) (now (score .entry)) (now (truechild .entry)) (now (falsechild .entry))
+        (now (nodecount .entry)) (now (nodemass .entry))) ⌝ }
 {
     let v = criterion::value_of(Totals {
         sum: w.sum,
         mass: w.mass,
     });
-    let k = slices::wide(n);
-    put_entry(
+    put_node(
         value,
         feature,
         threshold,
         score,
         truechild,
         falsechild,
+        nodecount,
+        nodemass,
         slices::wide(w.node),
         NodeEntry {
             value: v,
@@ -154,16 +204,53 @@ pub fn write_split(
             truechild: n,
             falsechild: n + 1,
         },
-    );
-    put_leaf(
-        value,
-        feature,
-        threshold,
-        score,
-        truechild,
-        falsechild,
         k,
-        t,
+        w.mass,
+    );
+}
+
+// A split node and its two children, n and n + 1, in the node columns. The node's count is its children's together; its mass is its own.
+pub fn write_split(
+    value: &mut [f64],
+    feature: &mut [u32],
+    threshold: &mut [f64],
+    score: &mut [f64],
+    truechild: &mut [u32],
+    falsechild: &mut [u32],
+    nodecount: &mut [u32],
+    nodemass: &mut [f64],
+    w: WaitingNode,
+    a: Side,
+    b: Side,
+    q: f64,
+    n: u32,
+)
+    requires { ⌜
+        LongRoom (n + 2) (nodeRoomOf (now value) (now feature) (now threshold) (now score) (now truechild) (now falsechild) (now nodecount) (now nodemass))
+        × (w .node < n) × (n + 2 < 4294967296) × (a .count + b .count < 4294967296) ⌝ }
+    ensures { λ _. ⌜
+        nodeRoomOf (now (value .exit)) (now (feature .exit)) (now (threshold .exit)) (now (score .exit)) (now (truechild .exit)) (now (falsechild .exit)) (now (nodecount .exit))
+        (now (nodemass .exit))
+        ≡ wroteSplit w a b q n (nodeRoomOf (now (value .entry)) (now (feature .entry)) (now (threshold .entry)) (now (score .entry)) (now (truechild .entry)) (now (falsechild .entry))
+        (now (nodecount .entry)) (now (nodemass .entry))) ⌝ }
+{
+    let t = a.totals;
+    let f = b.totals;
+    let all = a.count + b.count;
+    let place = slices::wide(n);
+    put_split(
+        value,
+        feature,
+        threshold,
+        score,
+        truechild,
+        falsechild,
+        nodecount,
+        nodemass,
+        w,
+        all,
+        q,
+        n,
     );
     put_leaf(
         value,
@@ -172,7 +259,23 @@ pub fn write_split(
         score,
         truechild,
         falsechild,
-        k + 1,
+        nodecount,
+        nodemass,
+        place,
+        t,
+        a.count,
+    );
+    put_leaf(
+        value,
+        feature,
+        threshold,
+        score,
+        truechild,
+        falsechild,
+        nodecount,
+        nodemass,
+        place + 1,
         f,
+        b.count,
     );
 }

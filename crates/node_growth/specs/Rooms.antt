@@ -7,7 +7,6 @@ use lib.ListN.{length}
 use lib.Ieee.{Float}
 use Rattle.rules.specs.declared.Params.{Params}
 use Rattle.rules.specs.declared.Cut.{Cut}
-use Rattle.rules.specs.Lent.{Columns}
 use Rattle.rules.specs.declared.Held.{Held}
 use Rattle.rules.specs.declared.Held.the-variants.{Nothing, Holds}
 use Rattle.rules.specs.Words.{keep}
@@ -26,7 +25,7 @@ use Rattle.search.specs.declared.Search.{Search}
 use Rattle.search.specs.declared.Search.the-variants as S
 use Rattle.search.specs.Flat.{Tables, tablesOf, Shaped, NodeAsks, elementOf, nodeRowsAt, drawsAt, Fair, FairAfter, meant}
 use Rattle.node_entries.specs.declared.WaitingNode.{WaitingNode}
-use Rattle.node_entries.specs.Entries.{waitingAt, wroteSplit}
+use Rattle.node_entries.specs.Entries.{NodeRoom, waitingAt, wroteSplit}
 use Rattle.node_growth.specs.declared.Stand.{Stand}
 use Rattle.node_growth.specs.declared.Step.{Step}
 use Rattle.node_growth.specs.declared.Step.the-variants.{Refused, Goes}
@@ -90,8 +89,8 @@ Laid g wholes reals high (suc m) =
 -- ---- a split
 
 -- by the sides that its split pass gave
-abbrev pub wroteSides : WaitingNode → Sides → ℕ → Columns → Columns
-wroteSides w h n c = wroteSplit w (h .trueside .totals) (h .falseside .totals) (score (h .trueside .totals) (h .falseside .totals) (h .all .mass)) n c
+abbrev pub wroteSides : WaitingNode → Sides → ℕ → NodeRoom → NodeRoom
+wroteSides w h n c = wroteSplit w (h .trueside) (h .falseside) (score (h .trueside .totals) (h .falseside .totals) (h .all .mass)) n c
 
 -- ---- what a child's search leaves
 

@@ -12,10 +12,10 @@ use lib.Ieee.{Float}
 use Rattle.rules.specs.declared.Params.{Params}
 use Rattle.rules.specs.declared.Cut.{Cut}
 use Rattle.rules.specs.Words.{keep, total}
-use Rattle.rules.specs.Search.{Element, search, onTrue, onFalse, goesTrue, trueSide, falseSide, sideOf}
+use Rattle.rules.specs.Search.{Element, tally, search, onTrue, onFalse, goesTrue, trueSide, falseSide, sideOf}
 use Rattle.rules.specs.Growth.{Waiting, child, searchable, searchIf}
 use Rattle.rules.specs.Draws.{bind, ok, tape}
-use Rattle.lemmas.specs.Lists.{keep-map}
+use Rattle.lemmas.specs.Lists.{keep-map, total-sides}
 use Rattle.lemmas.specs.Cuts.{Good, side-good}
 use Rattle.lemmas.specs.Work.{part}
 use Rattle.candidates.specs.Held.{bare}
@@ -47,6 +47,12 @@ split-at {rows} {features} {a} {e} {a′} {e′} {n} {fl} {x} {y} {ws} {ks} {ord
 pub done-at : {rows a e a′ e′ : ℕ} {el : ℕ → Element} {c : Cut} {order : List ℕ} {fl : List Bool} {h : Sides} → a′ ≡ a → e′ ≡ e → SplitDone rows a′ e′ el c order fl h
     → SplitDone rows a e el c order fl h
 done-at {rows} {a} {e} {a′} {e′} {el} {c} {order} {fl} {h} ea ee = ends-at (λ u v. SplitDone rows u v el c order fl h) (sym ea) (sym ee)
+
+-- both sides together have the node's count
+pub sides-count : {rows a e : ℕ} {el : ℕ → Element} {c : Cut} {order : List ℕ} {fl : List Bool} {h : Sides} → SplitDone rows a e el c order fl h
+    → h .trueside .count + h .falseside .count ≡ tally (map el (part rows (c .feature) a e order))
+sides-count {rows} {a} {e} {el} {c} {order} d =
+    ap (λ (z : Sides). z .trueside .count + z .falseside .count) (d .sides) ∙ total-sides (λ x. x .count) (goesTrue c) (map el (part rows (c .feature) a e order))
 
 -- ---- a split node's children
 

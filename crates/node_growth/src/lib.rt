@@ -1,11 +1,10 @@
-// A node of a tree that grows: the waiting list in two slices of arrays, six node columns, and work columns that are split in place.
+// A node of a tree that grows: the waiting list in two slices of arrays, eight node columns, and work columns that are split in place.
 ghost use mathlib.Core.Path.{_≡_};
 ghost use Prim.Native.Nat.{_+_, _<_};
 ghost use lib.ListN.{length};
-ghost use Rattle.rules.specs.Lent.{columnsOf};
 ghost use Rattle.rules.specs.Fit.{elementIn};
 ghost use Rattle.work_columns.specs.Split.{SplitAsks, SplitDone};
-ghost use Rattle.node_entries.specs.Entries.{LongAll};
+ghost use Rattle.node_entries.specs.Entries.{nodeRoomOf, LongRoom};
 ghost use Rattle.node_growth.specs.Rooms.{groundOf, RowsTo, PushDone, ChildAsks, ChildDone, cutOf, wroteSides};
 ghost use Rattle.node_growth.specs.Pairs.{stretchAt, PairAsks, PairDone, rootSides, rootPair, childSides, childrenOf, PartAsks, PartDone};
 use criterion::Side;
@@ -158,6 +157,8 @@ pub fn split_node(
     score: &mut [f64],
     truechild: &mut [u32],
     falsechild: &mut [u32],
+    nodecount: &mut [u32],
+    nodemass: &mut [f64],
     values: &[f64],
     targets: &[f64],
     weights: &[f64],
@@ -170,13 +171,16 @@ pub fn split_node(
 ) -> Sides
     requires { ⌜ SplitAsks rows features (w .start) (w .end) (now values) (now targets) (now weights) (now counts) (cutOf w) (now order) (w .rows) (length (now flags)) ⌝ }
     requires { ⌜
-        LongAll (n + 2) (columnsOf (now value) (now feature) (now threshold) (now score) (now truechild) (now falsechild)) × (w .node < n) × (n + 2 < 4294967296) ⌝ }
+        LongRoom (n + 2) (nodeRoomOf (now value) (now feature) (now threshold) (now score) (now truechild) (now falsechild) (now nodecount) (now nodemass))
+        × (w .node < n) × (n + 2 < 4294967296) ⌝ }
     ensures { λ s. ⌜
         SplitDone rows (w .start) (w .end) (elementIn features (now (values .entry)) (now (targets .entry)) (now (weights .entry)) (now (counts .entry))) (cutOf w)
         (now (order .entry)) (now (flags .exit)) s ⌝ }
     ensures { λ s. ⌜
-        columnsOf (now (value .exit)) (now (feature .exit)) (now (threshold .exit)) (now (score .exit)) (now (truechild .exit)) (now (falsechild .exit))
-        ≡ wroteSides w s n (columnsOf (now (value .entry)) (now (feature .entry)) (now (threshold .entry)) (now (score .entry)) (now (truechild .entry)) (now (falsechild .entry))) ⌝ }
+        nodeRoomOf (now (value .exit)) (now (feature .exit)) (now (threshold .exit)) (now (score .exit)) (now (truechild .exit)) (now (falsechild .exit)) (now (nodecount .exit))
+        (now (nodemass .exit))
+        ≡ wroteSides w s n (nodeRoomOf (now (value .entry)) (now (feature .entry)) (now (threshold .entry)) (now (score .entry)) (now (truechild .entry)) (now (falsechild .entry))
+        (now (nodecount .entry)) (now (nodemass .entry))) ⌝ }
 {
     let c = Cut {
         feature: w.feature,
@@ -209,9 +213,11 @@ pub fn split_node(
         score,
         truechild,
         falsechild,
+        nodecount,
+        nodemass,
         w,
-        t,
-        f,
+        a,
+        b,
         q,
         n,
     );

@@ -5,7 +5,7 @@ use mathlib.Core.Bool.{false}
 use mathlib.Core.List.{List, [], _∷_}
 use lib.ListN.{length, replicate}
 use Rattle.rules.specs.Words.{nought, filled}
-use Rattle.rules.specs.Lent.{Columns, Reports, Work, WaitingRoom, waitingRoom, zeroColumns, zeroReports, zeroWork}
+use Rattle.rules.specs.Lent.{Columns, Behind, Reports, Work, WaitingRoom, waitingRoom, zeroColumns, zeroBehind, zeroReports, zeroWork}
 
 pub filled-same : {A : Type 0} (x : A) (l l′ : List A) → length l′ ≡ length l → filled x l′ ≡ filled x l
 filled-same x [] [] e = refl
@@ -21,6 +21,11 @@ pub record NodesLong (c c′ : Columns) : Type 0 where
   pub score : length (c′ .score) ≡ length (c .score)
   pub truechild : length (c′ .trueChild) ≡ length (c .trueChild)
   pub falsechild : length (c′ .falseChild) ≡ length (c .falseChild)
+
+-- the two beside them
+pub record BehindLong (b b′ : Behind) : Type 0 where
+  pub count : length (b′ .count) ≡ length (b .count)
+  pub mass : length (b′ .mass) ≡ length (b .mass)
 
 -- the work room
 pub record WorkLong (w w′ : Work WaitingRoom) : Type 0 where
@@ -40,6 +45,9 @@ nodes-zero c c′ h = λ i.
       trueChild = filled-same 0 (c .trueChild) (c′ .trueChild) (h .truechild) i;
       falseChild = filled-same 0 (c .falseChild) (c′ .falseChild) (h .falsechild) i;
     }
+
+pub behind-zero : (b b′ : Behind) → BehindLong b b′ → zeroBehind b′ ≡ zeroBehind b
+behind-zero b b′ h = λ i. record { count = filled-same 0 (b .count) (b′ .count) (h .count) i; mass = filled-same nought (b .mass) (b′ .mass) (h .mass) i }
 
 pub work-zero : (w w′ : Work WaitingRoom) → WorkLong w w′ → zeroWork waitingRoom w′ ≡ zeroWork waitingRoom w
 work-zero w w′ h = λ i.

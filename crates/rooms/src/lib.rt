@@ -1,6 +1,6 @@
 // Rooms that are lent, filled with zero.
 ghost use mathlib.Core.Path.{_≡_};
-ghost use Rattle.rules.specs.Lent.{columnsOf, reportsOf, workOf, waitingRoom, zeroColumns, zeroReports, zeroWork};
+ghost use Rattle.rules.specs.Lent.{columnsOf, behindOf, reportsOf, workOf, waitingRoom, zeroColumns, zeroBehind, zeroReports, zeroWork};
 
 pub fn zero_nodes(
     value: &mut [f64],
@@ -19,6 +19,14 @@ pub fn zero_nodes(
     slices::zero_f64(score);
     slices::zero_u32(truechild);
     slices::zero_u32(falsechild);
+}
+
+// Of a fit, the two columns beside the six.
+pub fn zero_behind(nodecount: &mut [u32], nodemass: &mut [f64])
+    ensures { λ _. ⌜ behindOf (now (nodecount .exit)) (now (nodemass .exit)) ≡ zeroBehind (behindOf (now (nodecount .entry)) (now (nodemass .entry))) ⌝ }
+{
+    slices::zero_u32(nodecount);
+    slices::zero_f64(nodemass);
 }
 
 pub fn zero_work(

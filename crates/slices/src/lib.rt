@@ -47,6 +47,24 @@ pub fn shortest_of(
     least(value, known)
 }
 
+// Of a fit, with the two columns beside the six.
+pub fn shortest_of_eight(
+    value: usize,
+    feature: usize,
+    threshold: usize,
+    score: usize,
+    truechild: usize,
+    falsechild: usize,
+    nodecount: usize,
+    nodemass: usize,
+) -> usize
+    ensures { λ r. ⌜ r ≡ min (min value (min feature (min threshold (min score (min truechild falsechild))))) (min nodecount nodemass) ⌝ }
+{
+    let six = shortest_of(value, feature, threshold, score, truechild, falsechild);
+    let two = least(nodecount, nodemass);
+    least(six, two)
+}
+
 // ---- values
 
 // The value of row i in feature j. The values lie row after row.

@@ -10,12 +10,12 @@ use Rattle.rules.specs.declared.Params.{Params}
 use Rattle.rules.specs.declared.Totals.{Totals}
 use Rattle.rules.specs.declared.Report.{Report}
 use Rattle.rules.specs.Words.{from, keep, total, eachOnce}
-use Rattle.rules.specs.Lent.{Data, OneTree, Columns, countIn, kept, keptIn, keptRows, listingAt, shortest, writeEntries}
+use Rattle.rules.specs.Lent.{Data, OneTree, Columns, countIn, kept, keptIn, keptRows, listingAt, shortest, shortestOfEight}
 use Rattle.rules.specs.Totals.{empty}
 use Rattle.rules.specs.Checks.{roomFor}
 use Rattle.rules.specs.Draws.{bad, ok}
 use Rattle.rules.specs.Search.{totalsOf}
-use Rattle.rules.specs.Fit.{elementIn, listing, root, Tree, entries, fit}
+use Rattle.rules.specs.Fit.{elementIn, listing, root, Tree, fit}
 use Rattle.lemmas.specs.Lists.{Every}
 use Rattle.lemmas.specs.Root.{Listed, root-good, root-rows}
 use Rattle.lemmas.specs.Room.{rowsOf}
@@ -23,7 +23,8 @@ use Rattle.lemmas.specs.Cuts.{Good}
 use Rattle.lemmas.specs.Work.{columnsAt}
 use Rattle.work_columns.specs.Columns.{Counted, KeptAll, bare}
 use Rattle.work_columns.specs.Kept.{root-made, kept-below}
-use Rattle.node_entries.specs.Entries.{LongAll}
+use Rattle.node_entries.specs.Entries.{LongAll, NodeRoom, LongRoom}
+use Rattle.node_entries.specs.Nodes.{writeNodes}
 use Rattle.node_growth.specs.Rooms.{Ground}
 use Rattle.tree_growth.specs.Tree.{TreeAsks, rootRows}
 use Rattle.tree_report.specs.declared.Planted.{Planted}
@@ -63,7 +64,7 @@ set-up-made s et en em = record { kept = s; totals = et; count = en; most = em }
 
 -- ---- the whole
 
-pub record PlantAsks (features : ℕ) (F : OneTree) (D : Data) (c : Columns) (order scratch flags wholes reals : ℕ) : Type 0 where
+pub record PlantAsks (features : ℕ) (F : OneTree) (D : Data) (c : NodeRoom) (order scratch flags wholes reals : ℕ) : Type 0 where
   pub listed : Listed F D
   pub same : features ≡ F .params .features
   pub rows : 0 < F .rows
@@ -81,20 +82,20 @@ pub record PlantAsks (features : ℕ) (F : OneTree) (D : Data) (c : Columns) (or
   pub flag-room : F .rows ≤ flags
   pub whole-room : F .rows ≤ wholes
   pub real-room : F .rows ≤ reals
-  pub node-room : roomFor F ≤ shortest c
+  pub node-room : roomFor F ≤ shortestOfEight (c .nodes) (c .behind)
 
 -- the tree as the definition has it, its report, and its nodes at the front of the columns: past them the columns keep what they held
-pub record Grew (F : OneTree) (D : Data) (c c′ : Columns) (r : Report) : Type 0 where
+pub record Grew (F : OneTree) (D : Data) (c c′ : NodeRoom) (r : Report) : Type 0 where
   pub tree : Tree
   pub same : fit F D ≡ ok tree
   pub report : tree .report ≡ r
-  pub written : c′ ≡ writeEntries (entries (tree .nodes)) c
+  pub written : c′ ≡ writeNodes (tree .nodes) c
 
-abbrev pub Answers : OneTree → Data → Columns → Columns → Planted → Type 0
+abbrev pub Answers : OneTree → Data → NodeRoom → NodeRoom → Planted → Type 0
 Answers F D c c′ (BadDraw k) = fit F D ≡ bad k
 Answers F D c c′ (Grown r) = Grew F D c c′ r
 
-pub record PlantDone (F : OneTree) (D : Data) (c c′ : Columns) (r : Planted) : Type 0 where
+pub record PlantDone (F : OneTree) (D : Data) (c c′ : NodeRoom) (r : Planted) : Type 0 where
   pub done : Answers F D c c′ r
 
 -- ---- the root that is laid out is the definition's, and may be grown
@@ -102,12 +103,15 @@ pub record PlantDone (F : OneTree) (D : Data) (c c′ : Columns) (r : Planted) :
 under : (m a b : ℕ) → m ≤ min a b → (m ≤ a) × (m ≤ b)
 under m a b h = (omega arith, omega arith)
 
-pub long-all : (m : ℕ) (c : Columns) → m ≤ shortest c → LongAll m c
+long-all : (m : ℕ) (c : Columns) → m ≤ shortest c → LongAll m c
 long-all m c h =
     let (v, h₁) = under m _ _ h in let (f, h₂) = under m _ _ h₁ in let (t, h₃) = under m _ _ h₂ in let (s, h₄) = under m _ _ h₃ in let (a, b) = under m _ _ h₄ in
     record { value = v; feature = f; threshold = t; score = s; truechild = a; falsechild = b }
 
-module _ (features : ℕ) (F : OneTree) (D : Data) (c : Columns) (cl sc fl rw rr : ℕ) (h : PlantAsks features F D c cl sc fl rw rr) where
+pub long-room : (m : ℕ) (c : NodeRoom) → m ≤ shortestOfEight (c .nodes) (c .behind) → LongRoom m c
+long-room m c h = let (n, b) = under m _ _ h in let (k, w) = under m _ _ b in record { nodes = long-all m (c .nodes) n; count = k; mass = w }
+
+module _ (features : ℕ) (F : OneTree) (D : Data) (c : NodeRoom) (cl sc fl rw rr : ℕ) (h : PlantAsks features F D c cl sc fl rw rr) where
   once : (j : ℕ) → j < features → T (eachOnce (F .rows) (listingAt (F .rows) (D .listings) j))
   unfolding listing
   once j k = h .listed .once j (subst (λ n. j < n) (h .same) k)
@@ -169,9 +173,9 @@ module _ (features : ℕ) (F : OneTree) (D : Data) (c : Columns) (cl sc fl rw rr
           node-small = omega (arith, most-low);
         }
 
-    pub nodes-long : LongAll (r .most) c
+    pub nodes-long : LongRoom (r .most) c
     unfolding roomFor keptRows kept
-    nodes-long = long-all (r .most) c (asked (r .kept) (length (keptRows F)) (r .most) (shortest c) (s .kept .count) (s .most) (h .node-room))
+    nodes-long = long-room (r .most) c (asked (r .kept) (length (keptRows F)) (r .most) (shortestOfEight (c .nodes) (c .behind)) (s .kept .count) (s .most) (h .node-room))
       where
         asked : (k n m l : ℕ) → k ≡ n → m ≡ max 1 (2 * k - 1) → max 1 (2 * n - 1) ≤ l → m ≤ l
         asked k n m l e q t = omega arith

@@ -6,7 +6,7 @@ use mathlib.Core.Path.{_≡_, refl, sym, ap, _∙_, subst}
 use mathlib.Core.List.{List}
 use lib.ListN.{length, drop, length-drop}
 use lib.Ieee.{Float}
-use Rattle.rules.specs.Lent.{Data, OneTree, Columns}
+use Rattle.rules.specs.Lent.{Data, OneTree}
 use Rattle.rules.specs.Draws.{Out, ok, bind, Tapes, tape}
 use Rattle.rules.specs.Search.{NodeRows, search}
 use Rattle.rules.specs.Growth.{State, fromRoot}
@@ -16,6 +16,7 @@ use Rattle.lemmas.specs.Cuts.{Good, search-fine, tape-fair}
 use Rattle.lemmas.specs.Room.{rowsOf, room-enough}
 use Rattle.lemmas.specs.Spent.{Spent, growth-spent, growth-bad}
 use Rattle.search.specs.Flat.{drawsAt}
+use Rattle.node_entries.specs.Entries.{NodeRoom}
 use Rattle.tree_growth.specs.declared.At.{At}
 use Rattle.tree_growth.specs.declared.Turned.{Turned}
 use Rattle.tree_growth.specs.declared.Turned.the-variants.{Refused, Goes}
@@ -29,7 +30,7 @@ use Rattle.tree_build.specs.Plant.{SetUp, PlantAsks, PlantDone, ground, 
 used-up : {A : Type 0} (l : List A) (n : ℕ) → min n (length l) ≡ length l - length (drop n l)
 used-up l n = simp (length-drop) (omega arith)
 
-module _ (F : OneTree) (D : Data) (node : NodeRows) (is : root F D ≡ node) (c c′ : Columns) where
+module _ (F : OneTree) (D : Data) (node : NodeRows) (is : root F D ≡ node) (c c′ : NodeRoom) where
   abbrev W : List ℕ
   W = F .words
 
@@ -98,7 +99,7 @@ module _ (F : OneTree) (D : Data) (node : NodeRows) (is : root F D ≡ node) (c 
 
 -- ---- all of it, as the code goes
 
-module _ (features : ℕ) (F : OneTree) (D : Data) (c c′ : Columns) (cl sc fl rw rr : ℕ) (h : PlantAsks features F D c cl sc fl rw rr) (order : List ℕ) (r : Root)
+module _ (features : ℕ) (F : OneTree) (D : Data) (c c′ : NodeRoom) (cl sc fl rw rr : ℕ) (h : PlantAsks features F D c cl sc fl rw rr) (order : List ℕ) (r : Root)
     (s : SetUp (F .rows) features (D .targets) (F .weights) (F .counts) (D .listings) order r) (t : Turned)
     (d : G.TreeDone (ground features F D c cl sc fl rw rr h order r s) (F .params) (F .words) (F .thresholds) c c′ (r .kept) (r .asked) t) where
   pub plant-tells : TellAsks (length (F .words)) (length (F .thresholds)) t

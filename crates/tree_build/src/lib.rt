@@ -2,7 +2,7 @@
 ghost use mathlib.Core.Path.{_≡_};
 ghost use Prim.Native.Nat.{_-_, _*_, _≤_, max};
 ghost use lib.ListN.{length};
-ghost use Rattle.rules.specs.Lent.{columnsOf};
+ghost use Rattle.node_entries.specs.Entries.{nodeRoomOf};
 ghost use Rattle.tree_build.specs.Plant.{oneTreeIn, dataIn, SetUpAsks, SetUp, PlantAsks, PlantDone};
 use criterion::Side;
 use rules::Params;
@@ -58,6 +58,8 @@ pub fn plant(
     score: &mut [f64],
     truechild: &mut [u32],
     falsechild: &mut [u32],
+    nodecount: &mut [u32],
+    nodemass: &mut [f64],
     order: &mut [u32],
     scratch: &mut [u32],
     flags: &mut [bool],
@@ -75,12 +77,14 @@ pub fn plant(
     p: Params,
 ) -> Planted
     requires { ⌜ PlantAsks features (oneTreeIn rows p (now weights) (now counts) (now words) (now thresholds)) (dataIn (now values) (now targets) (now listings))
-        (columnsOf (now value) (now feature) (now threshold) (now score) (now truechild) (now falsechild))
+        (nodeRoomOf (now value) (now feature) (now threshold) (now score) (now truechild) (now falsechild) (now nodecount) (now nodemass))
         (length (now order)) (length (now scratch)) (length (now flags)) (length (now wholes)) (length (now reals)) ⌝ }
     ensures { λ r. ⌜ PlantDone (oneTreeIn rows p (now (weights .entry)) (now (counts .entry)) (now (words .entry)) (now (thresholds .entry)))
         (dataIn (now (values .entry)) (now (targets .entry)) (now (listings .entry)))
-        (columnsOf (now (value .entry)) (now (feature .entry)) (now (threshold .entry)) (now (score .entry)) (now (truechild .entry)) (now (falsechild .entry)))
-        (columnsOf (now (value .exit)) (now (feature .exit)) (now (threshold .exit)) (now (score .exit)) (now (truechild .exit)) (now (falsechild .exit))) r ⌝ }
+        (nodeRoomOf (now (value .entry)) (now (feature .entry)) (now (threshold .entry)) (now (score .entry)) (now (truechild .entry)) (now (falsechild .entry)) (now (nodecount .entry))
+        (now (nodemass .entry)))
+        (nodeRoomOf (now (value .exit)) (now (feature .exit)) (now (threshold .exit)) (now (score .exit)) (now (truechild .exit)) (now (falsechild .exit)) (now (nodecount .exit))
+        (now (nodemass .exit))) r ⌝ }
 {
     let root = set_up(order, targets, weights, counts, listings, rows, features);
     let asked = root.asked;
@@ -95,6 +99,8 @@ pub fn plant(
         score,
         truechild,
         falsechild,
+        nodecount,
+        nodemass,
         wholes,
         reals,
         values,

@@ -1,6 +1,6 @@
 // The fit of one tree: checks, set-up, growth, and the rooms as they are left.
 ghost use mathlib.Core.Path.{_≡_};
-ghost use Rattle.rules.specs.Lent.{waitingRoom, givenOf, columnsOf, workOf, treeRoomsOf, outcomeOf};
+ghost use Rattle.rules.specs.Lent.{waitingRoom, givenOf, columnsOf, behindOf, workOf, treeRoomsOf, outcomeOf};
 ghost use Rattle.rules.specs.Fit.{fitTree, treeCall};
 ghost use Rattle.tree_fit.specs.Ends.{finished};
 use checks::Lengths;
@@ -18,6 +18,8 @@ fn finish(
     score: &mut [f64],
     truechild: &mut [u32],
     falsechild: &mut [u32],
+    nodecount: &mut [u32],
+    nodemass: &mut [f64],
     order: &mut [u32],
     scratch: &mut [u32],
     flags: &mut [bool],
@@ -27,15 +29,18 @@ fn finish(
 ) -> TreeAnswer
     ensures { λ a. ⌜ outcomeOf a (treeRoomsOf
         (columnsOf (now (value .exit)) (now (feature .exit)) (now (threshold .exit)) (now (score .exit)) (now (truechild .exit)) (now (falsechild .exit)))
+        (behindOf (now (nodecount .exit)) (now (nodemass .exit)))
         (workOf (now (order .exit)) (now (scratch .exit)) (now (flags .exit)) (now (wholes .exit)) (now (reals .exit))))
         ≡ finished r (treeRoomsOf
         (columnsOf (now (value .entry)) (now (feature .entry)) (now (threshold .entry)) (now (score .entry)) (now (truechild .entry)) (now (falsechild .entry)))
+        (behindOf (now (nodecount .entry)) (now (nodemass .entry)))
         (workOf (now (order .entry)) (now (scratch .entry)) (now (flags .entry)) (now (wholes .entry)) (now (reals .entry)))) ⌝ }
 {
     rooms::zero_work(order, scratch, flags, wholes, reals);
     match r {
         Planted::BadDraw(k) => {
             rooms::zero_nodes(value, feature, threshold, score, truechild, falsechild);
+            rooms::zero_behind(nodecount, nodemass);
             tree_report::bad_draw(k)
         }
         Planted::Grown(report) => TreeAnswer::Grown(report),
@@ -49,6 +54,8 @@ pub fn fit_tree(
     score: &mut [f64],
     truechild: &mut [u32],
     falsechild: &mut [u32],
+    nodecount: &mut [u32],
+    nodemass: &mut [f64],
     order: &mut [u32],
     scratch: &mut [u32],
     flags: &mut [bool],
@@ -67,21 +74,25 @@ pub fn fit_tree(
 ) -> TreeAnswer
     ensures { λ a. ⌜ outcomeOf a (treeRoomsOf
         (columnsOf (now (value .exit)) (now (feature .exit)) (now (threshold .exit)) (now (score .exit)) (now (truechild .exit)) (now (falsechild .exit)))
+        (behindOf (now (nodecount .exit)) (now (nodemass .exit)))
         (workOf (now (order .exit)) (now (scratch .exit)) (now (flags .exit)) (now (wholes .exit)) (now (reals .exit))))
         ≡ fitTree waitingRoom
         (treeCall shape settings tried
         (givenOf (now (values .entry)) (now (targets .entry)) (now (weights .entry)) (now (counts .entry)) (now (listings .entry))) (now (words .entry)) (now (thresholds .entry)))
         (treeRoomsOf
         (columnsOf (now (value .entry)) (now (feature .entry)) (now (threshold .entry)) (now (score .entry)) (now (truechild .entry)) (now (falsechild .entry)))
+        (behindOf (now (nodecount .entry)) (now (nodemass .entry)))
         (workOf (now (order .entry)) (now (scratch .entry)) (now (flags .entry)) (now (wholes .entry)) (now (reals .entry)))) ⌝ }
 {
-    let nodes = slices::shortest_of(
+    let nodes = slices::shortest_of_eight(
         value.len(),
         feature.len(),
         threshold.len(),
         score.len(),
         truechild.len(),
         falsechild.len(),
+        nodecount.len(),
+        nodemass.len(),
     );
     let waiting = slices::least(wholes.len(), reals.len());
     let room = Lengths {
@@ -117,6 +128,8 @@ pub fn fit_tree(
         score,
         truechild,
         falsechild,
+        nodecount,
+        nodemass,
         &mut order[0..size],
         scratch,
         flags,
@@ -140,6 +153,8 @@ pub fn fit_tree(
         score,
         truechild,
         falsechild,
+        nodecount,
+        nodemass,
         order,
         scratch,
         flags,

@@ -8,7 +8,6 @@ use mathlib.Core.List.{List, _∷_, _++_}
 use lib.ListN.{length, replicate, length-replicate}
 use lib.Ieee.{Float}
 use Rattle.rules.specs.declared.Params.{Params}
-use Rattle.rules.specs.Lent.{Columns}
 use Rattle.rules.specs.Words.{total}
 use Rattle.rules.specs.declared.Kind.the-variants.{Leaf}
 use Rattle.rules.specs.Search.{search}
@@ -22,9 +21,9 @@ use Rattle.lemmas.specs.Room.{load, rowsOf, halves, expand-bounded}
 use Rattle.lemmas.specs.Cuts.{search-fine, tape-fair, Ripe}
 use Rattle.work_columns.specs.Stretches.{part-every}
 use Rattle.search.specs.Flat.{Shaped, Fair}
-use Rattle.node_entries.specs.Entries.{waitingAt, LongAll}
-use Rattle.node_entries.specs.Nodes.{NodesIn}
-use Rattle.node_entries.specs.Writes.{long-less}
+use Rattle.node_entries.specs.Entries.{NodeRoom, LongRoom, waitingAt}
+use Rattle.node_entries.specs.Nodes.{RoomIn}
+use Rattle.node_entries.specs.Writes.{room-less}
 use Rattle.node_growth.specs.declared.Pair.{Pair}
 use Rattle.node_growth.specs.declared.Stand.{Stand}
 use Rattle.node_growth.specs.declared.Step.{Step}
@@ -40,7 +39,7 @@ use Rattle.tree_growth.specs.declared.Turned.the-variants as U
 use Rattle.tree_growth.specs.Places.{stateAt, standOf, searchedTo, onto, into, TurnAsks, TurnDone}
 
 -- what holds of the rooms throughout
-pub record Housed (g : Ground) (P : Params) (top scratch flags : ℕ) (c : Columns) (wholes reals : ℕ) : Type 0 where
+pub record Housed (g : Ground) (P : Params) (top scratch flags : ℕ) (c : NodeRoom) (wholes reals : ℕ) : Type 0 where
   pub shape : Shaped (g .rows) (g .features) (g .tables)
   pub small : g .rows < 4294967296
   pub same : g .features ≡ P .features
@@ -55,7 +54,7 @@ pub record Housed (g : Ground) (P : Params) (top scratch flags : ℕ) (c : Colum
   pub whole-room : g .rows ≤ wholes
   pub real-room : g .rows ≤ reals
   pub deep : P .limit ≤ 65535
-  pub node-room : LongAll top c
+  pub node-room : LongRoom top c
   pub node-small : top < 4294967296
 
 -- what holds of those that wait, where there are n nodes and may be `top`
@@ -66,7 +65,7 @@ pub record Sound (P : Params) (top n : ℕ) (ws : List Waiting) : Type 0 where
   pub loaded : n + 2 * load ws ≤ top
 
 -- before a turn: what will wait once the pair is searched
-pub record GrowAsks (g : Ground) (P : Params) (W : List ℕ) (M : List Float) (top scratch flags : ℕ) (c : Columns) (wholes : List (List ℕ)) (reals : List (List Float))
+pub record GrowAsks (g : Ground) (P : Params) (W : List ℕ) (M : List Float) (top scratch flags : ℕ) (c : NodeRoom) (wholes : List (List ℕ)) (reals : List (List Float))
     (q : Pair) (at : At) : Type 0 where
   pub housed : Housed g P top scratch flags c (length wholes) (length reals)
   pub asks : PairAsks g P W wholes reals q (standOf at)
@@ -74,29 +73,29 @@ pub record GrowAsks (g : Ground) (P : Params) (W : List ℕ) (M : List Float) (t
   pub sound : Then (sought g P W M wholes reals q (standOf at)) (λ o. Sound P top (at .nodes) (o .0))
 
 -- after its searches
-pub record Waits (g : Ground) (P : Params) (W : List ℕ) (top scratch flags : ℕ) (c : Columns) (wholes : List (List ℕ)) (reals : List (List Float)) (at : At) : Type 0 where
+pub record Waits (g : Ground) (P : Params) (W : List ℕ) (top scratch flags : ℕ) (c : NodeRoom) (wholes : List (List ℕ)) (reals : List (List Float)) (at : At) : Type 0 where
   pub housed : Housed g P top scratch flags c (length wholes) (length reals)
   pub laid : Laid g wholes reals (housed .kept) (at .waiting)
   pub sound : Sound P top (at .nodes) (waitingList g wholes reals (at .waiting))
   pub fair : Fair W (at .drawn)
 
 -- the growth as the definition has it, and what the code answers and leaves in the node columns
-abbrev pub GrownTo : List ℕ → List Float → Columns → Columns → Out (State Tapes) → Turned → Type 0
+abbrev pub GrownTo : List ℕ → List Float → NodeRoom → NodeRoom → Out (State Tapes) → Turned → Type 0
 GrownTo W M old c′ o (U.Refused k) = o ≡ bad k
-GrownTo W M old c′ o (U.Goes at) = (ns : List TreeNode) × (o ≡ ok (stateAt W M ns at)) × (length ns ≡ at .nodes) × NodesIn old ns c′ × Fair W (at .drawn)
+GrownTo W M old c′ o (U.Goes at) = (ns : List TreeNode) × (o ≡ ok (stateAt W M ns at)) × (length ns ≡ at .nodes) × RoomIn old ns c′ × Fair W (at .drawn)
 
 -- the pair is searched, and all that waits then is split
 abbrev pub grownFrom : Ground → Params → List ℕ → List Float → List (List ℕ) → List (List Float) → Pair → List TreeNode → At → Out (State Tapes)
 grownFrom g P W M wholes reals q ns at =
     bind (sought g P W M wholes reals q (standOf at)) (λ o. growAll P (search (tape (P .features)) P) (o .0) (record { nodes = ns; depth = at .depth; left = o .1 }))
 
-abbrev pub GrowDone : Ground → Params → List ℕ → List Float → ℕ → Columns → Columns → List (List ℕ) → List (List Float) → Pair → At → Turned → Type 0
+abbrev pub GrowDone : Ground → Params → List ℕ → List Float → ℕ → NodeRoom → NodeRoom → List (List ℕ) → List (List Float) → Pair → At → Turned → Type 0
 GrowDone g P W M top c c′ wholes reals q at r =
-    (old : Columns) (ns : List TreeNode) → length ns ≡ at .nodes → LongAll top old → NodesIn old ns c → GrownTo W M old c′ (grownFrom g P W M wholes reals q ns at) r
+    (old : NodeRoom) (ns : List TreeNode) → length ns ≡ at .nodes → LongRoom top old → RoomIn old ns c → GrownTo W M old c′ (grownFrom g P W M wholes reals q ns at) r
 
 -- ---- the searches of a turn
 
-module _ (g : Ground) (P : Params) (W : List ℕ) (M : List Float) (top sc fl : ℕ) (c : Columns) (wholes : List (List ℕ)) (reals : List (List Float)) (q : Pair) (at : At)
+module _ (g : Ground) (P : Params) (W : List ℕ) (M : List Float) (top sc fl : ℕ) (c : NodeRoom) (wholes : List (List ℕ)) (reals : List (List Float)) (q : Pair) (at : At)
     (h : GrowAsks g P W M top sc fl c wholes reals q at) (wholes′ : List (List ℕ)) (reals′ : List (List Float)) (r : Step) (d : PairDone g P W M wholes reals wholes′ reals′ q (standOf at) r) where
   pub searched-stop : (k : ℕ) → r ≡ Refused k → (ns : List TreeNode) → grownFrom g P W M wholes reals q ns at ≡ bad k
   unfolding bind
@@ -129,7 +128,7 @@ unfolding bind
 then-into (bad n) mk Q t = tt
 then-into (ok o) mk Q t = t
 
-module _ (g : Ground) (P : Params) (W : List ℕ) (top sc fl : ℕ) (c : Columns) (wholes : List (List ℕ)) (reals : List (List Float)) (at : At)
+module _ (g : Ground) (P : Params) (W : List ℕ) (top sc fl : ℕ) (c : NodeRoom) (wholes : List (List ℕ)) (reals : List (List Float)) (at : At)
     (h : Waits g P W top sc fl c wholes reals at) (hw : 0 < at .waiting) where
   abbrev pub w : Waiting
   w = waitingOf g (waitingAt wholes reals (at .waiting - 1))
@@ -186,10 +185,10 @@ module _ (g : Ground) (P : Params) (W : List ℕ) (top sc fl : ℕ) (c : Columns
           fair = h .fair;
         };
         number = sound′ .numbers .0;
-        node-room = long-less (at .nodes + 2) top c two-left (h .housed .node-room);
+        node-room = room-less (at .nodes + 2) top c two-left (h .housed .node-room);
       }
 
-  module _ (M : List Float) (order′ : List ℕ) (c′ : Columns) (q : Pair) (at′ : At) (d : TurnDone g (withOrder g order′) P W M c c′ wholes reals at q at′) where
+  module _ (M : List Float) (order′ : List ℕ) (c′ : NodeRoom) (q : Pair) (at′ : At) (d : TurnDone g (withOrder g order′) P W M c c′ wholes reals at q at′) where
     abbrev g′ : Ground
     g′ = withOrder g order′
 
@@ -262,7 +261,7 @@ module _ (g : Ground) (P : Params) (W : List ℕ) (top sc fl : ℕ) (c : Columns
             more : (a n : ℕ) → a < n → a < n + 2
             more a n h = omega arith
 
-    pub next-asks : {sc′ fl′ : ℕ} → sc′ ≡ sc → fl′ ≡ fl → LongAll top c′ → GrowAsks g′ P W M top sc′ fl′ c′ wholes reals q at′
+    pub next-asks : {sc′ fl′ : ℕ} → sc′ ≡ sc → fl′ ≡ fl → LongRoom top c′ → GrowAsks g′ P W M top sc′ fl′ c′ wholes reals q at′
     next-asks es ef lc =
         record {
           housed = record {

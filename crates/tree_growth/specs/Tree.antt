@@ -9,8 +9,7 @@ use lib.ListN.{length}
 use lib.Dec.{ltb}
 use lib.Ieee.{Float, nan}
 use Rattle.rules.specs.declared.Params.{Params}
-use Rattle.rules.specs.Lent.{Columns, writeEntries}
-use Rattle.rules.specs.Fit.{entryOf, entries}
+use Rattle.rules.specs.Fit.{entryOf}
 use Rattle.rules.specs.Search.{NodeRows, search}
 use Rattle.rules.specs.Growth.{Waiting, TreeNode, State, leafOf, searchable, searchIf, growAll, fromRoot}
 use Rattle.rules.specs.Draws.{Out, bad, ok, bind, Tapes, tape}
@@ -22,9 +21,9 @@ use Rattle.lemmas.specs.Cuts.{search-fine, tape-fair, Good}
 use Rattle.criterion.specs.declared.Side.{Side}
 use Rattle.search.specs.declared.Drawn.{Drawn}
 use Rattle.search.specs.Flat.{Shaped, drawsAt, Fair}
-use Rattle.node_entries.specs.Entries.{LongAll, putEntry, leafFor}
-use Rattle.node_entries.specs.Nodes.{entryFor, NodesIn, add-node, nodes-written}
-use Rattle.node_entries.specs.Writes.{long-less}
+use Rattle.node_entries.specs.Entries.{NodeRoom, LongRoom, putEntry, putNode, putLeaf}
+use Rattle.node_entries.specs.Nodes.{entryFor, add-node, RoomIn, writeNodes, room-written}
+use Rattle.node_entries.specs.Writes.{room-less}
 use Rattle.node_growth.specs.declared.Pair.{Pair}
 use Rattle.node_growth.specs.Rooms.{Ground, nodeRows, BelowTo}
 use Rattle.node_growth.specs.Pairs.{soughtFrom, sought, edge, SideAsks, rootSides, rootWith, rootPair}
@@ -63,23 +62,23 @@ pub record TreeAsks (g : Ground) (P : Params) (top kept : ℕ) (q : Side) (whole
   pub node-small : top < 4294967296
 
 -- a tree as the definition has it, its nodes written at the front of the columns: past them the columns keep what they held
-pub record Grew (W : List ℕ) (M : List Float) (c c′ : Columns) (o : Out (State Tapes)) (at : At) : Type 0 where
+pub record Grew (W : List ℕ) (M : List Float) (c c′ : NodeRoom) (o : Out (State Tapes)) (at : At) : Type 0 where
   pub nodes : List TreeNode
   pub same : o ≡ ok (record { nodes = nodes; depth = at .depth; left = drawsAt W M (at .drawn) })
   pub count : length nodes ≡ at .nodes
-  pub written : c′ ≡ writeEntries (entries nodes) c
+  pub written : c′ ≡ writeNodes nodes c
   pub fair : Fair W (at .drawn)
 
-abbrev pub Answers : List ℕ → List Float → Columns → Columns → Out (State Tapes) → Turned → Type 0
+abbrev pub Answers : List ℕ → List Float → NodeRoom → NodeRoom → Out (State Tapes) → Turned → Type 0
 Answers W M c c′ o (U.Refused k) = o ≡ bad k
 Answers W M c c′ o (U.Goes at) = Grew W M c c′ o at
 
-pub record TreeDone (g : Ground) (P : Params) (W : List ℕ) (M : List Float) (c c′ : Columns) (kept : ℕ) (q : Side) (r : Turned) : Type 0 where
+pub record TreeDone (g : Ground) (P : Params) (W : List ℕ) (M : List Float) (c c′ : NodeRoom) (kept : ℕ) (q : Side) (r : Turned) : Type 0 where
   pub grown : Answers W M c c′ (fromRoot P (search (tape (P .features)) P) (rootRows g kept q) (record { words = W; thresholds = M; searches = 0 })) r
 
-grown-answers : (W : List ℕ) (M : List Float) (c c′ : Columns) (o : Out (State Tapes)) (t : Turned) → GrownTo W M c c′ o t → Answers W M c c′ o t
+grown-answers : (W : List ℕ) (M : List Float) (c c′ : NodeRoom) (o : Out (State Tapes)) (t : Turned) → GrownTo W M c c′ o t → Answers W M c c′ o t
 grown-answers W M c c′ o (U.Refused k) h = h
-grown-answers W M c c′ o (U.Goes at) h = record { nodes = h .0; same = h .1; count = h .2; written = nodes-written c c′ (h .0) (h .3); fair = h .4 }
+grown-answers W M c c′ o (U.Goes at) h = record { nodes = h .0; same = h .1; count = h .2; written = room-written c c′ (h .0) (h .3); fair = h .4 }
 
 -- ---- the root is searched as the definition searches it
 
@@ -124,16 +123,20 @@ module _ (g : Ground) (P : Params) (W : List ℕ) (M : List Float) (wholes : Lis
 
 -- ---- the start handed to the loop
 
-root-nodes : (c c′ : Columns) (node : NodeRows) → LongAll 1 c → c′ ≡ putEntry 0 (leafFor (node .totals)) c → NodesIn c (leafOf node ∷ []) c′
-unfolding putEntry leafOf entryOf
+root-nodes : (c c′ : NodeRoom) (node : NodeRows) → LongRoom 1 c → c′ ≡ putLeaf 0 (record { totals = node .totals; count = node .count }) c → RoomIn c (leafOf node ∷ []) c′
+unfolding putNode putEntry leafOf entryOf
 root-nodes c c′ node l e =
     record {
-      value = ap (λ (z : Columns). z .value) e ∙ add-node (λ n. entryFor n .value) [] (c .value) nan (leafOf node) (l .value);
-      feature = ap (λ (z : Columns). z .feature) e ∙ add-node (λ n. entryFor n .feature) [] (c .feature) 0 (leafOf node) (l .feature);
-      threshold = ap (λ (z : Columns). z .threshold) e ∙ add-node (λ n. entryFor n .threshold) [] (c .threshold) nan (leafOf node) (l .threshold);
-      score = ap (λ (z : Columns). z .score) e ∙ add-node (λ n. entryFor n .score) [] (c .score) nan (leafOf node) (l .score);
-      truechild = ap (λ (z : Columns). z .trueChild) e ∙ add-node (λ n. entryFor n .trueChild) [] (c .trueChild) 0 (leafOf node) (l .truechild);
-      falsechild = ap (λ (z : Columns). z .falseChild) e ∙ add-node (λ n. entryFor n .falseChild) [] (c .falseChild) 0 (leafOf node) (l .falsechild);
+      nodes = record {
+        value = ap (λ (z : NodeRoom). z .nodes .value) e ∙ add-node (λ n. entryFor n .value) [] (c .nodes .value) nan (leafOf node) (l .nodes .value);
+        feature = ap (λ (z : NodeRoom). z .nodes .feature) e ∙ add-node (λ n. entryFor n .feature) [] (c .nodes .feature) 0 (leafOf node) (l .nodes .feature);
+        threshold = ap (λ (z : NodeRoom). z .nodes .threshold) e ∙ add-node (λ n. entryFor n .threshold) [] (c .nodes .threshold) nan (leafOf node) (l .nodes .threshold);
+        score = ap (λ (z : NodeRoom). z .nodes .score) e ∙ add-node (λ n. entryFor n .score) [] (c .nodes .score) nan (leafOf node) (l .nodes .score);
+        truechild = ap (λ (z : NodeRoom). z .nodes .trueChild) e ∙ add-node (λ n. entryFor n .trueChild) [] (c .nodes .trueChild) 0 (leafOf node) (l .nodes .truechild);
+        falsechild = ap (λ (z : NodeRoom). z .nodes .falseChild) e ∙ add-node (λ n. entryFor n .falseChild) [] (c .nodes .falseChild) 0 (leafOf node) (l .nodes .falsechild);
+      };
+      count = ap (λ (z : NodeRoom). z .behind .count) e ∙ add-node (λ n. n .count) [] (c .behind .count) 0 (leafOf node) (l .count);
+      mass = ap (λ (z : NodeRoom). z .behind .mass) e ∙ add-node (λ n. n .totals .mass) [] (c .behind .mass) nan (leafOf node) (l .mass);
     }
 
 module _ (g : Ground) (P : Params) (W : List ℕ) (M : List Float) (top kept : ℕ) (q : Side) (wholes : List (List ℕ)) (reals : List (List Float))
@@ -171,7 +174,7 @@ module _ (g : Ground) (P : Params) (W : List ℕ) (M : List Float) (top kept : �
       room : (l n : ℕ) → l ≤ n - 1 → 1 + 2 * (n - 1) ≤ top → 1 + 2 * l ≤ top
       room l n a b = omega arith
 
-  pub tree-asks : {sc fl : ℕ} (c : Columns) → g .rows ≤ sc → g .rows ≤ fl → LongAll top c → {r : Pair} → r ≡ rootPair kept q → GrowAsks g P W M top sc fl c wholes reals r outset
+  pub tree-asks : {sc fl : ℕ} (c : NodeRoom) → g .rows ≤ sc → g .rows ≤ fl → LongRoom top c → {r : Pair} → r ≡ rootPair kept q → GrowAsks g P W M top sc fl c wholes reals r outset
   tree-asks {sc} {fl} c hs hf hc e =
       subst (λ r. GrowAsks g P W M top sc fl c wholes reals r outset) (sym e)
       (record {
@@ -207,13 +210,13 @@ module _ (g : Ground) (P : Params) (W : List ℕ) (M : List Float) (top kept : �
         sound = root-sound;
       })
 
-  pub tree-goes : (c c₁ c′ : Columns) → LongAll top c → c₁ ≡ putEntry 0 (leafFor (q .totals)) c → {r : Pair} → r ≡ rootPair kept q → (t : Turned)
+  pub tree-goes : (c c₁ c′ : NodeRoom) → LongRoom top c → c₁ ≡ putLeaf 0 q c → {r : Pair} → r ≡ rootPair kept q → (t : Turned)
       → GrowDone g P W M top c₁ c′ wholes reals r outset t → TreeDone g P W M c c′ kept q t
   tree-goes c c₁ c′ lc ec e t gd =
       record {
         grown = grown-answers W M c c′ _ t (subst (λ o. GrownTo W M c c′ o t) (ap (λ r. grownFrom g P W M wholes reals r (leafOf (rootRows g kept q) ∷ []) outset) e ∙ sym (from-root g P W M
             wholes reals kept q))
-            (gd c (leafOf (rootRows g kept q) ∷ []) refl lc (root-nodes c c₁ (rootRows g kept q) (long-less 1 top c (one top (rowsOf (rootRows g kept q) - 1) (h .enough)) lc) ec)));
+            (gd c (leafOf (rootRows g kept q) ∷ []) refl lc (root-nodes c c₁ (rootRows g kept q) (room-less 1 top c (one top (rowsOf (rootRows g kept q) - 1) (h .enough)) lc) ec)));
       }
     where
       one : (top n : ℕ) → 1 + 2 * n ≤ top → 1 ≤ top

@@ -7,7 +7,6 @@ use mathlib.Core.List.{List, [], _∷_, _++_, append-assoc}
 use lib.ListN.{length, getD, set}
 use lib.Ieee.{Float, nan}
 use Rattle.rules.specs.declared.Params.{Params}
-use Rattle.rules.specs.Lent.{Columns}
 use Rattle.rules.specs.Search.{search, onTrue, onFalse, totalsOf}
 use Rattle.rules.specs.Growth.{Waiting, TreeNode, State, searchable, searchIf, child, leafOf, splitOf, splitting, withChildren, expand}
 use Rattle.rules.specs.Draws.{Out, bad, ok, bind, Tapes, tape}
@@ -18,14 +17,14 @@ use Rattle.work_columns.specs.Split.{SplitAsks, SplitDone}
 use Rattle.criterion.specs.declared.Side.{Side}
 use Rattle.search.specs.Flat.{elementOf, drawsAt}
 use Rattle.node_entries.specs.declared.WaitingNode.{WaitingNode}
-use Rattle.node_entries.specs.Entries.{waitingAt, LongAll, putEntry, wroteSplit}
-use Rattle.node_entries.specs.Nodes.{entryFor, NodesIn, columnOf, three}
+use Rattle.node_entries.specs.Entries.{NodeRoom, LongRoom, waitingAt, putEntry, putNode, wroteSplit}
+use Rattle.node_entries.specs.Nodes.{entryFor, RoomIn, columnOf, three}
 use Rattle.node_growth.specs.declared.Pair.{Pair}
 use Rattle.node_growth.specs.declared.Stand.{Stand}
 use Rattle.node_growth.specs.Rooms.{Ground, cutOf, waitingOf, waitingList, wroteSides, Taken}
 use Rattle.node_growth.specs.Pairs.{sought, soughtTwo, PartAsks, PartDone}
 use Rattle.node_growth.specs.InColumns.{withOrder}
-use Rattle.node_growth.specs.Sides.{SidesDone, mine, taken-room, taken-splits, part-asks, true-child, false-child, sides-sought}
+use Rattle.node_growth.specs.Sides.{SidesDone, sides-count, mine, taken-room, taken-splits, part-asks, true-child, false-child, sides-sought}
 use Rattle.tree_growth.specs.declared.At.{At}
 use Rattle.tree_growth.specs.Places.{stateAt, standOf, onto, into, TurnAsks, TurnDone}
 
@@ -44,7 +43,7 @@ two (bad n) k mk ws = refl
 two (ok t) k mk ws = two-end (k (t .1)) mk (t .0) ws
 
 -- of flags that the split left
-module _ (g : Ground) (P : Params) (W : List ℕ) (sc : ℕ) (flags : List Bool) (c : Columns) (wholes : List (List ℕ)) (reals : List (List Float)) (at : At)
+module _ (g : Ground) (P : Params) (W : List ℕ) (sc : ℕ) (flags : List Bool) (c : NodeRoom) (wholes : List (List ℕ)) (reals : List (List Float)) (at : At)
     (q : TurnAsks g P W sc (length flags) c wholes reals at) where
   abbrev m : ℕ
   m = at .waiting - 1
@@ -58,25 +57,39 @@ module _ (g : Ground) (P : Params) (W : List ℕ) (sc : ℕ) (flags : List Bool)
   abbrev rest : Stand
   rest = record { waiting = m; drawn = at .drawn }
 
-  module _ (h : Sides) (d : SplitDone (g .rows) (e .start) (e .end) (elementOf (g .features) (g .tables)) (cutOf e) (g .order) flags h) (c′ : Columns) (wr : c′ ≡ wroteSides e h (at .nodes) c) where
-    true-totals : h .trueside .totals ≡ child onTrue w .totals
-    true-totals = ap (λ (z : Side). z .totals) (true-child g P W sc flags wholes reals e (at .nodes) rest (q .taken) h d)
+  module _ (h : Sides) (d : SplitDone (g .rows) (e .start) (e .end) (elementOf (g .features) (g .tables)) (cutOf e) (g .order) flags h) (c′ : NodeRoom) (wr : c′ ≡ wroteSides e h (at .nodes) c) where
+    true-is : h .trueside ≡ record { totals = child onTrue w .totals; count = child onTrue w .count }
+    true-is = true-child g P W sc flags wholes reals e (at .nodes) rest (q .taken) h d
 
-    false-totals : h .falseside .totals ≡ child onFalse w .totals
-    false-totals = ap (λ (z : Side). z .totals) (false-child g P W sc flags wholes reals e (at .nodes) rest (q .taken) h d)
+    false-is : h .falseside ≡ record { totals = child onFalse w .totals; count = child onFalse w .count }
+    false-is = false-child g P W sc flags wholes reals e (at .nodes) rest (q .taken) h d
 
-    turn-nodes : (old : Columns) (ns : List TreeNode) → length ns ≡ at .nodes → LongAll (at .nodes + 2) old → NodesIn old ns c → NodesIn old (withChildren w ns) c′
-    unfolding wroteSplit putEntry withChildren splitOf splitting leafOf entryOf
+    turn-nodes : (old : NodeRoom) (ns : List TreeNode) → length ns ≡ at .nodes → LongRoom (at .nodes + 2) old → RoomIn old ns c → RoomIn old (withChildren w ns) c′
+    unfolding wroteSplit putNode putEntry withChildren splitOf splitting leafOf entryOf
     turn-nodes old ns en lo i =
         record {
-          value = ap (λ (z : Columns). z .value) wr ∙ col (λ z. z .value) (λ n. entryFor n .value) (i .value) (lo .value) nan refl (ap valueOf true-totals) (ap valueOf false-totals);
-          feature = ap (λ (z : Columns). z .feature) wr ∙ col (λ z. z .feature) (λ n. entryFor n .feature) (i .feature) (lo .feature) 0 refl refl refl;
-          threshold = ap (λ (z : Columns). z .threshold) wr ∙ col (λ z. z .threshold) (λ n. entryFor n .threshold) (i .threshold) (lo .threshold) nan refl refl refl;
-          score = ap (λ (z : Columns). z .score) wr ∙ col (λ z. z .score) (λ n. entryFor n .score) (i .score) (lo .score) nan scored refl refl;
-          truechild = ap (λ (z : Columns). z .trueChild) wr ∙ col (λ z. z .trueChild) (λ n. entryFor n .trueChild) (i .truechild) (lo .truechild) 0 (sym en) refl refl;
-          falsechild =
-              ap (λ (z : Columns). z .falseChild) wr
-              ∙ col (λ z. z .falseChild) (λ n. entryFor n .falseChild) (i .falsechild) (lo .falsechild) 0 (add-one (at .nodes) ∙ ap suc (sym en)) refl refl;
+          nodes = record {
+            value =
+                ap (λ (z : NodeRoom). z .nodes .value) wr
+                ∙ col (λ z. z .nodes .value) (λ n. entryFor n .value) (i .nodes .value) (lo .nodes .value) nan refl
+                (ap (λ (z : Side). valueOf (z .totals)) true-is) (ap (λ (z : Side). valueOf (z .totals)) false-is);
+            feature = ap (λ (z : NodeRoom). z .nodes .feature) wr ∙ col (λ z. z .nodes .feature) (λ n. entryFor n .feature) (i .nodes .feature) (lo .nodes .feature) 0 refl refl refl;
+            threshold = ap (λ (z : NodeRoom). z .nodes .threshold) wr ∙ col (λ z. z .nodes .threshold) (λ n. entryFor n .threshold) (i .nodes .threshold) (lo .nodes .threshold) nan refl refl refl;
+            score = ap (λ (z : NodeRoom). z .nodes .score) wr ∙ col (λ z. z .nodes .score) (λ n. entryFor n .score) (i .nodes .score) (lo .nodes .score) nan scored refl refl;
+            truechild =
+                ap (λ (z : NodeRoom). z .nodes .trueChild) wr
+                ∙ col (λ z. z .nodes .trueChild) (λ n. entryFor n .trueChild) (i .nodes .truechild) (lo .nodes .truechild) 0 (sym en) refl refl;
+            falsechild =
+                ap (λ (z : NodeRoom). z .nodes .falseChild) wr
+                ∙ col (λ z. z .nodes .falseChild) (λ n. entryFor n .falseChild) (i .nodes .falsechild) (lo .nodes .falsechild) 0 (add-one (at .nodes) ∙ ap suc (sym en)) refl refl;
+          };
+          count =
+              ap (λ (z : NodeRoom). z .behind .count) wr
+              ∙ col (λ z. z .behind .count) (λ n. n .count) (i .count) (lo .count) 0 (sides-count d) (ap (λ (z : Side). z .count) true-is) (ap (λ (z : Side). z .count) false-is);
+          mass =
+              ap (λ (z : NodeRoom). z .behind .mass) wr
+              ∙ col (λ z. z .behind .mass) (λ n. n .totals .mass) (i .mass) (lo .mass) nan refl
+              (ap (λ (z : Side). z .totals .mass) true-is) (ap (λ (z : Side). z .totals .mass) false-is);
         }
       where
         inside : e .node < length ns
@@ -86,9 +99,9 @@ module _ (g : Ground) (P : Params) (W : List ℕ) (sc : ℕ) (flags : List Bool)
         all-totals = ap (λ (z : Sides). z .all) (d .sides) ∙ ap (totalsOf empty) (mine g P W sc flags wholes reals e (at .nodes) rest (q .taken))
 
         scored : score (h .trueside .totals) (h .falseside .totals) (h .all .mass) ≡ entryFor (splitOf w (length ns)) .score
-        scored = λ i. score (true-totals i) (false-totals i) (all-totals i .mass)
+        scored = λ i. score (true-is i .totals) (false-is i .totals) (all-totals i .mass)
 
-        col : {A : Type 0} (get : Columns → List A) (f : TreeNode → A) {x y z : A} → get c ≡ columnOf f ns (get old) → at .nodes + 2 ≤ length (get old) → A
+        col : {A : Type 0} (get : NodeRoom → List A) (f : TreeNode → A) {x y z : A} → get c ≡ columnOf f ns (get old) → at .nodes + 2 ≤ length (get old) → A
             → x ≡ f (splitOf w (length ns)) → y ≡ f (leafOf (child onTrue w)) → z ≡ f (leafOf (child onFalse w))
             → set (set (set (get c) (e .node) x) (at .nodes) y) (at .nodes + 1) z ≡ columnOf f
             (set ns (e .node) (splitOf w (length ns)) ++ (leafOf (child onTrue w) ∷ leafOf (child onFalse w) ∷ [])) (get old)
@@ -125,7 +138,7 @@ module _ (g : Ground) (P : Params) (W : List ℕ) (sc : ℕ) (flags : List Bool)
 
 -- ---- the same by what the code read: the top is z, and the flags are as long as they were
 
-module _ (g : Ground) (P : Params) (W : List ℕ) (sc : ℕ) (flags : List Bool) (c : Columns) (wholes : List (List ℕ)) (reals : List (List Float)) (at : At)
+module _ (g : Ground) (P : Params) (W : List ℕ) (sc : ℕ) (flags : List Bool) (c : NodeRoom) (wholes : List (List ℕ)) (reals : List (List Float)) (at : At)
     (q : TurnAsks g P W sc (length flags) c wholes reals at) where
   abbrev topWaiting : WaitingNode
   topWaiting = waitingAt wholes reals (at .waiting - 1)
@@ -141,7 +154,7 @@ module _ (g : Ground) (P : Params) (W : List ℕ) (sc : ℕ) (flags : List Bool)
 
   pub code-split : {z : WaitingNode} → z ≡ topWaiting
       → SplitAsks (g .rows) (g .features) (z .start) (z .end) (g .tables .values) (g .tables .targets) (g .tables .weights) (g .tables .counts) (cutOf z) (g .order) (z .rows) (length flags)
-      × (LongAll (at .nodes + 2) c × (z .node < at .nodes) × (at .nodes + 2 < 4294967296))
+      × (LongRoom (at .nodes + 2) c × (z .node < at .nodes) × (at .nodes + 2 < 4294967296))
   code-split {z} ez =
       (taken-splits g P W sc flags wholes reals z (at .nodes) left (code-taken ez), (q .node-room, subst (λ (z : WaitingNode). z .node < at .nodes) (sym ez) (q .number), q .taken .number))
 
@@ -158,7 +171,7 @@ module _ (g : Ground) (P : Params) (W : List ℕ) (sc : ℕ) (flags : List Bool)
     pub code-parts : {z : WaitingNode} → z ≡ topWaiting → (h : Sides) → DoneAt h z → PartAsks (g .rows) (g .features) (g .order) sc flags′ z h
     code-parts {z} ez h d = part-asks g P W sc flags′ wholes reals z (at .nodes) left (taken′ ez) h d
 
-    pub code-done : {z : WaitingNode} → z ≡ topWaiting → (h : Sides) → DoneAt h z → (c′ : Columns) → c′ ≡ wroteSides z h (at .nodes) c
+    pub code-done : {z : WaitingNode} → z ≡ topWaiting → (h : Sides) → DoneAt h z → (c′ : NodeRoom) → c′ ≡ wroteSides z h (at .nodes) c
         → (M : List Float) (order′ : List ℕ) (r : Pair) → PartDone (g .rows) (g .features) (g .order) order′ flags′ P z (at .nodes) h r → (deep : ℕ) → deep ≡ max (at .depth) (r .level)
         → TurnDone g (withOrder g order′) P W M c c′ wholes reals at r (record { nodes = at .nodes + 2; depth = deep; waiting = at .waiting - 1; drawn = at .drawn })
     code-done {z} ez h d c′ wr M order′ r p deep ed =

@@ -2,8 +2,7 @@
 ghost use mathlib.Core.Path.{_≡_};
 ghost use Prim.Native.Nat.{_≤_, max};
 ghost use lib.ListN.{length};
-ghost use Rattle.rules.specs.Lent.{columnsOf};
-ghost use Rattle.node_entries.specs.Entries.{LongAll};
+ghost use Rattle.node_entries.specs.Entries.{nodeRoomOf, LongRoom};
 ghost use Rattle.node_growth.specs.Rooms.{groundOf};
 ghost use Rattle.tree_growth.specs.Halves.{GrowAsks, GrowDone};
 ghost use Rattle.tree_growth.specs.Tree.{TreeAsks, TreeDone};
@@ -47,6 +46,8 @@ pub fn grow(
     score: &mut [f64],
     truechild: &mut [u32],
     falsechild: &mut [u32],
+    nodecount: &mut [u32],
+    nodemass: &mut [f64],
     wholes: &mut [[u32; 6]],
     reals: &mut [[f64; 3]],
     values: &[f64],
@@ -64,12 +65,14 @@ pub fn grow(
 ) -> Turned
     requires { ⌜
         GrowAsks (groundOf rows features (now values) (now targets) (now weights) (now counts) (now order)) p (now words) (now thresholds) most (length (now scratch))
-        (length (now flags)) (columnsOf (now value) (now feature) (now threshold) (now score) (now truechild) (now falsechild)) (now wholes) (now reals) root start ⌝ }
+        (length (now flags)) (nodeRoomOf (now value) (now feature) (now threshold) (now score) (now truechild) (now falsechild) (now nodecount) (now nodemass)) (now wholes) (now reals) root start ⌝ }
     ensures { λ r. ⌜
         GrowDone (groundOf rows features (now (values .entry)) (now (targets .entry)) (now (weights .entry)) (now (counts .entry)) (now (order .entry))) p
         (now (words .entry)) (now (thresholds .entry)) most
-        (columnsOf (now (value .entry)) (now (feature .entry)) (now (threshold .entry)) (now (score .entry)) (now (truechild .entry)) (now (falsechild .entry)))
-        (columnsOf (now (value .exit)) (now (feature .exit)) (now (threshold .exit)) (now (score .exit)) (now (truechild .exit)) (now (falsechild .exit)))
+        (nodeRoomOf (now (value .entry)) (now (feature .entry)) (now (threshold .entry)) (now (score .entry)) (now (truechild .entry)) (now (falsechild .entry)) (now (nodecount .entry))
+        (now (nodemass .entry)))
+        (nodeRoomOf (now (value .exit)) (now (feature .exit)) (now (threshold .exit)) (now (score .exit)) (now (truechild .exit)) (now (falsechild .exit)) (now (nodecount .exit))
+        (now (nodemass .exit)))
         (now (wholes .entry)) (now (reals .entry)) root start r ⌝ }
 {
     let mut at = start;
@@ -120,6 +123,8 @@ pub fn grow(
                     score,
                     truechild,
                     falsechild,
+                    nodecount,
+                    nodemass,
                     values,
                     targets,
                     weights,
@@ -155,6 +160,8 @@ pub fn grow_tree(
     score: &mut [f64],
     truechild: &mut [u32],
     falsechild: &mut [u32],
+    nodecount: &mut [u32],
+    nodemass: &mut [f64],
     wholes: &mut [[u32; 6]],
     reals: &mut [[f64; 3]],
     values: &[f64],
@@ -173,13 +180,15 @@ pub fn grow_tree(
     requires { ⌜
         TreeAsks (groundOf rows features (now values) (now targets) (now weights) (now counts) (now order)) p most kept root (length (now wholes)) (length (now reals)) ⌝ }
     requires { ⌜
-        (rows ≤ length (now scratch)) × (rows ≤ length (now flags)) × LongAll most
-        (columnsOf (now value) (now feature) (now threshold) (now score) (now truechild) (now falsechild)) ⌝ }
+        (rows ≤ length (now scratch)) × (rows ≤ length (now flags)) × LongRoom most
+        (nodeRoomOf (now value) (now feature) (now threshold) (now score) (now truechild) (now falsechild) (now nodecount) (now nodemass)) ⌝ }
     ensures { λ r. ⌜
         TreeDone (groundOf rows features (now (values .entry)) (now (targets .entry)) (now (weights .entry)) (now (counts .entry)) (now (order .entry))) p
         (now (words .entry)) (now (thresholds .entry))
-        (columnsOf (now (value .entry)) (now (feature .entry)) (now (threshold .entry)) (now (score .entry)) (now (truechild .entry)) (now (falsechild .entry)))
-        (columnsOf (now (value .exit)) (now (feature .exit)) (now (threshold .exit)) (now (score .exit)) (now (truechild .exit)) (now (falsechild .exit))) kept root r ⌝ }
+        (nodeRoomOf (now (value .entry)) (now (feature .entry)) (now (threshold .entry)) (now (score .entry)) (now (truechild .entry)) (now (falsechild .entry)) (now (nodecount .entry))
+        (now (nodemass .entry)))
+        (nodeRoomOf (now (value .exit)) (now (feature .exit)) (now (threshold .exit)) (now (score .exit)) (now (truechild .exit)) (now (falsechild .exit)) (now (nodecount .exit))
+        (now (nodemass .exit))) kept root r ⌝ }
 {
     let t = root.totals;
     node_entries::put_leaf(
@@ -189,8 +198,11 @@ pub fn grow_tree(
         score,
         truechild,
         falsechild,
+        nodecount,
+        nodemass,
         0,
         t,
+        root.count,
     );
     let q = node_growth::root_pair(kept, root);
     let d = Drawn {
@@ -214,6 +226,8 @@ pub fn grow_tree(
         score,
         truechild,
         falsechild,
+        nodecount,
+        nodemass,
         wholes,
         reals,
         values,

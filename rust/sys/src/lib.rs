@@ -120,18 +120,21 @@ pub struct ModelTold {
 /// Passes the list of calls to a macro. For each call it has the kind in the list of answers (oracle/README.md), the name and the symbol;
 /// the parameters passed by value; the slices that are written before the ones that are read, those that are read, and those that
 /// are written after them, with the types of their entries; the parameters that follow them; and the result. The structs above must be in scope where it is used.
+///
+/// The fits have two columns of nodes more than the other calls: `node_count`, the sum of the counts of the rows that a node keeps, and
+/// `node_mass`, the mass that its value was divided by, or would have been if it were above 0.
 #[macro_export]
 macro_rules! calls {
     ($to:ident) => {
         $to! {
             1 fit_tree = tailboardy_fit_tree()
-                fills(value: f64, feature: u32, threshold: f64, score: f64, true_child: u32, false_child: u32,
+                fills(value: f64, feature: u32, threshold: f64, score: f64, true_child: u32, false_child: u32, node_count: u32, node_mass: f64,
                     order: u32, scratch: u32, flags: bool, wholes: [u32; 6], reals: [f64; 3])
                 reads(values: f64, targets: f64, weights: f64, counts: u32, listings: u32, words: u32, thresholds: f64)
                 writes() (rows: usize, features: usize, plain: TreeSettings) -> TreeTold;
             2 fit_forest = tailboardy_fit_forest()
-                fills(value: f64, feature: u32, threshold: f64, score: f64, true_child: u32, false_child: u32, starts: u32,
-                    nodes: u32, depth: u32, mass: f64, searches: u32, wordsused: u32, thresholdsused: u32,
+                fills(value: f64, feature: u32, threshold: f64, score: f64, true_child: u32, false_child: u32, node_count: u32, node_mass: f64,
+                    starts: u32, nodes: u32, depth: u32, mass: f64, searches: u32, wordsused: u32, thresholdsused: u32,
                     order: u32, scratch: u32, flags: bool, wholes: [u32; 6], reals: [f64; 3])
                 reads(values: f64, targets: f64, weights: f64, counts: u32, listings: u32, words: u32, thresholds: f64,
                     word_starts: usize, threshold_starts: usize)

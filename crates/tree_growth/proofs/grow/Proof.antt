@@ -5,29 +5,29 @@ use native.Mathlib.Omega.{arith}
 use mathlib.Core.Path.{_∙_}
 use lib.ListN.{length}
 use borrow.Author.Needs.{needs}
-use Rattle.rules.specs.Lent.{columnsOf}
+use Rattle.node_entries.specs.Entries.{nodeRoomOf}
 use Rattle.node_growth.specs.Rooms.{groundOf}
 use Rattle.tree_growth.specs.Loop.{Growing, growing-first, growing-stop, growing-end, number-small, growing-top, growing-split, growing-parts, growing-less, growing-on}
 use Rattle.tree_growth.proofs.grow.Statement.{statement}
 use Rattle.tree_growth.proofs.grow.Tie as tie
 
 abbrev Inv-loop : tie.InvT-loop
-Inv-loop order₀ scratch₀ flags₀ value₀ feature₀ threshold₀ score₀ truechild₀ falsechild₀ wholes₀ reals₀
+Inv-loop order₀ scratch₀ flags₀ value₀ feature₀ threshold₀ score₀ truechild₀ falsechild₀ nodecount₀ nodemass₀ wholes₀ reals₀
     values targets weights counts tape marks rows features most p at₀ q₀
-    order scratch flags value feature threshold score truechild' falsechild' wholes reals at q =
+    order scratch flags value feature threshold score truechild' falsechild' nodecount' nodemass' wholes reals at q =
     Growing (groundOf rows features values targets weights counts order₀) p tape marks most (length scratch₀) (length flags₀)
-    (columnsOf value₀ feature₀ threshold₀ score₀ truechild₀ falsechild₀) wholes₀ reals₀ q₀ at₀
+    (nodeRoomOf value₀ feature₀ threshold₀ score₀ truechild₀ falsechild₀ nodecount₀ nodemass₀) wholes₀ reals₀ q₀ at₀
     (groundOf rows features values targets weights counts order) (length scratch) (length flags)
-    (columnsOf value feature threshold score (truechild') (falsechild')) wholes reals q at
+    (nodeRoomOf value feature threshold score (truechild') (falsechild') (nodecount') (nodemass')) wholes reals q at
 
 abbrev μ-loop : tie.MeasureT-loop
-μ-loop order₀ scratch₀ flags₀ value₀ feature₀ threshold₀ score₀ truechild₀ falsechild₀ wholes₀ reals₀
+μ-loop order₀ scratch₀ flags₀ value₀ feature₀ threshold₀ score₀ truechild₀ falsechild₀ nodecount₀ nodemass₀ wholes₀ reals₀
     values targets weights counts tape marks rows features most p at₀ q₀
-    order scratch flags value feature threshold score truechild' falsechild' wholes reals at q =
+    order scratch flags value feature threshold score truechild' falsechild' nodecount' nodemass' wholes reals at q =
     most - at .nodes
 
 abbrev start-of : tie.After-shared-slice-known6 Inv-loop μ-loop → tie.Start Inv-loop μ-loop
-start-of c = c .before .before .before .before .before .before .before .before .before .before .before .before .before .before .before
+start-of c = c .before .before .before .before .before .before .before .before .before .before .before .before .before .before .before .before .before
 
 -- how the loop stood as the pair was searched
 abbrev loop-of : tie.After-search-pair Inv-loop μ-loop → tie.At-loop Inv-loop μ-loop
@@ -52,12 +52,12 @@ searched-of c = told-of c .before .before .before .before
 abbrev waits-to-top : tie.After-top-arg2 Inv-loop μ-loop → tie.Else1 Inv-loop μ-loop
 waits-to-top c = c .before .before .before
 
-abbrev top-to-split : tie.After-split-node-arg8 Inv-loop μ-loop → tie.After-top Inv-loop μ-loop
-top-to-split c = c .before .before .before .before .before .before .before .before
+abbrev top-to-split : tie.After-split-node-arg10 Inv-loop μ-loop → tie.After-top Inv-loop μ-loop
+top-to-split c = c .before .before .before .before .before .before .before .before .before .before
 
 abbrev split-to-part : tie.After-part-sides-arg3 Inv-loop μ-loop → tie.After-split-node Inv-loop μ-loop
 split-to-part c =
-    c .before .before .before .before .before .before .before .before .before .before .before .before .before .before .before .before .before
+    c .before .before .before .before .before .before .before .before .before .before .before .before .before .before .before .before .before .before .before .before .before
 
 abbrev parted : tie.After-greater Inv-loop μ-loop → tie.After-part-sides Inv-loop μ-loop
 parted c = c .before .before .before .before .before
@@ -108,10 +108,16 @@ same-length-9 : tie.Need-same-length-9 Inv-loop μ-loop
 same-length-9 c = loop-of (searched-bad c) .loop .inv .falsechild
 
 same-length-10 : tie.Need-same-length-10 Inv-loop μ-loop
-same-length-10 c = searched-bad c .search-pair .kept .0 ∙ loop-of (searched-bad c) .loop .inv .waiting-wholes
+same-length-10 c = loop-of (searched-bad c) .loop .inv .count
 
 same-length-11 : tie.Need-same-length-11 Inv-loop μ-loop
-same-length-11 c = searched-bad c .search-pair .kept .1 .0 ∙ loop-of (searched-bad c) .loop .inv .waiting-reals
+same-length-11 c = loop-of (searched-bad c) .loop .inv .mass
+
+same-length-12 : tie.Need-same-length-12 Inv-loop μ-loop
+same-length-12 c = searched-bad c .search-pair .kept .0 ∙ loop-of (searched-bad c) .loop .inv .waiting-wholes
+
+same-length-13 : tie.Need-same-length-13 Inv-loop μ-loop
+same-length-13 c = searched-bad c .search-pair .kept .1 .0 ∙ loop-of (searched-bad c) .loop .inv .waiting-reals
 
 returns : tie.Need-returns Inv-loop μ-loop
 returns c = growing-stop _ _ _ _ _ _ _ _ _ _ _ _ _ _ (loop-of (searched-bad c) .loop .flags) _ _ _ _ _
@@ -120,38 +126,44 @@ returns c = growing-stop _ _ _ _ _ _ _ _ _ _ _ _ _ _ (loop-of (searched-bad c) .
 enum-known-r-2 : tie.Need-enum-known-r-2 Inv-loop μ-loop
 enum-known-r-2 c = search needs
 
-same-length-12 : tie.Need-same-length-12 Inv-loop μ-loop
-same-length-12 c = loop-of (searched-end c) .loop .inv .order
-
-same-length-13 : tie.Need-same-length-13 Inv-loop μ-loop
-same-length-13 c = loop-of (searched-end c) .loop .inv .scratch
-
 same-length-14 : tie.Need-same-length-14 Inv-loop μ-loop
-same-length-14 c = loop-of (searched-end c) .loop .inv .flags
+same-length-14 c = loop-of (searched-end c) .loop .inv .order
 
 same-length-15 : tie.Need-same-length-15 Inv-loop μ-loop
-same-length-15 c = loop-of (searched-end c) .loop .inv .value
+same-length-15 c = loop-of (searched-end c) .loop .inv .scratch
 
 same-length-16 : tie.Need-same-length-16 Inv-loop μ-loop
-same-length-16 c = loop-of (searched-end c) .loop .inv .feature
+same-length-16 c = loop-of (searched-end c) .loop .inv .flags
 
 same-length-17 : tie.Need-same-length-17 Inv-loop μ-loop
-same-length-17 c = loop-of (searched-end c) .loop .inv .threshold
+same-length-17 c = loop-of (searched-end c) .loop .inv .value
 
 same-length-18 : tie.Need-same-length-18 Inv-loop μ-loop
-same-length-18 c = loop-of (searched-end c) .loop .inv .score
+same-length-18 c = loop-of (searched-end c) .loop .inv .feature
 
 same-length-19 : tie.Need-same-length-19 Inv-loop μ-loop
-same-length-19 c = loop-of (searched-end c) .loop .inv .truechild
+same-length-19 c = loop-of (searched-end c) .loop .inv .threshold
 
 same-length-20 : tie.Need-same-length-20 Inv-loop μ-loop
-same-length-20 c = loop-of (searched-end c) .loop .inv .falsechild
+same-length-20 c = loop-of (searched-end c) .loop .inv .score
 
 same-length-21 : tie.Need-same-length-21 Inv-loop μ-loop
-same-length-21 c = searched-end c .search-pair .kept .0 ∙ loop-of (searched-end c) .loop .inv .waiting-wholes
+same-length-21 c = loop-of (searched-end c) .loop .inv .truechild
 
 same-length-22 : tie.Need-same-length-22 Inv-loop μ-loop
-same-length-22 c = searched-end c .search-pair .kept .1 .0 ∙ loop-of (searched-end c) .loop .inv .waiting-reals
+same-length-22 c = loop-of (searched-end c) .loop .inv .falsechild
+
+same-length-23 : tie.Need-same-length-23 Inv-loop μ-loop
+same-length-23 c = loop-of (searched-end c) .loop .inv .count
+
+same-length-24 : tie.Need-same-length-24 Inv-loop μ-loop
+same-length-24 c = loop-of (searched-end c) .loop .inv .mass
+
+same-length-25 : tie.Need-same-length-25 Inv-loop μ-loop
+same-length-25 c = searched-end c .search-pair .kept .0 ∙ loop-of (searched-end c) .loop .inv .waiting-wholes
+
+same-length-26 : tie.Need-same-length-26 Inv-loop μ-loop
+same-length-26 c = searched-end c .search-pair .kept .1 .0 ∙ loop-of (searched-end c) .loop .inv .waiting-reals
 
 returns-2 : tie.Need-returns-2 Inv-loop μ-loop
 returns-2 c =
@@ -218,7 +230,7 @@ loop-again c =
     (searched-of e .search-pair .kept .0) (searched-of e .search-pair .kept .1 .0) (omega (arith, e .if1 .left))
     (t .ensures) _ (p .kept .0) _ (p .ensures .0) _ (p .ensures .1) _ _ (parted c .part-sides .ensures) _ (c .greater .ensures)
     (parted c .part-sides .kept .1 .0) (p .kept .1 .0) (p .kept .1 .1 .0) (p .kept .1 .1 .1 .0) (p .kept .1 .1 .1 .1 .0) (p .kept .1 .1 .1 .1 .1 .0)
-    (p .kept .1 .1 .1 .1 .1 .1 .0)
+    (p .kept .1 .1 .1 .1 .1 .1 .0) (p .kept .1 .1 .1 .1 .1 .1 .1 .0) (p .kept .1 .1 .1 .1 .1 .1 .1 .1 .0)
 
 pub grow-spec : {M : Type 1} → statement M
 grow-spec =
@@ -240,10 +252,10 @@ grow-spec =
     same-length-9
     same-length-10
     same-length-11
-    returns
-    enum-known-r-2
     same-length-12
     same-length-13
+    returns
+    enum-known-r-2
     same-length-14
     same-length-15
     same-length-16
@@ -253,6 +265,10 @@ grow-spec =
     same-length-20
     same-length-21
     same-length-22
+    same-length-23
+    same-length-24
+    same-length-25
+    same-length-26
     returns-2
     sub-m
     top-requires

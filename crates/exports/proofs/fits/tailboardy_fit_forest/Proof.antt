@@ -6,11 +6,12 @@ use Rattle.exports.proofs.fits.tailboardy_fit_forest.Tie as tie
 abbrev fit-forest-place : tie.After-forest-told-of → tie.After-fit-forest
 fit-forest-place c =
     c .before .before .before .before .before .before .before .before .before .before .before .before .before .before .before .before .before .before .before .before .before
-    .before .before .before .before .before .before .before .before .before .before .before .before .before .before
+    .before .before .before .before .before .before .before .before .before .before .before .before .before .before .before .before .before .before
 
 abbrev tried-from-place : tie.After-forest-told-of → tie.After-tried-from
 tried-from-place c =
     fit-forest-place c .before .before .before .before .before .before .before .before .before .before .before .before .before .before .before .before .before .before .before
+    .before .before
 
 abbrev forest-settings-of-place : tie.After-forest-told-of → tie.After-forest-settings-of
 forest-settings-of-place c = tried-from-place c .before
@@ -81,6 +82,12 @@ same-length-17 c = fit-forest-place c .fit-forest .kept .1 .1 .1 .1 .1 .1 .1 .1 
 same-length-18 : tie.Need-same-length-18
 same-length-18 c = fit-forest-place c .fit-forest .kept .1 .1 .1 .1 .1 .1 .1 .1 .1 .1 .1 .1 .1 .1 .1 .1 .1 .0
 
+same-length-19 : tie.Need-same-length-19
+same-length-19 c = fit-forest-place c .fit-forest .kept .1 .1 .1 .1 .1 .1 .1 .1 .1 .1 .1 .1 .1 .1 .1 .1 .1 .1 .0
+
+same-length-20 : tie.Need-same-length-20
+same-length-20 c = fit-forest-place c .fit-forest .kept .1 .1 .1 .1 .1 .1 .1 .1 .1 .1 .1 .1 .1 .1 .1 .1 .1 .1 .1 .0
+
 returns : tie.Need-returns
 returns c =
     forest-linked _ _ _ _ _ _ _ _ _ (forest-settings-of-place c .forest-settings-of .ensures) (tried-from-place c .tried-from .ensures) (fit-forest-place c .fit-forest .ensures)
@@ -91,4 +98,4 @@ tailboardy-fit-forest-spec =
     tie.close
     (tie.spec forest-settings-of-requires tried-from-requires fit-forest-requires forest-told-of-requires same-length same-length-2 same-length-3
     same-length-4 same-length-5 same-length-6 same-length-7 same-length-8 same-length-9 same-length-10 same-length-11 same-length-12 same-length-13
-    same-length-14 same-length-15 same-length-16 same-length-17 same-length-18 returns)
+    same-length-14 same-length-15 same-length-16 same-length-17 same-length-18 same-length-19 same-length-20 returns)
