@@ -13,6 +13,8 @@ pub struct Rooms {
     score: Vec<f64>,
     true_child: Vec<u32>,
     false_child: Vec<u32>,
+    node_count: Vec<u32>,
+    node_mass: Vec<f64>,
     starts: Vec<u32>,
     nodes: Vec<u32>,
     depth: Vec<u32>,
@@ -40,6 +42,8 @@ impl Rooms {
             score: vec![0.0; places],
             true_child: vec![0; places],
             false_child: vec![0; places],
+            node_count: vec![0; places],
+            node_mass: vec![0.0; places],
             starts: vec![0; trees + 1],
             nodes: vec![0; trees],
             depth: vec![0; trees],
@@ -75,6 +79,8 @@ impl Rooms {
             &mut self.score,
             &mut self.true_child,
             &mut self.false_child,
+            &mut self.node_count,
+            &mut self.node_mass,
             &mut self.starts,
             &mut self.nodes,
             &mut self.depth,
@@ -121,7 +127,8 @@ impl Rooms {
         )
     }
 
-    /// Whether these are the trees that smartcore grew, with their reports, bit for bit.
+    /// Whether these are the trees that smartcore grew, with their reports, bit for bit. Of the two columns that it does not have, the first
+    /// mass of each tree is its root mass.
     pub fn same(&self, trees: &[Grown]) -> bool {
         let all = trees.len() == self.nodes.len();
         all && trees
@@ -136,6 +143,7 @@ impl Rooms {
             && self.nodes[t] as usize == nodes.len()
             && self.depth[t] == tree.depth()
             && self.mass[t].to_bits() == tree.root_mass().to_bits()
+            && self.node_mass[start].to_bits() == tree.root_mass().to_bits()
             && self.searches[t] as usize == tree.searches
             && self.words_used[t] as usize == tree.words_used
             && self.thresholds_used[t] as usize == tree.thresholds_used;

@@ -42,7 +42,7 @@ static void tell_refusal(TailboardyRefusal told) {
 }
 
 // The slices of the current call. Before and after each there is one more entry with a fixed pattern, which must not change.
-enum { MOST = 27, PATTERN = 0xA5 };
+enum { MOST = 29, PATTERN = 0xA5 };
 
 typedef uint32_t Wholes[6];
 typedef double Reals[3];
@@ -97,6 +97,8 @@ static void give_slices(int from) {
 #define U(i) S(uint32_t, i)
 #define COLUMNS "dudduu"
 #define COLUMNS_AT(i) D(i), U(i + 1), D(i + 2), D(i + 3), U(i + 4), U(i + 5)
+#define BEHIND "ud"
+#define BEHIND_AT(i) U(i), D(i + 1)
 #define GIVEN "ddduuud"
 #define GIVEN_AT(i) D(i), D(i + 1), D(i + 2), U(i + 3), U(i + 4), U(i + 5), D(i + 6)
 #define REPORTS "uuduuu"
@@ -105,7 +107,7 @@ static void give_slices(int from) {
 #define WORK_AT(i) U(i), U(i + 1), S(bool, i + 2), S(Wholes, i + 3), S(Reals, i + 4)
 
 static void fit_tree(void) {
-    take_slices(GIVEN COLUMNS WORK);
+    take_slices(GIVEN COLUMNS BEHIND WORK);
     size_t rows = number(), features = number();
     TailboardyTreeSettings plain;
     plain.limited = number();
@@ -115,7 +117,8 @@ static void fit_tree(void) {
     plain.tried = number();
     plain.random = number();
     plain.lower = number();
-    TailboardyTreeTold told = tailboardy_fit_tree(COLUMNS_AT(7), WORK_AT(13), GIVEN_AT(0), rows, features, plain);
+    TailboardyTreeTold told = tailboardy_fit_tree(COLUMNS_AT(7), BEHIND_AT(13), WORK_AT(15), GIVEN_AT(0), rows, features,
+        plain);
     tell(told.number);
     tell(told.part);
     tell(told.place);
@@ -130,7 +133,7 @@ static void fit_tree(void) {
 }
 
 static void fit_forest(void) {
-    take_slices(GIVEN "zz" COLUMNS "u" REPORTS WORK);
+    take_slices(GIVEN "zz" COLUMNS BEHIND "u" REPORTS WORK);
     size_t rows = number(), features = number(), trees = number();
     TailboardyForestSettings plain;
     plain.limited = number();
@@ -141,7 +144,7 @@ static void fit_forest(void) {
     plain.tried = number();
     plain.random = number();
     plain.lower = number();
-    tell_refusal(tailboardy_fit_forest(COLUMNS_AT(9), U(15), REPORTS_AT(16), WORK_AT(22),
+    tell_refusal(tailboardy_fit_forest(COLUMNS_AT(9), BEHIND_AT(15), U(17), REPORTS_AT(18), WORK_AT(24),
         GIVEN_AT(0), S(size_t, 7), S(size_t, 8), rows, features, trees, plain));
     give_slices(9);
 }

@@ -40,6 +40,8 @@ fn compare<'a>(
     score: &'a [f64],
     truechild: &'a [u32],
     falsechild: &'a [u32],
+    nodecount: &'a [u32],
+    nodemass: &'a [f64],
     starts: &'a [u32],
     nodes: &'a [u32],
     depth: &'a [u32],
@@ -65,6 +67,8 @@ fn compare<'a>(
         score,
         truechild,
         falsechild,
+        nodecount,
+        nodemass,
     );
     let e = reports(
         answer,
@@ -106,6 +110,8 @@ fn fit(
     let mut score = [9.0; 64];
     let mut truechild = [9u32; 64];
     let mut falsechild = [9u32; 64];
+    let mut nodecount = [9u32; 64];
+    let mut nodemass = [9.0; 64];
     let mut starts = [9u32; 64];
     let mut nodes = [9u32; 64];
     let mut depth = [9u32; 64];
@@ -125,18 +131,20 @@ fn fit(
         rooms::lent_reals(lengths, 3, &mut score),
         rooms::lent_words(lengths, 4, &mut truechild),
         rooms::lent_words(lengths, 5, &mut falsechild),
-        rooms::lent_words(lengths, 6, &mut starts),
-        rooms::lent_words(lengths, 7, &mut nodes),
-        rooms::lent_words(lengths, 8, &mut depth),
-        rooms::lent_reals(lengths, 9, &mut mass),
-        rooms::lent_words(lengths, 10, &mut searches),
-        rooms::lent_words(lengths, 11, &mut wordsused),
-        rooms::lent_words(lengths, 12, &mut thresholdsused),
-        rooms::lent_words(lengths, 13, &mut order),
-        rooms::lent_words(lengths, 14, &mut scratch),
-        rooms::lent_flags(lengths, 15, &mut flags),
-        rooms::lent_wholes(lengths, 16, &mut wholes),
-        rooms::lent_triples(lengths, 16, &mut triples),
+        rooms::lent_words(lengths, 6, &mut nodecount),
+        rooms::lent_reals(lengths, 7, &mut nodemass),
+        rooms::lent_words(lengths, 8, &mut starts),
+        rooms::lent_words(lengths, 9, &mut nodes),
+        rooms::lent_words(lengths, 10, &mut depth),
+        rooms::lent_reals(lengths, 11, &mut mass),
+        rooms::lent_words(lengths, 12, &mut searches),
+        rooms::lent_words(lengths, 13, &mut wordsused),
+        rooms::lent_words(lengths, 14, &mut thresholdsused),
+        rooms::lent_words(lengths, 15, &mut order),
+        rooms::lent_words(lengths, 16, &mut scratch),
+        rooms::lent_flags(lengths, 17, &mut flags),
+        rooms::lent_wholes(lengths, 18, &mut wholes),
+        rooms::lent_triples(lengths, 18, &mut triples),
         values,
         targets,
         weights,
@@ -161,6 +169,8 @@ fn fit(
         &score,
         &truechild,
         &falsechild,
+        &nodecount,
+        &nodemass,
         &starts,
         &nodes,
         &depth,
@@ -189,7 +199,7 @@ fn with_lists(
     let thresholdstarts = calls::after(call, l.end);
     let end = calls::after(call, thresholdstarts);
     let lengths = calls::rest(call, end);
-    if lengths.len() != 17 {
+    if lengths.len() != 19 {
         return Verdict::Malformed;
     }
     fit(

@@ -314,13 +314,17 @@ pub fn nodes<'a>(
     score: &'a [f64],
     truechild: &'a [u32],
     falsechild: &'a [u32],
+    nodecount: &'a [u32],
+    nodemass: &'a [f64],
 ) -> Check {
     let d = reals(answer, lengths, c, value);
     let e = words(answer, lengths, d, feature);
     let f = reals(answer, lengths, e, threshold);
     let g = reals(answer, lengths, f, score);
     let h = words(answer, lengths, g, truechild);
-    words(answer, lengths, h, falsechild)
+    let i = words(answer, lengths, h, falsechild);
+    let j = words(answer, lengths, i, nodecount);
+    reals(answer, lengths, j, nodemass)
 }
 
 pub fn work<'a>(

@@ -35,6 +35,8 @@ fn compare<'a>(
     score: &'a [f64],
     truechild: &'a [u32],
     falsechild: &'a [u32],
+    nodecount: &'a [u32],
+    nodemass: &'a [f64],
     order: &'a [u32],
     scratch: &'a [u32],
     flags: &'a [bool],
@@ -53,6 +55,8 @@ fn compare<'a>(
         score,
         truechild,
         falsechild,
+        nodecount,
+        nodemass,
     );
     let e = rooms::work(answer, lengths, d, order, scratch, flags, wholes, triples);
     rooms::judged(answer, &told, e)
@@ -79,6 +83,8 @@ fn fit(
     let mut score = [9.0; 64];
     let mut truechild = [9u32; 64];
     let mut falsechild = [9u32; 64];
+    let mut nodecount = [9u32; 64];
+    let mut nodemass = [9.0; 64];
     let mut order = [9u32; 64];
     let mut scratch = [9u32; 64];
     let mut flags = [true; 64];
@@ -91,11 +97,13 @@ fn fit(
         rooms::lent_reals(lengths, 3, &mut score),
         rooms::lent_words(lengths, 4, &mut truechild),
         rooms::lent_words(lengths, 5, &mut falsechild),
-        rooms::lent_words(lengths, 6, &mut order),
-        rooms::lent_words(lengths, 7, &mut scratch),
-        rooms::lent_flags(lengths, 8, &mut flags),
-        rooms::lent_wholes(lengths, 9, &mut wholes),
-        rooms::lent_triples(lengths, 9, &mut triples),
+        rooms::lent_words(lengths, 6, &mut nodecount),
+        rooms::lent_reals(lengths, 7, &mut nodemass),
+        rooms::lent_words(lengths, 8, &mut order),
+        rooms::lent_words(lengths, 9, &mut scratch),
+        rooms::lent_flags(lengths, 10, &mut flags),
+        rooms::lent_wholes(lengths, 11, &mut wholes),
+        rooms::lent_triples(lengths, 11, &mut triples),
         values,
         targets,
         weights,
@@ -117,6 +125,8 @@ fn fit(
         &score,
         &truechild,
         &falsechild,
+        &nodecount,
+        &nodemass,
         &order,
         &scratch,
         &flags,
@@ -136,7 +146,7 @@ fn with_lists(
 ) -> Verdict {
     let l = calls::lists_at(call, 8);
     let lengths = calls::rest(call, l.end);
-    if lengths.len() != 10 {
+    if lengths.len() != 12 {
         return Verdict::Malformed;
     }
     fit(

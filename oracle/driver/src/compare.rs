@@ -1,5 +1,6 @@
 //! Compares both judges on generated inputs or on the fixed list.
 
+use crate::behind;
 use crate::call::calls::{Call, Reader};
 use crate::call::fault::Fault;
 use crate::damage::faults;
@@ -17,6 +18,7 @@ use crate::limits::file as limits_file;
 use crate::limits::fit as limits_fit;
 use crate::limits::listings as limits_listings;
 use crate::limits::read as limits_read;
+use crate::make::behind as make_behind;
 use crate::make::chance::Chance;
 use crate::make::crafted;
 use crate::make::exhaustive;
@@ -86,6 +88,7 @@ pub fn fixed() -> Vec<Case> {
     let mut cases = rehearsal::cases();
     cases.extend(crafted::cases());
     cases.extend(lower::cases());
+    cases.extend(make_behind::cases());
     cases.extend(faults::cases());
     cases.extend(places::cases());
     cases
@@ -135,8 +138,9 @@ pub fn files(mut tally: Tally, count: usize) -> ExitCode {
     tally.end("files", &Counts::each(0))
 }
 
-/// Compares generated cases, `count` of them random, damaged listings, what docs/DIFFERENCES.md says, smartcore's own `fit`s, trees with
-/// others that differ in rows left out, small fits that cut at measured values, and files, so many of which are damaged.
+/// Compares generated cases, `count` of them random, damaged listings, what docs/DIFFERENCES.md says, counts and masses found by hand,
+/// smartcore's own `fit`s, trees with others that differ in rows left out, small fits that cut at measured values, and files, so many of
+/// which are damaged.
 pub fn compare(mut tally: Tally, count: usize, damaged: usize, least: &Counts) -> ExitCode {
     let mut chance = Chance::new(1);
     fixed().iter().for_each(|case| tally.hold(case));
@@ -153,6 +157,7 @@ pub fn compare(mut tally: Tally, count: usize, damaged: usize, least: &Counts) -
     random(&mut tally, &mut chance, count);
     listing::each(&mut Chance::new(9), count / 10, |case| tally.hold(&case));
     differences::hold(&mut tally);
+    behind::hold(&mut tally);
     own::hold(&mut tally, &mut chance, count / 100);
     left_out::hold(&mut tally, &mut Chance::new(6), count / 100);
     let measured = count / 2;

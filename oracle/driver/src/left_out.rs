@@ -120,10 +120,10 @@ fn part(fit: &Fit, left: &Outcome, tree: usize) -> Option<Vec<u64>> {
     if !fit.forest {
         return Some(left.encode());
     }
-    let starts = &left.rooms[6].entries;
+    let starts = &left.rooms[8].entries;
     let nodes = starts[tree] as usize..starts[tree + 1] as usize;
-    let columns = left.rooms[..6].iter();
+    let columns = left.rooms[..8].iter();
     let columns = columns.flat_map(|room| room.entries[nodes.clone()].to_vec());
-    let reports = left.rooms[7..13].iter().map(|room| room.entries[tree]);
+    let reports = left.rooms[9..15].iter().map(|room| room.entries[tree]);
     Some(columns.chain(reports).collect())
 }

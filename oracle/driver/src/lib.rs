@@ -1,5 +1,6 @@
 //! The driver: makes inputs, runs both judges on them and compares the answers.
 
+mod behind;
 pub mod call;
 pub mod compare;
 mod damage;

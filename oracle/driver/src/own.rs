@@ -71,8 +71,10 @@ fn forest(library: &dyn Library, chance: &mut Chance) -> (Fit, bool) {
     let left = played(library, chance, &mut fit, &tapes);
     let trees: Vec<Vec<NodeRecord>> = own.trees.iter().map(|tree| tree.nodes()).collect();
     let nodes = trees.concat();
-    let columns = expect::columns(&nodes);
-    let starts = left.rooms[6].entries[..=fit.trees].iter();
+    let [counts, masses] = expect::behind_all(&fit, &own.trees);
+    let six = expect::columns(&nodes).into_iter();
+    let columns: Vec<Vec<u64>> = six.chain([counts, masses]).collect();
+    let starts = left.rooms[8].entries[..=fit.trees].iter();
     let read = Read {
         rows: fit.rows,
         features: fit.features,

@@ -1,5 +1,6 @@
 //! What was compared: how many inputs of each kind, and the shortest one that differs.
 
+use crate::call::behind;
 use crate::call::calls::{Call, Reader};
 use crate::call::splits;
 use crate::judge::case::Case;
@@ -56,6 +57,8 @@ pub struct Counts {
     /// Among the trees and forests, those with cuts at measured values and a split: all, those with ties, with both zeros, and with
     /// one of the two as a threshold (`splits::shown`).
     pub measured: [usize; 4],
+    /// Among the trees and forests, and those refused by 6, what `behind::shown` finds.
+    pub behind: [usize; behind::SHOWN.len()],
     /// The calls about files (`FILES`). They are counted here alone.
     pub files: [usize; FILES.len()],
     /// Pairs of trees with a split that differ in rows left out: with cuts halfway, and at measured values.
@@ -81,6 +84,7 @@ impl Counts {
             refusals: [count; REFUSALS.len()],
             damaged: [count; SHOWN.len()],
             measured: [count; 4],
+            behind: [count; behind::SHOWN.len()],
             files: [0; FILES.len()],
             pairs: [0; 2],
         }
@@ -96,6 +100,9 @@ impl Counts {
             && fit.measured()
         {
             count(&mut self.measured, splits::shown(fit, answer));
+        }
+        if let (0 | 6, Call::Fit(fit)) = (refusal, call) {
+            count(&mut self.behind, behind::shown(fit, answer));
         }
         if (11..=13).contains(&refusal) {
             count(&mut self.damaged, listings::shown(call, answer));
@@ -129,7 +136,8 @@ impl Counts {
     /// Every number that has a minimum.
     fn all(&self) -> impl Iterator<Item = usize> {
         let damaged = self.kinds().chain(self.damaged);
-        damaged.chain(self.measured).chain(self.pairs)
+        let fits = self.measured.into_iter().chain(self.behind);
+        damaged.chain(fits).chain(self.pairs)
     }
 
     fn reach(&self, least: &Counts) -> bool {
@@ -152,6 +160,14 @@ impl Counts {
     fn tell_files(&self, to: &mut fmt::Formatter) -> fmt::Result {
         write!(to, " of files:")?;
         for (what, count) in FILES.iter().zip(self.files) {
+            write!(to, " {count} {what},")?;
+        }
+        Ok(())
+    }
+
+    fn tell_behind(&self, to: &mut fmt::Formatter) -> fmt::Result {
+        write!(to, " counts and masses of fits:")?;
+        for (what, count) in behind::SHOWN.iter().zip(self.behind) {
             write!(to, " {count} {what},")?;
         }
         Ok(())
@@ -193,6 +209,7 @@ impl fmt::Display for Counts {
         write!(to, "{checks} checks passed, {bad_draws} bad draws, ")?;
         self.tell_refused(to)?;
         self.tell_files(to)?;
+        self.tell_behind(to)?;
         self.tell_measured(to)
     }
 }

@@ -4,7 +4,7 @@ use crate::calls::{Draws, ForestCall, Given, Refusal, TreeAnswer, TreeCall};
 use crate::checks;
 use crate::growth::{Grown, Record, Seed};
 use crate::listings::listings_fault;
-use crate::rooms::{Columns, ForestRooms, TreeRooms};
+use crate::rooms::{Behind, Columns, ForestRooms, TreeRooms};
 
 /// The number of nodes that a tree requires room for: max(1, 2 x kept rows - 1).
 fn asked(seed: &Seed) -> usize {
@@ -31,6 +31,11 @@ fn first_refusal(
     }
 }
 
+/// The number of nodes that there is room for: the shortest of the eight columns decides.
+fn room(nodes: &Columns, behind: &Behind) -> usize {
+    nodes.room().min(behind.room())
+}
+
 fn tree_refusal(seed: &Seed, rooms: &TreeRooms) -> Refusal {
     let given = seed.given;
     first_refusal(
@@ -43,7 +48,10 @@ fn tree_refusal(seed: &Seed, rooms: &TreeRooms) -> Refusal {
             (4, &|| checks::counts_small(given)),
         ],
         given,
-        &|| rooms.nodes.room() >= asked(seed) && rooms.work.enough(given.rows, given.features),
+        &|| {
+            room(&rooms.nodes, &rooms.behind) >= asked(seed)
+                && rooms.work.enough(given.rows, given.features)
+        },
     )
 }
 
@@ -65,7 +73,7 @@ pub fn fit_tree(call: &TreeCall, rooms: &mut TreeRooms) -> TreeAnswer {
     rooms.work.zero();
     match seed.grow() {
         Ok(grown) => {
-            write(&grown.nodes, &mut rooms.nodes, 0);
+            write_grown(&grown, &mut rooms.nodes, &mut rooms.behind, 0);
             TreeAnswer {
                 numbers: grown.numbers,
                 ..TreeAnswer::default()
@@ -73,6 +81,7 @@ pub fn fit_tree(call: &TreeCall, rooms: &mut TreeRooms) -> TreeAnswer {
         }
         Err(bad) => {
             rooms.nodes.zero();
+            rooms.behind.zero();
             TreeAnswer {
                 refusal: bad_draw(0, bad.search),
                 ..TreeAnswer::default()
@@ -99,6 +108,15 @@ pub fn write(nodes: &[Record], columns: &mut Columns, from: usize) {
         columns.score[from + place] = node.score;
         columns.true_child[from + place] = node.true_child;
         columns.false_child[from + place] = node.false_child;
+    }
+}
+
+/// Writes a grown tree to all eight columns from a position on.
+fn write_grown(grown: &Grown, columns: &mut Columns, behind: &mut Behind, from: usize) {
+    write(&grown.nodes, columns, from);
+    for (place, (count, mass)) in grown.behind.iter().enumerate() {
+        behind.count[from + place] = *count as u32;
+        behind.mass[from + place] = *mass;
     }
 }
 
@@ -148,7 +166,7 @@ fn forest_refusal(call: &ForestCall, rooms: &ForestRooms) -> Refusal {
         given,
         &|| {
             let asked: usize = (0..trees).map(|tree| asked(&seed_of(call, tree))).sum();
-            rooms.nodes.room() >= asked
+            room(&rooms.nodes, &rooms.behind) >= asked
                 && rooms.starts.len() > trees
                 && rooms.reports.lengths() == [trees; 6]
                 && rooms.work.enough(given.rows, given.features)
@@ -168,6 +186,7 @@ pub fn fit_forest(call: &ForestCall, rooms: &mut ForestRooms) -> Refusal {
             Ok(next) => grown.push(next),
             Err(bad) => {
                 rooms.nodes.zero();
+                rooms.behind.zero();
                 rooms.starts.fill(0);
                 rooms.reports.zero();
                 return bad_draw(tree, bad.search);
@@ -183,7 +202,7 @@ fn lay_out(grown: &[Grown], rooms: &mut ForestRooms) {
     let mut start = 0;
     rooms.starts[0] = 0;
     for (tree, one) in grown.iter().enumerate() {
-        write(&one.nodes, &mut rooms.nodes, start);
+        write_grown(one, &mut rooms.nodes, &mut rooms.behind, start);
         start += one.nodes.len();
         rooms.starts[tree + 1] = start as u32;
         rooms.reports.nodes[tree] = one.numbers.nodes;

@@ -16,6 +16,8 @@ pub struct Record {
 
 pub struct Grown {
     pub nodes: Vec<Record>,
+    /// The kept counts in each node, and its mass.
+    pub behind: Vec<(u64, f64)>,
     pub numbers: Numbers,
 }
 
@@ -53,6 +55,7 @@ struct Stand {
 struct Growth<'a> {
     seed: &'a Seed<'a>,
     nodes: Vec<Record>,
+    behind: Vec<(u64, f64)>,
     waiting: Vec<(Stand, Held)>,
     depth: u32,
     searches: u32,
@@ -130,13 +133,15 @@ impl Seed<'_> {
         let root_mass = root.totals.mass;
         let mut growth = Growth {
             seed: self,
-            nodes: vec![leaf(root.totals)],
+            nodes: Vec::new(),
+            behind: Vec::new(),
             waiting: Vec::new(),
             depth: 0,
             searches: 0,
             words_used: 0,
             thresholds_used: 0,
         };
+        growth.add_leaf(root.totals, root.count);
         if !root.columns[0].is_empty() {
             growth.search_if_allowed(root)?;
         }
@@ -153,15 +158,9 @@ impl Seed<'_> {
         };
         Ok(Grown {
             nodes: growth.nodes,
+            behind: growth.behind,
             numbers,
         })
-    }
-}
-
-fn leaf(totals: Totals) -> Record {
-    Record {
-        value: totals.value(),
-        ..Record::default()
     }
 }
 
@@ -311,15 +310,25 @@ impl<'a> Growth<'a> {
         self.search_if_allowed(false_child)
     }
 
+    /// A new node is a leaf. The mass behind it is the one that its value is divided by, or would be; a split changes neither.
+    fn add_leaf(&mut self, totals: Totals, count: u64) -> usize {
+        self.nodes.push(Record {
+            value: totals.value(),
+            ..Record::default()
+        });
+        self.behind.push((count, totals.mass));
+        self.nodes.len() - 1
+    }
+
     /// The next node, with totals added up in the order of the split column.
     fn child(&mut self, level: u32, feature: usize, columns: Vec<Vec<u32>>) -> Stand {
         let totals = self.seed.add_all(&columns[feature]);
+        let count = self.seed.count_all(&columns[feature]);
         self.depth = self.depth.max(level);
-        self.nodes.push(leaf(totals));
         Stand {
-            number: self.nodes.len() - 1,
+            number: self.add_leaf(totals, count),
             level,
-            count: self.seed.count_all(&columns[feature]),
+            count,
             totals,
             columns,
         }

@@ -26,5 +26,7 @@ pub use readers::{
     Divisor, forest_importances, forest_means, out_of_bag_error, out_of_bag_means, predictions,
     tree_importances,
 };
-pub use rooms::{Columns, ForestRooms, ModelRooms, Reports, Table, TreeRooms, Waiting, Work};
+pub use rooms::{
+    Behind, Columns, ForestRooms, ModelRooms, Reports, Table, TreeRooms, Waiting, Work,
+};
 pub use tables::{Cut, Kind, Node, NodeRead, check_forest, check_tree, read_node};

@@ -1,6 +1,6 @@
 //! The rooms that a call writes to, and the node columns that it reads.
 
-/// Room for nodes: six columns, of which the shortest decides how many nodes there is room for.
+/// Room for nodes: six columns. The shortest decides how many nodes there is room for; in a fit the two of `Behind` count as well.
 pub struct Columns<'a> {
     pub value: &'a mut [f64],
     pub feature: &'a mut [u32],
@@ -8,6 +8,12 @@ pub struct Columns<'a> {
     pub score: &'a mut [f64],
     pub true_child: &'a mut [u32],
     pub false_child: &'a mut [u32],
+}
+
+/// Room for what stands behind the nodes of a fit: two more columns, the kept counts in each node and its mass.
+pub struct Behind<'a> {
+    pub count: &'a mut [u32],
+    pub mass: &'a mut [f64],
 }
 
 /// The report columns of a forest, one entry per tree.
@@ -41,11 +47,13 @@ pub struct Work<'a> {
 
 pub struct TreeRooms<'a> {
     pub nodes: Columns<'a>,
+    pub behind: Behind<'a>,
     pub work: Work<'a>,
 }
 
 pub struct ForestRooms<'a> {
     pub nodes: Columns<'a>,
+    pub behind: Behind<'a>,
     pub starts: &'a mut [u32],
     pub reports: Reports<'a>,
     pub work: Work<'a>,
@@ -93,6 +101,17 @@ impl Columns<'_> {
         self.score.fill(0.0);
         self.true_child.fill(0);
         self.false_child.fill(0);
+    }
+}
+
+impl Behind<'_> {
+    pub(crate) fn room(&self) -> usize {
+        self.count.len().min(self.mass.len())
+    }
+
+    pub(crate) fn zero(&mut self) {
+        self.count.fill(0);
+        self.mass.fill(0.0);
     }
 }
 

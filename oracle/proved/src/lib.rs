@@ -37,7 +37,11 @@ macro_rules! over {
 
 impl Library for Proved {
     fn fit_tree(&self, call: &TreeCall, rooms: &mut TreeRooms) -> TreeAnswer {
-        let TreeRooms { nodes, work } = rooms;
+        let TreeRooms {
+            nodes,
+            behind,
+            work,
+        } = rooms;
         let (given, draws) = (&call.given, &call.draws);
         let mut stack = Stack::new(work.waiting.len(), lot(given, draws.words));
         let told = either::fit_tree(
@@ -47,6 +51,8 @@ impl Library for Proved {
             nodes.score,
             nodes.true_child,
             nodes.false_child,
+            behind.count,
+            behind.mass,
             work.columns,
             work.scratch,
             work.flags,
@@ -80,6 +86,7 @@ impl Library for Proved {
     fn fit_forest(&self, call: &ForestCall, rooms: &mut ForestRooms) -> Refusal {
         let ForestRooms {
             nodes,
+            behind,
             starts,
             reports,
             work,
@@ -93,6 +100,8 @@ impl Library for Proved {
             nodes.score,
             nodes.true_child,
             nodes.false_child,
+            behind.count,
+            behind.mass,
             starts,
             reports.nodes,
             reports.depth,

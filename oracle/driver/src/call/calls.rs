@@ -29,8 +29,8 @@ pub struct Fit {
 
 #[derive(Clone, Copy, Debug, Default)]
 pub struct Lengths {
-    /// value, feature, threshold, score, true child, false child
-    pub nodes: [usize; 6],
+    /// value, feature, threshold, score, true child, false child, count, mass
+    pub nodes: [usize; 8],
     pub starts: usize,
     /// nodes, depth, root mass, searches, words used, thresholds used
     pub reports: [usize; 6],

@@ -10,7 +10,7 @@ fn splits(fit: &Fit, answer: &[u64]) -> BTreeSet<(usize, usize, bool)> {
     let told = if fit.forest { 4 } else { 10 };
     let rooms = outcome::written(&answer[told..]);
     let entry = |room: usize, node: usize| rooms[room].get(node).copied().unwrap_or(0);
-    let starts: &[u64] = if fit.forest { rooms[6] } else { &[0] };
+    let starts: &[u64] = if fit.forest { rooms[8] } else { &[0] };
     let true_children = rooms[4].iter().enumerate();
     let nodes = true_children.filter(|(_, child)| **child != 0);
     nodes

@@ -30,7 +30,7 @@ pub fn good(forest: bool, weighted: bool) -> Fit {
     }
     make_fit::rooms(&mut Chance::new(0), &mut fit);
     let asked = 3 * trees;
-    fit.rooms.nodes = [asked; 6];
+    fit.rooms.nodes = [asked; 8];
     fit.rooms.work = [6, 2, 3, 2];
     if forest {
         fit.rooms.starts = trees + 1;
@@ -117,8 +117,9 @@ fn numbers(faults: &mut Faults) {
 fn rooms(faults: &mut Faults) {
     for forest in [false, true] {
         let base = good(forest, false);
-        for column in 0..6 {
+        for column in 0..8 {
             faults.add(&base, 6, |fit| fit.rooms.nodes[column] -= 1);
+            faults.add(&base, 0, |fit| fit.rooms.nodes[column] += 1);
         }
         for part in 0..4 {
             faults.add(&base, 6, |fit| fit.rooms.work[part] -= 1);

@@ -132,7 +132,6 @@ fn counts(chance: &mut Chance, fit: &mut Fit) -> bool {
 
 fn rooms(chance: &mut Chance, fit: &mut Fit) -> bool {
     let asked: usize = (0..fit.trees).map(|tree| fit.asked(tree)).sum();
-    let column = chance.below(6);
     let need = [
         fit.rows * fit.features,
         fit.rows,
@@ -140,13 +139,19 @@ fn rooms(chance: &mut Chance, fit: &mut Fit) -> bool {
         fit.rows,
     ];
     match chance.below(if fit.forest { 6 } else { 3 }) {
-        0 | 1 => fit.rooms.nodes[column] = chance.pick(&[asked - 1, asked - 1, 0]),
+        0 | 1 => {
+            let column = chance.below(8);
+            fit.rooms.nodes[column] = chance.pick(&[asked - 1, asked - 1, 0]);
+        }
         2 | 3 => {
             let part = chance.below(4);
             fit.rooms.work[part] = chance.pick(&[need[part] - 1, need[part] - 1, 0]);
         }
         4 => fit.rooms.starts = chance.pick(&[fit.trees, fit.trees, 0]),
-        _ => fit.rooms.reports[column] = chance.pick(&[fit.trees - 1, fit.trees + 1]),
+        _ => {
+            let column = chance.below(6);
+            fit.rooms.reports[column] = chance.pick(&[fit.trees - 1, fit.trees + 1]);
+        }
     }
     true
 }

@@ -1,9 +1,10 @@
-//! The expected answer: that of the copy if smartcore has one, with other thresholds if they are to be measured values; otherwise the
-//! refusal for the fault in the input, with every room unchanged.
+//! The expected answer: that of the copy if smartcore has one, with other thresholds if they are to be measured values, and with the two
+//! columns that smartcore does not have; otherwise the refusal for the fault in the input, with every room unchanged.
 
 use crate::call::calls::{Call, File, Fit, Read, Reader};
 use crate::call::fault::Fault;
 use crate::call::outcome::{FILL, FILL_FLOAT, Outcome, Room, bits};
+use crate::judge::behind;
 use crate::judge::copied::{data, params, tree_counts};
 use crate::judge::fields;
 use crate::judge::measured;
@@ -70,7 +71,7 @@ pub fn splits(fit: &Fit, tree: usize) -> bool {
     grow(fit, tree).is_ok_and(|grown| grown.nodes().len() > 1)
 }
 
-/// The six columns of nodes.
+/// The six columns of nodes that smartcore has.
 pub fn columns(nodes: &[NodeRecord]) -> [Vec<u64>; 6] {
     let of = |field: fn(&NodeRecord) -> u64| nodes.iter().map(field).collect();
     [
@@ -95,7 +96,8 @@ fn numbers(grown: &Grown, nodes: &[NodeRecord]) -> [u64; 6] {
     ]
 }
 
-const NODE_FLOATS: [bool; 6] = [true, false, true, true, false, false];
+/// The columns of nodes in their order, with the two that only a fit has, and those of the reports.
+const NODE_FLOATS: [bool; 8] = [true, false, true, true, false, false, false, true];
 const REPORT_FLOATS: [bool; 6] = [false, false, true, false, false, false];
 
 /// The entries of a room before the call.
@@ -109,7 +111,7 @@ fn untouched(length: usize, float: bool) -> Room {
 
 /// All rooms of a fit as they are before the call: nodes, starts and reports, work.
 fn rooms_before(fit: &Fit) -> Vec<Room> {
-    let mut rooms: Vec<Room> = (0..6)
+    let mut rooms: Vec<Room> = (0..8)
         .map(|i| untouched(fit.rooms.nodes[i], NODE_FLOATS[i]))
         .collect();
     if fit.forest {
@@ -152,6 +154,17 @@ fn expect_fit(fit: &Fit, fault: Fault) -> Outcome {
     Outcome { told, rooms }
 }
 
+/// The counts and the masses of all nodes, tree after tree.
+pub fn behind_all(fit: &Fit, trees: &[Grown]) -> [Vec<u64>; 2] {
+    let mut all = [Vec::new(), Vec::new()];
+    for (tree, grown) in trees.iter().enumerate() {
+        for (column, entries) in all.iter_mut().zip(behind::columns(fit, tree, grown)) {
+            column.extend(entries);
+        }
+    }
+    all
+}
+
 fn answered(fit: &Fit, trees: &[Grown], told: &mut [u64], rooms: &mut [Room]) {
     let mut tables: Vec<Vec<NodeRecord>> = trees.iter().map(Grown::nodes).collect();
     if fit.measured() {
@@ -160,6 +173,9 @@ fn answered(fit: &Fit, trees: &[Grown], told: &mut [u64], rooms: &mut [Room]) {
         }
     }
     for (room, column) in rooms.iter_mut().zip(columns(&tables.concat())) {
+        put(room, &column);
+    }
+    for (room, column) in rooms[6..].iter_mut().zip(behind_all(fit, trees)) {
         put(room, &column);
     }
     let reports: Vec<[u64; 6]> = trees
@@ -172,10 +188,10 @@ fn answered(fit: &Fit, trees: &[Grown], told: &mut [u64], rooms: &mut [Room]) {
         for nodes in &tables {
             starts.push(starts[starts.len() - 1] + nodes.len() as u64);
         }
-        put(&mut rooms[6], &starts);
+        put(&mut rooms[8], &starts);
         for column in 0..6 {
             let entries: Vec<u64> = reports.iter().map(|report| report[column]).collect();
-            put(&mut rooms[7 + column], &entries);
+            put(&mut rooms[9 + column], &entries);
         }
     } else {
         told[4..].copy_from_slice(&reports[0]);

@@ -4,8 +4,8 @@ use crate::call::calls::{Call, File, Fit, Lengths, Read, Reader, Table};
 use crate::call::outcome::{FILL, FILL_FLOAT, Outcome, Room, bits};
 use crate::judge::library::Library;
 use paper::{
-    Columns, CutAt, Cuts, Divisor, Draws, ForestCall, ForestRooms, Given, ModelRooms, Refusal,
-    Reports, Settings, Splitter, TreeCall, TreeRooms, Waiting, Work,
+    Behind, Columns, CutAt, Cuts, Divisor, Draws, ForestCall, ForestRooms, Given, ModelRooms,
+    Refusal, Reports, Settings, Splitter, TreeCall, TreeRooms, Waiting, Work,
 };
 
 pub fn run(library: &dyn Library, call: &Call) -> Outcome {
@@ -28,8 +28,8 @@ const WAITING: Waiting = Waiting {
 
 /// Rooms of the given lengths, filled with nines.
 struct Owned {
-    floats: [Vec<f64>; 3],
-    numbers: [Vec<u32>; 3],
+    floats: [Vec<f64>; 4],
+    numbers: [Vec<u32>; 4],
     starts: Vec<u32>,
     report_numbers: [Vec<u32>; 5],
     report_mass: Vec<f64>,
@@ -41,13 +41,22 @@ struct Owned {
 
 impl Owned {
     fn new(lengths: &Lengths) -> Self {
-        let [value, feature, threshold, score, on_true, on_false] = lengths.nodes;
+        let [
+            value,
+            feature,
+            threshold,
+            score,
+            on_true,
+            on_false,
+            count,
+            behind,
+        ] = lengths.nodes;
         let [nodes, depth, mass, searches, words, thresholds] = lengths.reports;
         let [columns, scratch, flags, waiting] = lengths.work;
         let nines = |length: usize| vec![FILL as u32; length];
         Owned {
-            floats: [value, threshold, score].map(|length| vec![FILL_FLOAT; length]),
-            numbers: [feature, on_true, on_false].map(nines),
+            floats: [value, threshold, score, behind].map(|length| vec![FILL_FLOAT; length]),
+            numbers: [feature, on_true, on_false, count].map(nines),
             starts: nines(lengths.starts),
             report_numbers: [nodes, depth, searches, words, thresholds].map(nines),
             report_mass: vec![FILL_FLOAT; mass],
@@ -59,8 +68,8 @@ impl Owned {
     }
 
     fn lend(&mut self) -> ForestRooms<'_> {
-        let [value, threshold, score] = &mut self.floats;
-        let [feature, true_child, false_child] = &mut self.numbers;
+        let [value, threshold, score, mass] = &mut self.floats;
+        let [feature, true_child, false_child, count] = &mut self.numbers;
         let [nodes, depth, searches, words_used, thresholds_used] = &mut self.report_numbers;
         ForestRooms {
             nodes: Columns {
@@ -71,6 +80,7 @@ impl Owned {
                 true_child,
                 false_child,
             },
+            behind: Behind { count, mass },
             starts: &mut self.starts,
             reports: Reports {
                 nodes,
@@ -90,8 +100,8 @@ impl Owned {
     }
 
     fn node_rooms(&self) -> Vec<Room> {
-        let [value, threshold, score] = &self.floats;
-        let [feature, true_child, false_child] = &self.numbers;
+        let [value, threshold, score, _] = &self.floats;
+        let [feature, true_child, false_child, _] = &self.numbers;
         vec![
             Room::floats(value),
             Room::numbers(feature),
@@ -104,6 +114,8 @@ impl Owned {
 
     fn rooms(&self, forest: bool) -> Vec<Room> {
         let mut rooms = self.node_rooms();
+        rooms.push(Room::numbers(&self.numbers[3]));
+        rooms.push(Room::floats(&self.floats[3]));
         if forest {
             let [nodes, depth, searches, words, thresholds] = &self.report_numbers;
             rooms.push(Room::numbers(&self.starts));
@@ -180,8 +192,18 @@ fn run_tree(library: &dyn Library, fit: &Fit) -> Outcome {
         tried: fit.tried.expect("one tree is always given a number"),
         draws: draws(fit),
     };
-    let ForestRooms { nodes, work, .. } = owned.lend();
-    let answer = library.fit_tree(&call, &mut TreeRooms { nodes, work });
+    let ForestRooms {
+        nodes,
+        behind,
+        work,
+        ..
+    } = owned.lend();
+    let mut rooms = TreeRooms {
+        nodes,
+        behind,
+        work,
+    };
+    let answer = library.fit_tree(&call, &mut rooms);
     let n = answer.numbers;
     let mut told = told(answer.refusal);
     told.extend([u64::from(n.nodes), u64::from(n.depth), bits(n.root_mass)]);
@@ -280,8 +302,9 @@ fn run_write(library: &dyn Library, read: &Read) -> Outcome {
 }
 
 fn run_file(library: &dyn Library, file: &File) -> Outcome {
+    let [value, feature, threshold, score, on_true, on_false] = file.nodes;
     let mut owned = Owned::new(&Lengths {
-        nodes: file.nodes,
+        nodes: [value, feature, threshold, score, on_true, on_false, 0, 0],
         starts: file.starts,
         ..Lengths::default()
     });

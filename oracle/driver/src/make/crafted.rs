@@ -12,7 +12,7 @@ fn finished(mut fit: Fit) -> Case {
 
 pub fn cases() -> Vec<Case> {
     let mut cases = vec![
-        below_zero(),
+        finished(below_zero()),
         finished(minus_zero_drawn()),
         finished(one_row(0)),
         finished(one_row(1)),
@@ -32,8 +32,8 @@ pub fn cases() -> Vec<Case> {
 
 /// Added up by row number the masses are 1e16, in the order of the first column 1e16 + 2, so the false side has -2.
 /// The test makes its proxy 0, as that of the second column is, so the first cut is kept.
-fn below_zero() -> Case {
-    finished(Fit {
+pub fn below_zero() -> Fit {
+    Fit {
         rows: 4,
         features: 2,
         trees: 1,
@@ -48,7 +48,7 @@ fn below_zero() -> Case {
         listings: vec![1, 2, 0, 3, 1, 0, 2, 3],
         words: vec![0, 1],
         ..Fit::default()
-    })
+    }
 }
 
 /// A threshold of -0 is accepted where the lowest value is +0, and is stored unchanged.

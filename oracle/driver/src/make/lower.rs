@@ -27,7 +27,7 @@ fn column(x: &[f64], y: &[f64]) -> Fit {
 }
 
 /// A forest of the same data, with these counts, in which each tree has the words of the one tree.
-fn forest(fit: Fit, counts: Vec<u32>) -> Fit {
+pub fn forest(fit: Fit, counts: Vec<u32>) -> Fit {
     let trees = counts.len() / fit.rows;
     let cuts = |length: usize| (0..=trees).map(|tree| (tree * length) as u64).collect();
     Fit {

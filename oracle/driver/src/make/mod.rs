@@ -1,5 +1,6 @@
 //! Inputs that the rules accept, and inputs made by hand.
 
+pub mod behind;
 pub mod chance;
 pub mod crafted;
 pub mod exhaustive;

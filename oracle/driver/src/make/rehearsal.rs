@@ -58,7 +58,7 @@ pub fn cases() -> Vec<Case> {
     cases.push(Case::fit(refused, [12, 0, 2, 2]));
     for room in [7, 6] {
         let mut fit = with(|_| ());
-        fit.rooms.nodes = [room; 6];
+        fit.rooms.nodes = [room; 8];
         cases.push(Case::fit(fit, if room == 7 { 0 } else { 6 }));
     }
     cases
