@@ -2,9 +2,9 @@
 
 use std::ops::Range;
 
-/// Nodes in six columns; the shortest column decides how many nodes there are. The trees of a forest follow one another, each with its
-/// own node numbers starting at 0; the first node of each tree is its root. A node whose children are both 0 is a leaf; of its
-/// entries only the value means anything.
+/// Nodes in six columns, which are all that a prediction needs; the shortest column decides how many nodes there are. The trees of a forest
+/// follow one another, each with its own node numbers starting at 0; the first node of each tree is its root. A node whose children are
+/// both 0 is a leaf; of its entries only the value means anything. A fit fills two more columns, [`Behind`](crate::Behind).
 ///
 /// ```
 /// use tailboardy::{DecisionTreeRegressor, DenseMatrix};
@@ -134,18 +134,20 @@ impl Nodes {
 }
 
 impl<'a> Columns<'a> {
-    pub(crate) fn part(&self, part: Range<usize>) -> Columns<'a> {
-        fn cut<T>(column: &[T], part: &Range<usize>) -> Range<usize> {
-            let end = part.end.min(column.len());
-            part.start.min(end)..end
-        }
+    pub(crate) fn part(&self, part: &Range<usize>) -> Columns<'a> {
         Columns {
-            value: &self.value[cut(self.value, &part)],
-            feature: &self.feature[cut(self.feature, &part)],
-            threshold: &self.threshold[cut(self.threshold, &part)],
-            score: &self.score[cut(self.score, &part)],
-            true_child: &self.true_child[cut(self.true_child, &part)],
-            false_child: &self.false_child[cut(self.false_child, &part)],
+            value: cut(self.value, part),
+            feature: cut(self.feature, part),
+            threshold: cut(self.threshold, part),
+            score: cut(self.score, part),
+            true_child: cut(self.true_child, part),
+            false_child: cut(self.false_child, part),
         }
     }
+}
+
+/// The part of a column that is there.
+pub(crate) fn cut<'a, T>(column: &'a [T], part: &Range<usize>) -> &'a [T] {
+    let end = part.end.min(column.len());
+    &column[part.start.min(end)..end]
 }

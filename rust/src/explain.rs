@@ -115,7 +115,7 @@ pub(crate) fn forest(features: usize, starts: &[u32], columns: Columns) -> Optio
     sizes.or_else(|| bad_start(starts, columns)).or_else(|| {
         let trees = starts.windows(2).enumerate();
         let mut bad = trees.filter_map(|(tree, ends)| {
-            let nodes = columns.part(ends[0] as usize..ends[1] as usize);
+            let nodes = columns.part(&(ends[0] as usize..ends[1] as usize));
             let node = bad_node(features, nodes)?;
             Some(Fault::Node { tree, node })
         });

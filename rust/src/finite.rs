@@ -63,6 +63,20 @@ pub(crate) fn scores(tree: usize, scores: impl Iterator<Item = f64>) -> Result<(
     }
 }
 
+/// Checks the masses of a tree's leaves, the nodes without a true child.
+pub(crate) fn leaves(tree: usize, true_child: &[u32], mass: &[f64]) -> Result<(), Refusal> {
+    let bad = |node: &usize| true_child[*node] == 0 && !mass[*node].is_finite();
+    match (0..mass.len()).find(bad) {
+        None => Ok(()),
+        Some(node) => refused(Fault::Entry {
+            entry: "mass",
+            tree,
+            node,
+            value: mass[node],
+        }),
+    }
+}
+
 /// Checks a grown forest: cuts are compared by scores, so if these are not finite the cuts mean nothing, even where predictions are
 /// finite. Scores divide by the product of three masses, which must be in range too. `masses` are those of all rows, a tree each.
 ///

@@ -1,5 +1,6 @@
 //! Forests.
 
+use crate::behind::Behind;
 use crate::columns::{Nodes, over};
 use crate::counts::Counts;
 use crate::draws::Draws;
@@ -45,6 +46,7 @@ pub struct RandomForestRegressor {
     features: usize,
     starts: Vec<u32>,
     nodes: Nodes,
+    behind: Option<Behind>,
     reports: Vec<Report>,
     counts: Option<Counts>,
 }
@@ -99,13 +101,26 @@ impl RandomForestRegressor {
             features,
             starts: grown.starts,
             nodes: grown.nodes,
+            behind: Some(grown.behind),
             reports: grown.reports,
             counts,
         }
     }
 
+    /// From a table that is known to be valid.
+    pub(crate) fn stored(features: usize, starts: Vec<u32>, nodes: Nodes) -> Self {
+        RandomForestRegressor {
+            features,
+            starts,
+            nodes,
+            behind: None,
+            reports: Vec::new(),
+            counts: None,
+        }
+    }
+
     /// Makes a forest from a stored table: where each tree starts and the last one ends, and the nodes. The proved library checks the
-    /// table and refuses a damaged one (8). The forest has no reports and no counts.
+    /// table and refuses a damaged one (8). The forest has no reports and no counts, and nothing [`behind`](Self::behind) its nodes.
     ///
     /// ```
     /// # use tailboardy::{DenseMatrix, RandomForestRegressor};
@@ -132,13 +147,7 @@ impl RandomForestRegressor {
     ) -> Result<Self, Refusal> {
         check_forest(features, &starts, nodes.columns())?;
         nodes.keep(starts.last().map_or(0, |end| *end as usize));
-        Ok(RandomForestRegressor {
-            features,
-            starts,
-            nodes,
-            reports: Vec::new(),
-            counts: None,
-        })
+        Ok(RandomForestRegressor::stored(features, starts, nodes))
     }
 
     /// The mean of the trees' predictions for each row, as smartcore's `predict_mean`. There may be any number of rows: the library takes
@@ -275,9 +284,11 @@ impl RandomForestRegressor {
     #[must_use]
     pub fn tree(&self, tree: usize) -> Option<Tree<'_>> {
         let (start, end) = (self.starts.get(tree)?, self.starts.get(tree + 1)?);
+        let part = *start as usize..*end as usize;
         Some(Tree {
             features: self.features,
-            columns: self.nodes.columns().part(*start as usize..*end as usize),
+            columns: self.nodes.columns().part(&part),
+            behind: self.behind.as_ref().map(|it| it.part(&part)),
         })
     }
 
@@ -296,6 +307,23 @@ impl RandomForestRegressor {
     #[must_use]
     pub fn nodes(&self) -> &Nodes {
         &self.nodes
+    }
+
+    /// How many rows stand behind each node, and how much they weigh; `None` for a forest made from a table or a model file.
+    ///
+    /// ```
+    /// # use tailboardy::{DenseMatrix, RandomForestRegressor};
+    /// # let x = DenseMatrix::from_2d_array(&[[1.0], [2.0], [3.0], [4.0]])?;
+    /// # let forest = RandomForestRegressor::fit(&x, &[0.0, 0.0, 10.0, 10.0], Default::default())?;
+    /// // every bag has as many rows as there are, some of them more than once
+    /// let behind = forest.behind().unwrap();
+    /// let roots = &forest.starts()[..forest.n_trees()];
+    /// assert!(roots.iter().all(|root| behind.count[*root as usize] == 4));
+    /// # Ok::<(), tailboardy::Refusal>(())
+    /// ```
+    #[must_use]
+    pub fn behind(&self) -> Option<&Behind> {
+        self.behind.as_ref()
     }
 
     /// Where each tree starts among the nodes, and where the last one ends.

@@ -136,14 +136,15 @@ fn join(groups: Vec<Grown>) -> Grown {
         starts: vec![0],
         ..Grown::default()
     };
-    whole
-        .nodes
-        .reserve(groups.iter().map(|it| it.nodes.len()).sum());
+    let all = groups.iter().map(|it| it.nodes.len()).sum();
+    whole.nodes.reserve(all);
+    whole.behind.reserve(all);
     for group in groups {
         let base = whole.nodes.len() as u32;
         let starts = group.starts.iter().skip(1);
         whole.starts.extend(starts.map(|start| base + start));
         whole.nodes.extend(&group.nodes);
+        whole.behind.extend(&group.behind);
         whole.reports.extend_from_slice(&group.reports);
     }
     whole

@@ -26,9 +26,9 @@
 //!
 //! # What is proved, and what is not
 //!
-//! The proved library grows every tree, computes every prediction, mean, out-of-bag mean, error and importance, and turns forests into
-//! the bytes of model files and back. It also decides whether sizes, numbers, counts, listings, draws, tables and model files are valid,
-//! and refuses those that are not with a number ([`Cause`]). It terminates on every input.
+//! The proved library grows every tree, with the count and the mass of each node, computes every prediction, mean, out-of-bag mean, error
+//! and importance, and turns forests into the bytes of model files and back. It also decides whether sizes, numbers, counts, listings,
+//! draws, tables and model files are valid, and refuses those that are not with a number ([`Cause`]). It terminates on every input.
 //!
 //! The following is plain Rust in this crate, tested but not proved:
 //!
@@ -38,6 +38,7 @@
 //! - growing a forest a few trees at a time on several threads, and joining these trees into one forest
 //!   ([`RandomForestRegressor::fit_given`] is a single call of the library, and gives the same forest bit for bit);
 //! - predicting more than [`MAX_ROWS`] rows in parts, and joining these;
+//! - having the library predict with counts, or masses, in the place of values, and the median of these counts ([`Support`]);
 //! - refusing results that are not finite ([`Cause::NotFinite`]), which the library returns as smartcore does;
 //! - finding the place of what was refused ([`Fault`]), except that of a damaged listing, of a bad draw and of a damaged model file,
 //!   which the library tells;
@@ -49,6 +50,7 @@
 
 #![forbid(unsafe_code)]
 
+mod behind;
 mod columns;
 mod counts;
 mod draws;
@@ -74,8 +76,10 @@ mod rooms;
 mod scout;
 mod seed;
 mod sizes;
+mod support;
 mod tree;
 
+pub use behind::Behind;
 pub use columns::Nodes;
 pub use counts::Counts;
 pub use draws::Draws;
@@ -95,6 +99,7 @@ pub use parameters::{
 pub use refusal::{Cause, Refusal};
 pub use results::{Importances, Means, OutOfBagError, OutOfBagMeans, Report};
 pub use seed::SplitMix64;
+pub use support::Support;
 pub use tree::DecisionTreeRegressor;
 
 /// The page for those who come from smartcore. Its examples run as tests too.

@@ -5,7 +5,6 @@ use crate::explain;
 use crate::forest::RandomForestRegressor;
 use crate::limits::MAX_TREES;
 use crate::refusal::{Cause, Refusal};
-use crate::rooms::Grown;
 use crate::tree::DecisionTreeRegressor;
 use std::error::Error;
 use std::fmt;
@@ -41,8 +40,8 @@ pub enum ModelError {
 }
 
 impl RandomForestRegressor {
-    /// The forest as a model file: features, trees and nodes, in bytes that the proved library writes. Reports and bags are not part of
-    /// it. Every NaN is written with the same bits, and of a leaf only the value.
+    /// The forest as a model file: features, trees and nodes, in bytes that the proved library writes. Reports, bags and what stands
+    /// [`behind`](Self::behind) the nodes are not part of it. Every NaN is written with the same bits, and of a leaf only the value.
     ///
     /// ```
     /// use tailboardy::{DenseMatrix, RandomForestRegressor};
@@ -86,8 +85,8 @@ impl RandomForestRegressor {
     }
 
     /// Makes a forest from a model file. It predicts, bit for bit, what the forest predicts that was written, and has the same
-    /// importances and nodes; but it has no reports and no counts, as [`from_table`](Self::from_table). The proved library reads the
-    /// bytes, and refuses those that are not exactly a model.
+    /// importances and nodes; but it has no reports and no counts, and nothing [`behind`](Self::behind) its nodes, as
+    /// [`from_table`](Self::from_table). The proved library reads the bytes, and refuses those that are not exactly a model.
     ///
     /// A tree that was written alone is read as a forest of one tree.
     ///
@@ -241,13 +240,8 @@ fn read(bytes: &[u8]) -> Result<RandomForestRegressor, Refusal> {
     }
     nodes.keep(told.nodes as usize);
     starts.truncate(told.trees as usize + 1);
-    let grown = Grown {
-        nodes,
-        starts,
-        reports: Vec::new(),
-    };
     let features = told.features as usize;
-    Ok(RandomForestRegressor::grown(features, grown, None))
+    Ok(RandomForestRegressor::stored(features, starts, nodes))
 }
 
 impl From<io::Error> for ModelError {

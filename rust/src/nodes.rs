@@ -1,5 +1,6 @@
 //! Trees and their nodes, read out one by one.
 
+use crate::behind::Backing;
 use crate::columns::{Columns, over};
 use crate::matrix::DenseMatrix;
 use crate::refusal::Refusal;
@@ -13,7 +14,12 @@ use crate::{explain, finite, parts};
 ///
 /// let x = DenseMatrix::from_2d_array(&[[1.0], [2.0]])?;
 /// let tree = DecisionTreeRegressor::fit(&x, &[5.0, 7.0], Default::default())?;
-/// assert_eq!(tree.node(1), Some(Node { value: 5.0, kind: Kind::Leaf }));
+/// let leaf = Node { value: 5.0, kind: Kind::Leaf, count: Some(1), mass: Some(1.0) };
+/// assert_eq!(tree.node(1), Some(leaf));
+///
+/// // a table of nodes does not say how many rows are in them
+/// let stored = DecisionTreeRegressor::from_table(1, tree.nodes().clone())?;
+/// assert_eq!(stored.node(1), Some(Node { count: None, mass: None, ..leaf }));
 /// # Ok::<(), tailboardy::Refusal>(())
 /// ```
 #[derive(Debug, Clone, Copy, PartialEq)]
@@ -22,6 +28,11 @@ pub struct Node {
     pub value: f64,
     /// A leaf, or a split and how it is made.
     pub kind: Kind,
+    /// The number of rows in the node, each counted as often as it is in the tree's bag. `None` if the tree was made from a table or read
+    /// from a model file, which do not have it.
+    pub count: Option<u32>,
+    /// The mass of these rows, which the value was divided by; see [`Behind::mass`](crate::Behind::mass). `None` in the same cases.
+    pub mass: Option<f64>,
 }
 
 /// What a node is.
@@ -94,6 +105,8 @@ pub struct Split {
 pub struct Tree<'a> {
     pub(crate) features: usize,
     pub(crate) columns: Columns<'a>,
+    /// `None` if it was not fitted here.
+    pub(crate) behind: Option<Backing<'a>>,
 }
 
 impl<'a> Tree<'a> {
@@ -103,8 +116,8 @@ impl<'a> Tree<'a> {
         self.columns.value.len()
     }
 
-    /// The node with this number, if there is one, read by the proved library. The library checks the whole table each time;
-    /// [`nodes`](Tree::nodes) is the faster way to read all of them.
+    /// The node with this number, if there is one, read by the proved library, except its count and mass, which are read directly from
+    /// their columns. The library checks the whole table each time; [`nodes`](Tree::nodes) is the faster way to read all of them.
     #[must_use]
     pub fn node(&self, number: usize) -> Option<Node> {
         let told = over!(read_node(self.features; self.columns; number));
@@ -116,20 +129,20 @@ impl<'a> Tree<'a> {
                 true_child: told.true_child as usize,
                 false_child: told.false_child as usize,
             };
-            Node::new(told.value, fork)
+            Node::new(told.value, fork, self.behind, number)
         })
     }
 
     /// All nodes in order of their numbers, read directly from the columns.
     pub fn nodes(&self) -> impl Iterator<Item = Node> + use<'a> {
-        let columns = self.columns;
+        let (columns, behind) = (self.columns, self.behind);
         let value = columns.value.iter();
         let feature = value.zip(columns.feature);
         let threshold = feature.zip(columns.threshold);
         let score = threshold.zip(columns.score);
         let children = score.zip(columns.true_child).zip(columns.false_child);
-        children.map(
-            |(((((value, feature), threshold), score), true_child), false_child)| {
+        children.enumerate().map(
+            move |(number, (((((value, feature), threshold), score), true_child), false_child))| {
                 let fork = Split {
                     feature: *feature as usize,
                     threshold: *threshold,
@@ -137,7 +150,7 @@ impl<'a> Tree<'a> {
                     true_child: *true_child as usize,
                     false_child: *false_child as usize,
                 };
-                Node::new(*value, fork)
+                Node::new(*value, fork, behind, number)
             },
         )
     }
@@ -203,12 +216,17 @@ impl<'a> Tree<'a> {
 }
 
 impl Node {
-    fn new(value: f64, fork: Split) -> Self {
+    fn new(value: f64, fork: Split, behind: Option<Backing>, number: usize) -> Self {
         let kind = match (fork.true_child, fork.false_child) {
             (0, 0) => Kind::Leaf,
             _ => Kind::Split(fork),
         };
-        Node { value, kind }
+        Node {
+            value,
+            kind,
+            count: behind.and_then(|it| it.count.get(number).copied()),
+            mass: behind.and_then(|it| it.mass.get(number).copied()),
+        }
     }
 }
 

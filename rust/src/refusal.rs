@@ -6,8 +6,9 @@ use std::error::Error;
 use std::fmt;
 
 /// Why a call was refused. The number comes from the proved library, except 100, by which this crate refuses a result that is not
-/// finite. The [`Fault`] tells a person where to look. The place of a damaged listing, of a bad draw and of a damaged model file comes
-/// from the library too; any other is found by plain Rust code that examines the same input.
+/// finite, and 101, by which it refuses what a stored forest does not have. The [`Fault`] tells a person where to look. The place of a
+/// damaged listing, of a bad draw and of a damaged model file comes from the library too; any other is found by plain Rust code that
+/// examines the same input.
 ///
 /// ```
 /// use tailboardy::{Cause, DenseMatrix, RandomForestRegressor};
@@ -42,7 +43,7 @@ pub struct Refusal {
 /// # Ok::<(), tailboardy::Refusal>(())
 /// ```
 ///
-/// 1 to 4 and 6 to 18 are the proved library's, numbered as in the table of docs/RULES.md; 100 is this crate's own.
+/// 1 to 4 and 6 to 18 are the proved library's, numbered as in the table of docs/RULES.md; 100 and 101 are this crate's own.
 #[derive(Debug, Clone, Copy, PartialEq, Eq, Hash)]
 #[non_exhaustive]
 pub enum Cause {
@@ -82,6 +83,8 @@ pub enum Cause {
     NoMeans,
     /// 100: a result is not finite. The library returns such a result, as smartcore does; this crate does not pass it on.
     NotFinite,
+    /// 101: support was requested of a forest or a tree that was made from a table or read from a model file, which do not have it.
+    NoSupport,
     /// A number that this crate does not know, because the library is newer.
     Unlisted(u32),
 }
@@ -134,6 +137,7 @@ impl Cause {
             Cause::LeftOver => 17,
             Cause::NoMeans => 18,
             Cause::NotFinite => 100,
+            Cause::NoSupport => 101,
             Cause::Unlisted(number) => number,
         }
     }
@@ -160,6 +164,7 @@ impl Cause {
             Cause::LeftOver => "bytes left over",
             Cause::NoMeans => "no means",
             Cause::NotFinite => "not finite",
+            Cause::NoSupport => "no support",
             Cause::Unlisted(_) => "unlisted",
         }
     }
@@ -200,6 +205,9 @@ impl Cause {
             Cause::NotFinite => {
                 "the targets or weights are too large, or the weights too small, to calculate with: multiply or divide all of them by a constant"
             }
+            Cause::NoSupport => {
+                "a table of nodes or a model file does not say how many rows are in a leaf: use what was fitted, or fit again"
+            }
             Cause::Unlisted(_) => "rebuild this crate for the library that it is linked with",
         }
     }
@@ -237,6 +245,11 @@ impl Refusal {
             cause,
             fault: Some(fault),
         }
+    }
+
+    /// One that has nothing to point at.
+    pub(crate) fn bare(cause: Cause) -> Self {
+        Refusal { cause, fault: None }
     }
 
     /// From the library's number, with the fault that was found.

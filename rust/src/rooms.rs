@@ -1,5 +1,6 @@
 //! The fits, one call of the library each, and the rooms that it writes to.
 
+use crate::behind::Behind;
 use crate::columns::Nodes;
 use crate::draws::Draws;
 use crate::given::Given;
@@ -40,6 +41,7 @@ impl Work {
 #[derive(Debug, Default)]
 pub(crate) struct Grown {
     pub nodes: Nodes,
+    pub behind: Behind,
     pub starts: Vec<u32>,
     pub reports: Vec<Report>,
 }
@@ -99,7 +101,8 @@ pub(crate) fn fit_forest(
     let each = own
         .chunks(rows.max(1))
         .map(|counts| most_nodes(given, counts));
-    let mut nodes = Nodes::zeros(each.sum());
+    let room = each.sum();
+    let (mut nodes, mut behind) = (Nodes::zeros(room), Behind::zeros(room));
     let mut starts = vec![0; trees.len() + 1];
     let mut reports = Reports::zeros(trees.len());
     let told = linked::fit_forest(
@@ -109,6 +112,8 @@ pub(crate) fn fit_forest(
         &mut nodes.score,
         &mut nodes.true_child,
         &mut nodes.false_child,
+        &mut behind.count,
+        &mut behind.mass,
         &mut starts,
         &mut reports.nodes,
         &mut reports.depth,
@@ -141,9 +146,12 @@ pub(crate) fn fit_forest(
         let part = before as u32 + told.part;
         return Err(Told { part, ..told });
     }
-    nodes.keep(starts.last().map_or(0, |end| *end as usize));
+    let end = starts.last().map_or(0, |end| *end as usize);
+    nodes.keep(end);
+    behind.keep(end);
     Ok(Grown {
         nodes,
+        behind,
         starts,
         reports: reports.told(),
     })
@@ -154,13 +162,14 @@ pub(crate) fn fit_tree(
     given: &Given,
     settings: &Settings,
     draws: &Draws,
-) -> Result<(Nodes, Report), Told> {
+) -> Result<(Nodes, Behind, Report), Told> {
     let shape = given.x.shape();
     let counts = match given.counts.shape() {
         (1, _) => given.counts.of_trees(0..1, shape.0),
         _ => &[],
     };
-    let mut nodes = Nodes::zeros(most_nodes(given, counts));
+    let room = most_nodes(given, counts);
+    let (mut nodes, mut behind) = (Nodes::zeros(room), Behind::zeros(room));
     let mut work = Work::new(shape);
     let told = linked::fit_tree(
         &mut nodes.value,
@@ -169,6 +178,8 @@ pub(crate) fn fit_tree(
         &mut nodes.score,
         &mut nodes.true_child,
         &mut nodes.false_child,
+        &mut behind.count,
+        &mut behind.mass,
         &mut work.order,
         &mut work.scratch,
         &mut work.flags,
@@ -189,7 +200,8 @@ pub(crate) fn fit_tree(
         return Err(refusal(&told));
     }
     nodes.keep(told.nodes as usize);
-    Ok((nodes, report(&told)))
+    behind.keep(told.nodes as usize);
+    Ok((nodes, behind, report(&told)))
 }
 
 fn refusal(told: &TreeTold) -> Told {

@@ -1,5 +1,6 @@
 //! Trees fitted alone.
 
+use crate::behind::Behind;
 use crate::columns::Nodes;
 use crate::draws::Draws;
 use crate::explain;
@@ -33,6 +34,7 @@ use crate::{rooms, sizes};
 pub struct DecisionTreeRegressor {
     features: usize,
     nodes: Nodes,
+    behind: Option<Behind>,
     report: Option<Report>,
 }
 
@@ -65,16 +67,17 @@ impl DecisionTreeRegressor {
     ) -> Result<Self, Refusal> {
         let (rows, features) = given.x.shape();
         sizes::check(rows, features, 1)?;
-        let (nodes, report) = rooms::fit_tree(given, &parameters.settings(features), draws)
+        let (nodes, behind, report) = rooms::fit_tree(given, &parameters.settings(features), draws)
             .map_err(|it| explain::fit(&it, given, 1, None))?;
         Ok(DecisionTreeRegressor {
             features,
             nodes,
+            behind: Some(behind),
             report: Some(report),
         })
     }
 
-    /// Makes a tree from stored nodes, which the proved library checks.
+    /// Makes a tree from stored nodes, which the proved library checks. It has no report, and nothing [`behind`](Self::behind) its nodes.
     ///
     /// ```
     /// # use tailboardy::{DecisionTreeRegressor, DenseMatrix};
@@ -94,6 +97,7 @@ impl DecisionTreeRegressor {
         Ok(DecisionTreeRegressor {
             features,
             nodes,
+            behind: None,
             report: None,
         })
     }
@@ -104,6 +108,10 @@ impl DecisionTreeRegressor {
         Tree {
             features: self.features,
             columns: self.nodes.columns(),
+            behind: self
+                .behind
+                .as_ref()
+                .map(|it| it.part(&(0..self.nodes.len()))),
         }
     }
 
@@ -163,5 +171,11 @@ impl DecisionTreeRegressor {
     #[must_use]
     pub fn nodes(&self) -> &Nodes {
         &self.nodes
+    }
+
+    /// How many rows stand behind each node, and how much they weigh; `None` for a tree made from a table.
+    #[must_use]
+    pub fn behind(&self) -> Option<&Behind> {
+        self.behind.as_ref()
     }
 }

@@ -59,6 +59,7 @@ fn the_rehearsal_table_comes_out() {
     assert_eq!(tree.nodes().threshold[..3], [2.5, 1.5, 3.5]);
     assert_eq!(tree.nodes().score[..3], [100.0, 0.0, 0.0]);
     assert_eq!(tree.node(0).unwrap().value, 5.0);
+    assert_eq!(tree.behind().unwrap().count, [4, 2, 2, 1, 1, 1, 1]);
     assert_eq!(&*tree.compute_feature_importances(true).unwrap(), [1.0]);
     assert_eq!(&*tree.compute_feature_importances(false).unwrap(), [25.0]);
 
@@ -166,6 +167,7 @@ fn a_seeded_forest_is_one_call_with_its_draws_recorded() {
         match seeded.forest(parameters) {
             Ok(seeded) => {
                 assert!(same(&seeded, &one_call));
+                assert_eq!(seeded.behind(), one_call.behind());
                 assert_eq!(seeded.reports(), one_call.reports());
                 assert_eq!(seeded.samples(), Some(given.counts));
                 compared += 1;
@@ -287,6 +289,7 @@ fn a_tree_alone_is_a_forest_of_one_that_tries_all() {
             .with_seed(9);
         let one = RandomForestRegressor::fit_with_weights(&x, &y, &weights, one).unwrap();
         assert_eq!(bits(alone.nodes()), bits(one.nodes()));
+        assert_eq!(alone.behind(), one.behind());
         assert_eq!(alone.report(), one.reports().first());
         let again = DecisionTreeRegressor::from_table(3, alone.nodes().clone()).unwrap();
         let (x2, told) = (

@@ -86,7 +86,7 @@ fn a_forest_is_read_back_as_it_was_written() {
         assert!(same(&forest, &read));
         assert_eq!(read.n_features(), features);
         assert_eq!(read.model_bytes().unwrap(), bytes);
-        assert!(read.reports().is_empty() && read.samples().is_none());
+        assert!(read.reports().is_empty() && read.samples().is_none() && read.behind().is_none());
         let of = |forest: &RandomForestRegressor| {
             let means = forest.predict(&x).map(|it| it.into_vec());
             let parts = forest.compute_feature_importances();

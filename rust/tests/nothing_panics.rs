@@ -8,9 +8,8 @@ use tailboardy::{
     Given, Listings, Nodes, RandomForestRegressor, Refusal,
 };
 
-/// How many answers there were, then refusals by number, and last results that were not finite.
-/// 0 to 13, then 18, then 100.
-type Tally = [usize; 16];
+/// How many answers there were, then refusals by number: 1 to 13, then 18, and last the crate's own, 100 and 101.
+type Tally = [usize; 17];
 
 fn told<T>(answer: Result<T, Refusal>, tally: &mut Tally) -> Option<T> {
     match answer {
@@ -20,12 +19,16 @@ fn told<T>(answer: Result<T, Refusal>, tally: &mut Tally) -> Option<T> {
         }
         Err(refusal) => {
             let number = refusal.number() as usize;
-            assert!(matches!(number, 1..=4 | 7..=13 | 18 | 100), "{refusal}");
-            let asks_a_place = !matches!(number, 9 | 10);
+            assert!(
+                matches!(number, 1..=4 | 7..=13 | 18 | 100 | 101),
+                "{refusal}"
+            );
+            let asks_a_place = !matches!(number, 9 | 10 | 101);
             assert_eq!(refusal.fault().is_some(), asks_a_place, "{refusal:?}");
             let place = match number {
                 18 => 14,
                 100 => 15,
+                101 => 16,
                 _ => number,
             };
             tally[place] += 1;
@@ -102,7 +105,7 @@ impl Maker {
 
 #[test]
 fn seeded() {
-    let (mut made, mut tally) = (Maker::new(31), [0; 16]);
+    let (mut made, mut tally) = (Maker::new(31), [0; 17]);
     for _ in 0..4000 {
         let (rows, features) = (made.up_to(12), made.up_to(4));
         let x = made.any_matrix(rows, features);
@@ -131,10 +134,11 @@ fn seeded() {
         }
     }
     let least = [
-        5000, 500, 500, 500, 0, 0, 0, 0, 0, 100, 10, 100, 20, 100, 10, 500,
+        5000, 500, 500, 500, 0, 0, 0, 0, 0, 100, 10, 100, 20, 100, 10, 500, 0,
     ];
     held(tally, least);
     assert_eq!(tally[7], 0, "a seed's draws are good");
+    assert_eq!(tally[16], 0, "what was fitted has support");
 }
 
 fn read(
@@ -147,6 +151,8 @@ fn read(
     let (rows, features) = x.shape();
     let other = made.any_matrix(rows, features);
     told(forest.predict(&other), tally);
+    let support = told(forest.support(&other), tally);
+    assert!(support.is_none_or(|it| it.median_count(0).is_some()));
     if let Some(means) = told(forest.predict_oob(&other), tally) {
         told(means.error(y), tally);
     }
@@ -168,7 +174,7 @@ fn shapes_that_no_memory_holds() {
         #[rustfmt::skip]
         let given = Given { x: &x, y: &[], weights: &[], counts: &counts, listings: &listings };
         let draws = Draws::seeded(&given, Default::default());
-        let mut tally = [0; 16];
+        let mut tally = [0; 17];
         told(
             RandomForestRegressor::fit_given(&given, &draws, Default::default()),
             &mut tally,
@@ -182,7 +188,7 @@ fn shapes_that_no_memory_holds() {
 
 #[test]
 fn lent() {
-    let (mut made, mut tally) = (Maker::new(32), [0; 16]);
+    let (mut made, mut tally) = (Maker::new(32), [0; 17]);
     for _ in 0..4000 {
         let (rows, features) = (1 + made.up_to(6), 1 + made.up_to(2));
         let x = made.any_matrix(rows, features);
@@ -211,14 +217,14 @@ fn lent() {
         told(tree, &mut tally);
     }
     let least = [
-        500, 50, 500, 500, 50, 0, 0, 300, 0, 0, 0, 100, 20, 100, 0, 0,
+        500, 50, 500, 500, 50, 0, 0, 300, 0, 0, 0, 100, 20, 100, 0, 0, 0,
     ];
     held(tally, least);
 }
 
 #[test]
 fn tables() {
-    let (mut made, mut tally) = (Maker::new(33), [0; 16]);
+    let (mut made, mut tally) = (Maker::new(33), [0; 17]);
     for _ in 0..4000 {
         let (x, y) = (made.matrix(8, 2), made.numbers(8));
         let parameters = made.parameters().with_n_trees(2);
@@ -233,6 +239,7 @@ fn tables() {
         let again = RandomForestRegressor::from_table(features, starts, nodes.clone());
         if let Some(again) = told(again, &mut tally) {
             told(again.predict(&x), &mut tally);
+            told(again.support(&x), &mut tally);
             let shares = told(again.compute_feature_importances(), &mut tally);
             assert!(shares.is_none_or(|it| it.iter().sum::<f64>() < 1.5));
         }
@@ -241,9 +248,12 @@ fn tables() {
             &mut tally,
         ) {
             told(tree.predict(&x), &mut tally);
+            told(tree.support(&x), &mut tally);
         }
     }
-    let least = [3000, 10, 10, 0, 0, 0, 0, 0, 1000, 0, 0, 0, 0, 0, 0, 100];
+    let least = [
+        3000, 10, 10, 0, 0, 0, 0, 0, 1000, 0, 0, 0, 0, 0, 0, 100, 1000,
+    ];
     held(tally, least);
 }
 

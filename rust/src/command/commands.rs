@@ -184,10 +184,11 @@ pub static COMMANDS: [Command; 7] = [
         name: "correct",
         files: &["OLD.csv", "NEW.csv"],
         about: "Fits a forest on the old show and writes a correction for each fixture of the new one",
-        more: "The output has the columns of the new show, a column NAME_correction, where NAME is the target, and a column outside\n\
-               that names the measurements outside the range of the old show. Without --features, the features are the columns of\n\
-               measurements that both shows have. Those that only the old show has are ignored, unless the new one has others that\n\
-               may be meant instead. Notes and a report on the forest go to standard error.",
+        more: "The output has the columns of the new show, a column NAME_correction, where NAME is the target, a column support with\n\
+               the number of fixtures of the old show that the correction rests on, and a column outside that names the measurements\n\
+               outside the range of the old show. Without --features, the features are the columns of measurements that both shows\n\
+               have. Those that only the old show has are ignored, unless the new one has others that may be meant instead. Notes\n\
+               and a report on the forest go to standard error, with a warning if a correction rests on fewer than three fixtures.",
         groups: &[
             COLUMNS, FEATURES, LISTING, TABLES, RANGE, GROWTH, SPREAD, DIGITS, OUT,
         ],
@@ -199,7 +200,8 @@ pub static COMMANDS: [Command; 7] = [
         about: "Writes a correction for each fixture of the new show, by a model that `fit --model` wrote",
         more: "The output has the columns of the new show and a column NAME_correction, or correction without --target. A model has no\n\
                names of columns, only a number of features. Without --features they are the columns of measurements of the new show,\n\
-               in the order of the table; another number of them is refused. Which they are goes to standard error, with notes.",
+               in the order of the table; another number of them is refused. Which they are goes to standard error, with notes.\n\
+               A model does not say how many fixtures a correction rests on, so there is no column support.",
         groups: &[PREDICTED, FEATURES, TABLES, SPREAD, DIGITS, OUT],
         run: predict::run,
     },
@@ -226,8 +228,9 @@ pub static COMMANDS: [Command; 7] = [
         files: &["OLD.csv", "NEW.csv"],
         about: "Fits a forest on the old show and writes a page about the corrections of the new one, with pictures",
         more: "The page is one HTML file for a browser or a printer, which stands by itself. It begins with what to look at first:\n\
-               fixtures outside the range of the old show, and fixtures that the trees disagree about. It ends with a table of all\n\
-               corrections, rounded for reading; `correct` writes them exactly. Notes and a report on the forest go to standard error.",
+               fixtures outside the range of the old show, fixtures that the trees disagree about, and corrections that rest on few\n\
+               fixtures. It ends with a table of all corrections, rounded for reading; `correct` writes them exactly. Notes and a\n\
+               report on the forest go to standard error.",
         groups: &[COLUMNS, FEATURES, LISTING, TABLES, RANGE, GROWTH, PLOT, OUT],
         run: report::report,
     },

@@ -9,7 +9,7 @@ use crate::number::{self, Style};
 use crate::output::Output;
 use crate::stop::Stop;
 use crate::summary::Summary;
-use crate::{record, spread};
+use crate::{record, spread, support};
 use std::collections::BTreeSet;
 use tailboardy::{DenseMatrix, Means, RandomForestRegressor, Refusal};
 
@@ -22,7 +22,8 @@ pub fn correct(args: &Args) -> Result<Output, Stop> {
     let file = args.out()?;
     let both = Both::read(&task)?;
     let target = task.roles.target.as_deref();
-    free(&both.new, target, args.has("--spread"), &["outside"])?;
+    let more = ["support", "outside"];
+    free(&both.new, target, args.has("--spread"), &more)?;
     let (forest, mut summary) = task.fitted(&both.old)?;
     both.report(&mut summary);
     let style = Style {
@@ -35,6 +36,10 @@ pub fn correct(args: &Args) -> Result<Output, Stop> {
         forest: &forest,
     };
     let mut added = predicted.columns(target, args.has("--spread"), &style)?;
+    let support = predicted.support()?;
+    summary.warnings(support::few(&both, &forest, &support).as_slice());
+    let counts = support.iter().map(u32::to_string);
+    added.push(("support".into(), counts.collect()));
     added.push(("outside".into(), outsides(&both)));
     let mut output = Output {
         text: table(&both.new, &added),
@@ -112,6 +117,11 @@ impl Predicted<'_> {
     /// A low and a high prediction for each fixture.
     pub fn spreads(&self) -> Result<Vec<(f64, f64)>, Stop> {
         spread::of(self.forest, self.x).map_err(|it| self.refused(&it))
+    }
+
+    /// How many fixtures of the old show stand behind each correction.
+    pub fn support(&self) -> Result<Vec<u32>, Stop> {
+        support::of(self.forest, self.x).map_err(|it| self.refused(&it))
     }
 
     fn refused(&self, refusal: &Refusal) -> Stop {

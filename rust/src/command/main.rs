@@ -28,6 +28,7 @@ mod numbering;
 mod output;
 mod outside;
 mod page;
+mod parts;
 mod predict;
 mod progress;
 mod reading;
@@ -39,6 +40,7 @@ mod show;
 mod spread;
 mod stop;
 mod summary;
+mod support;
 mod thresholds;
 mod units;
 

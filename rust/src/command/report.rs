@@ -10,7 +10,7 @@ use crate::output::Output;
 use crate::page::data::{Fixture, Focused, Forest, Measurement, Outside, Page, Source};
 use crate::stop::Stop;
 use crate::summary::{out_of_bag, warnings};
-use crate::{outside, page};
+use crate::{outside, page, support};
 use tailboardy::{RandomForestRegressor, Refusal};
 
 /// The measurements that place the fixtures in the picture: across, and up if there are two.
@@ -26,8 +26,11 @@ pub fn report(args: &Args) -> Result<Output, Stop> {
     let sides = sides.transpose()?;
     let (forest, mut summary) = task.fitted(&both.old)?;
     both.report(&mut summary);
+    let page = filled(&task, &both, &forest, sides)?;
+    let counts: Vec<u32> = page.fixtures.iter().map(|it| it.support).collect();
+    summary.warnings(support::few(&both, &forest, &counts).as_slice());
     let mut output = Output {
-        text: page::write(&filled(&task, &both, &forest, sides)?),
+        text: page::write(&page),
         file,
         ..Output::default()
     };
@@ -153,6 +156,7 @@ fn fixtures(
         forest,
     };
     let (spreads, means) = (predicted.spreads()?, predicted.corrections()?);
+    let support = predicted.support()?;
     let value = |row: usize, feature: usize| x.get((row, feature)).unwrap_or_default();
     let fixture = |(row, ((low, high), mean)): (usize, ((f64, f64), &f64))| Fixture {
         name: name(new, row),
@@ -160,6 +164,7 @@ fn fixtures(
         correction: *mean,
         low,
         high,
+        support: support[row],
         outside: Vec::new(),
     };
     let rows = spreads.into_iter().zip(means.iter()).enumerate();

@@ -1,32 +1,20 @@
 //! How far the trees of a forest lie apart.
 
+use crate::parts::in_parts;
 use tailboardy::{DenseMatrix, RandomForestRegressor, Refusal};
-
-/// How many predictions are held at a time: rows are taken in parts, so that the trees of the largest forest fit into memory.
-const HELD: usize = 1 << 22;
 
 /// For each row a low and a high prediction of the trees: a tenth of them lie at or below the low one, and nine tenths at or below the high
 /// one. Both are nearest ranks, so each is the prediction of some tree.
 pub fn of(forest: &RandomForestRegressor, x: &DenseMatrix) -> Result<Vec<(f64, f64)>, Refusal> {
-    let part = (HELD / forest.n_trees().max(1)).max(1);
-    let (rows, features) = x.shape();
-    let mut all = Vec::with_capacity(rows);
-    for values in x.values().chunks(part * features.max(1)) {
-        let rows = values.len() / features.max(1);
-        let some = DenseMatrix::new(rows, features, values.to_vec(), false)?;
-        all.extend(some_of(forest, &some)?);
-    }
-    Ok(all)
-}
-
-fn some_of(forest: &RandomForestRegressor, x: &DenseMatrix) -> Result<Vec<(f64, f64)>, Refusal> {
-    let trees = forest.predict_trees(x)?;
-    let ends = |row: usize| {
-        let mut predicted: Vec<f64> = trees.iter().map(|tree| tree[row]).collect();
-        predicted.sort_unstable_by(f64::total_cmp);
-        (ranked(&predicted, 1), ranked(&predicted, 9))
-    };
-    Ok((0..x.shape().0).map(ends).collect())
+    in_parts(forest, x, |part| {
+        let trees = forest.predict_trees(part)?;
+        let ends = |row: usize| {
+            let mut predicted: Vec<f64> = trees.iter().map(|tree| tree[row]).collect();
+            predicted.sort_unstable_by(f64::total_cmp);
+            (ranked(&predicted, 1), ranked(&predicted, 9))
+        };
+        Ok((0..part.shape().0).map(ends).collect())
+    })
 }
 
 /// The least value that so many tenths of the sorted values do not exceed.

@@ -138,6 +138,15 @@ impl Summary {
         }
     }
 
+    /// What is warned of.
+    pub fn warnings(&mut self, warnings: &[String]) {
+        if !warnings.is_empty() {
+            let text = warnings.iter().map(|it| format!("warning: {it}"));
+            let text = text.collect::<Vec<_>>().join("\n");
+            self.add("warnings", Json::list(warnings), text);
+        }
+    }
+
     /// A description of the forest, and how good it is.
     pub fn forest(
         &mut self,
@@ -149,12 +158,7 @@ impl Summary {
         self.trees(forest, parameters.seed);
         let means = forest.predict_oob(&show.x).map_err(failed)?;
         self.error(out_of_bag(&means, &show.y).map_err(failed)?, means.len());
-        let warnings = warnings(&means, parameters);
-        if !warnings.is_empty() {
-            let text = warnings.iter().map(|it| format!("warning: {it}"));
-            let text = text.collect::<Vec<_>>().join("\n");
-            self.add("warnings", Json::list(&warnings), text);
-        }
+        self.warnings(&warnings(&means, parameters));
         let importances = forest.compute_feature_importances().map_err(failed)?;
         let ranked = importances.ranked();
         let name = |feature: usize| show.features[feature].as_str();

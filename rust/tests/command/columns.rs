@@ -110,7 +110,7 @@ fn columns_are_left_out_by_name() {
         "{}",
         told.err
     );
-    let head = "fixture,trim,lux,pan_correction,outside\na,6,900,";
+    let head = "fixture,trim,lux,pan_correction,support,outside\na,6,900,";
     assert!(told.out.starts_with(head), "{}", told.out);
     let told = correct(old, new, &["--ignore", "lumen"]);
     assert_eq!(told.status, Some(1));
@@ -148,7 +148,7 @@ fn a_unit_in_every_cell_is_read() {
     assert!(told.out.contains(units), "{}", told.out);
     let told = correct("trim;pan\n4,2 m;1\n5,1m;2\n", "trim\n4.5 m\n", &[]);
     assert_eq!(
-        told.out, "trim,pan_correction,outside\n4.5 m,1.25,\n",
+        told.out, "trim,pan_correction,support,outside\n4.5 m,1.25,1,\n",
         "{}",
         told.err
     );
@@ -267,6 +267,7 @@ fn fixtures_with_the_same_name_are_told() {
 fn columns_that_are_added_must_be_free() {
     for (name, more) in [
         ("outside", &[][..]),
+        ("support", &[]),
         ("pan_correction", &[]),
         ("pan_low", &["--spread"]),
         ("pan_high", &["--spread"]),

@@ -55,8 +55,8 @@ fn incomplete_rows_may_be_left_out() {
     let new = "fixture,x,seat\nF,1.5,\nG,,7\nH,3.5,9\n";
     let told = corrected(old, new, &skip);
     let lines: Vec<&str> = told.out.lines().collect();
-    let rows = ["F,1.5,,8,", "G,,7,,", "H,3.5,9,8,"];
-    assert_eq!(lines[0], "fixture,x,seat,pan_correction,outside");
+    let rows = ["F,1.5,,8,1,", "G,,7,,,", "H,3.5,9,8,1,"];
+    assert_eq!(lines[0], "fixture,x,seat,pan_correction,support,outside");
     assert_eq!(
         (told.status, &lines[1..]),
         (Some(0), &rows[..]),

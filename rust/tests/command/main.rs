@@ -14,6 +14,7 @@ mod outside;
 mod page;
 mod predict;
 mod shows;
+mod support;
 mod tables;
 mod usage;
 

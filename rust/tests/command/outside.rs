@@ -164,7 +164,7 @@ fn the_spread_is_that_of_the_trees() {
         lines
             .next()
             .unwrap()
-            .ends_with(",mounting_angle,pan_correction,pan_low,pan_high,outside")
+            .ends_with(",mounting_angle,pan_correction,pan_low,pan_high,support,outside")
     );
     let rows = numbers("old-house.csv");
     let x: Vec<&[f64]> = rows.iter().map(|row| &row[..3]).collect();

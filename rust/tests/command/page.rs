@@ -62,6 +62,7 @@ fn the_page_stands_by_itself() {
         "What this was made from",
         "Outside the old show",
         "Wide spread",
+        "Thin support",
         "The rig",
         "The old show, predicted",
         "What decides",
@@ -88,13 +89,15 @@ fn the_page_has_what_correct_writes() {
     let names: Vec<&str> = lines.next().unwrap().split(',').collect();
     let column = |name: &str| names.iter().position(|it| *it == name).unwrap();
     let numbers = ["pan_correction", "pan_low", "pan_high"].map(column);
+    let support = column("support");
     for line in lines {
         let cells: Vec<&str> = line.split(',').collect();
         let number = |at: usize| {
             let number: f64 = cells[at].parse().unwrap();
             format!("{number:+.2}")
         };
-        let row = format!("{}{}", cells[0], numbers.map(number).concat());
+        let numbers = numbers.map(number).concat();
+        let row = format!("{}{numbers}{}", cells[0], cells[support]);
         assert!(all.contains(&row), "{row}");
     }
     assert_eq!(

@@ -30,8 +30,9 @@ fn a_model_predicts_what_the_fit_would() {
             let words = ["predict", &model, &new, "--target", "pan"];
             let told = run(&[&words[..], more].concat());
             assert_eq!(told.status, Some(0), "{}", told.err);
-            // `correct` has a column `outside` after the others
-            assert_eq!(told.out, shorter(&correct(&old, &new, more), delimiter));
+            // `correct` has columns `support` and `outside` after the others
+            let corrected = shorter(&correct(&old, &new, more), delimiter);
+            assert_eq!(told.out, shorter(&corrected, delimiter));
         }
     }
 }

@@ -29,16 +29,18 @@ fn corrections_are_the_crates_predictions() {
     let parameters = RandomForestRegressorParameters::default().with_seed(5);
     let forest = RandomForestRegressor::fit(&x, &y, parameters).unwrap();
     let new = DenseMatrix::from_2d_array(&numbers("new-house.csv", 3..6)).unwrap();
-    let means = forest.predict(&new).unwrap();
+    let (means, support) = (forest.predict(&new).unwrap(), forest.support(&new).unwrap());
 
     let given = fs::read_to_string(show("new-house.csv")).unwrap();
     let mut lines = told.out.lines().zip(given.lines());
     let (head, names) = lines.next().unwrap();
-    assert_eq!(head, format!("{names},pan_correction,outside"));
-    for (mean, (line, cells)) in means.iter().zip(lines) {
+    assert_eq!(head, format!("{names},pan_correction,support,outside"));
+    for (row, (mean, (line, cells))) in means.iter().zip(lines).enumerate() {
         let (before, _) = line.rsplit_once(',').unwrap();
+        let (before, count) = before.rsplit_once(',').unwrap();
         let (before, correction) = before.rsplit_once(',').unwrap();
         assert_eq!(before, cells);
+        assert_eq!(count.parse().ok(), support.median_count(row));
         let correction: f64 = correction.parse().unwrap();
         assert_eq!(correction.to_bits(), mean.to_bits());
     }
@@ -203,7 +205,9 @@ fn weights_count() {
     for more in [&[][..], &["--no-bootstrap"], &["--splitter", "random"]] {
         let words = ["correct", &old, &new, "--target", "pan", "--weight", "w"];
         let told = run(&[&words, more].concat());
-        assert_eq!(told.out, "x,pan_correction,outside\n3,8,\n4,8,\n");
+        let cells = |line: &str| line.split(',').take(2).collect::<Vec<_>>().join(",");
+        let lines: Vec<String> = told.out.lines().map(cells).collect();
+        assert_eq!(lines, ["x,pan_correction", "3,8", "4,8"]);
         assert!(told.err.contains("weight: w\n"));
     }
 }

@@ -3,7 +3,7 @@
 use crate::page::data::{Fixture, Page};
 use crate::page::first::Wide;
 use crate::page::html::{in_unit, name, section, table};
-use crate::page::round::Column;
+use crate::page::round::{Column, count};
 
 /// The part of the page with the table of all corrections.
 pub fn all(page: &Page, wide: &Wide) -> String {
@@ -18,6 +18,7 @@ pub fn all(page: &Page, wide: &Wide) -> String {
             column.signed(it.correction),
             column.signed(it.low),
             column.signed(it.high),
+            count(it.support as usize),
             note(page, wide, it),
         ]
     });
@@ -26,7 +27,8 @@ pub fn all(page: &Page, wide: &Wide) -> String {
         ("Correction", true),
         ("Low", true),
         ("High", true),
-        ("Outside or wide", false),
+        ("Support", true),
+        ("Outside, wide or thin", false),
     ];
     let caption = format!(
         "Corrections of {}, in the order of {}",
@@ -40,12 +42,14 @@ pub fn all(page: &Page, wide: &Wide) -> String {
     )
 }
 
-/// What lies outside, and whether the spread is wide.
+/// What lies outside, whether the spread is wide, and whether the support is thin.
 fn note(page: &Page, wide: &Wide, fixture: &Fixture) -> String {
     let outside = fixture
         .outside
         .iter()
         .map(|it| name(&page.measurements[it.measurement].name));
     let wide = wide.has(fixture).then(|| "wide spread".to_owned());
-    outside.chain(wide).collect::<Vec<_>>().join(", ")
+    let thin = fixture.thin().then(|| "thin support".to_owned());
+    let told = outside.chain(wide).chain(thin);
+    told.collect::<Vec<_>>().join(", ")
 }

@@ -1,5 +1,6 @@
 //! What a page shows, as plain data.
 
+use crate::support::ENOUGH;
 use tailboardy::OutOfBagError;
 
 /// Everything that a page shows. All numbers are finite, but what is computed from them need not be.
@@ -62,6 +63,8 @@ pub struct Fixture {
     pub low: f64,
     /// and a tenth at least this.
     pub high: f64,
+    /// How many fixtures of the old show stand behind the correction: the median of the trees.
+    pub support: u32,
     pub outside: Vec<Outside>,
 }
 
@@ -86,6 +89,11 @@ impl Page {
         self.fixtures.iter().filter(|it| !it.outside.is_empty())
     }
 
+    /// The fixtures whose correction rests on few fixtures of the old show.
+    pub fn thin(&self) -> impl Iterator<Item = &Fixture> {
+        self.fixtures.iter().filter(|it| it.thin())
+    }
+
     /// How far a value lies beyond the old show's range.
     pub fn beyond(&self, outside: &Outside) -> f64 {
         let range = &self.measurements[outside.measurement];
@@ -97,5 +105,10 @@ impl Fixture {
     /// How far the trees lie apart.
     pub fn spread(&self) -> f64 {
         self.high - self.low
+    }
+
+    /// Whether its correction rests on few fixtures of the old show.
+    pub fn thin(&self) -> bool {
+        self.support < ENOUGH
     }
 }

@@ -1,4 +1,5 @@
-//! What to look at first: fixtures that lie outside the range of the old show, and fixtures that the trees disagree about.
+//! What to look at first: fixtures that lie outside the range of the old show, fixtures that the trees disagree about, and corrections that
+//! rest on few fixtures.
 
 use crate::page::data::{Fixture, Outside, Page};
 use crate::page::html::{name, paragraph, section, table, with_unit};
@@ -158,6 +159,44 @@ fn apart(fixtures: &[&Fixture], column: Column) -> String {
         ("Spread", true),
     ];
     table("wide", "Wide spreads, the widest first", heads, rows) + &more(fixtures.len())
+}
+
+/// The part of the page with the corrections that rest on few fixtures.
+pub fn thin(page: &Page) -> String {
+    let meant = "The support of a correction is how many fixtures of the old show are in the leaf that its fixture comes to: the median of all trees. A fixture that is in the bag of a tree twice counts twice.";
+    let how = match page.old.fixtures {
+        0..3 => "Fit three fixtures or more.",
+        _ => "For larger leaves: <code>--min-samples-leaf 3</code>.",
+    };
+    let thin: Vec<&Fixture> = page.thin().collect();
+    let body = match thin.len() {
+        0 => paragraph(&format!(
+            "None: every correction rests on leaves with three fixtures or more. {meant}"
+        )),
+        number if number == page.fixtures.len() => paragraph(&format!(
+            "Every correction rests on leaves with fewer than three fixtures. {meant} {how}"
+        )),
+        number => {
+            let rest = counted(number, "correction rests", "corrections rest");
+            let told = format!("{rest} on leaves with fewer than three fixtures. {meant} {how}");
+            paragraph(&told) + &fewest(page, thin)
+        }
+    };
+    section("thin", "Thin support", &body)
+}
+
+fn fewest(page: &Page, mut thin: Vec<&Fixture>) -> String {
+    thin.sort_by_key(|it| it.support);
+    let column = Column::of(page.fixtures.iter().map(|it| it.correction));
+    let rows = thin.iter().take(LISTED).map(|it| {
+        [
+            name(&it.name),
+            column.signed(it.correction),
+            it.support.to_string(),
+        ]
+    });
+    let heads = [("Fixture", false), ("Correction", true), ("Support", true)];
+    table("thin", "Thin supports, the fewest first", heads, rows) + &more(thin.len())
 }
 
 /// How many more there are than are listed.

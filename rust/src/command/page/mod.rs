@@ -37,6 +37,7 @@ pub fn write(page: &Page) -> String {
             first::outside(page),
             first::wide(page, &wide)
         ),
+        first::thin(page),
         rig::rig(page),
         old::old(page),
         weigh::weigh(page),
@@ -79,6 +80,10 @@ fn top(page: &Page, wide: &Wide) -> String {
         (
             "wide",
             format!("Wide spread: {}", count(wide.fixtures.len())),
+        ),
+        (
+            "thin",
+            format!("Thin support: {}", count(page.thin().count())),
         ),
         ("rig", "The rig".into()),
         ("old", "The old show, predicted".into()),

@@ -4,7 +4,7 @@ use crate::page::axis::Axis;
 use crate::page::data::{Fixture, Page};
 use crate::page::html::{in_unit, paragraph, section};
 use crate::page::legend::{self, drawn, sign, tinted};
-use crate::page::round::{Column, counted, rounded};
+use crate::page::round::{Column, count, counted, rounded};
 use crate::page::scale::{Class, Scale};
 use crate::page::svg::{self, MANY, Place, Plot};
 
@@ -166,9 +166,10 @@ fn tip(page: &Page, fixture: &Fixture, column: Column) -> String {
         false => "; outside the range of the old show",
     };
     format!(
-        "{} ({}){outside}",
+        "{} ({}); support {}{outside}",
         column.signed(fixture.correction),
-        sides.join(", ")
+        sides.join(", "),
+        count(fixture.support as usize)
     )
 }
 

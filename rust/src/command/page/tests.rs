@@ -26,6 +26,7 @@ fn fixture(row: usize, part: f64, size: f64) -> Fixture {
         correction: size * (part - 0.5),
         low: size * (part - 0.6),
         high: size * (part - 0.4),
+        support: 3 + row as u32 % 40,
         outside: Vec::new(),
     }
 }
@@ -100,6 +101,7 @@ fn what_is_urgent_comes_first() {
         "What this was made from",
         "Outside the old show",
         "Wide spread",
+        "Thin support",
         "The rig",
         "The old show, predicted",
         "What decides",
@@ -170,6 +172,37 @@ fn wide_spreads_are_told() {
     assert!(wide.contains("29 fixtures have") && wide.contains("And 9 more"));
 }
 
+#[test]
+fn thin_supports_are_told() {
+    let mut page = rig(30, 1.0);
+    let none = "None: every correction rests on leaves with three fixtures or more.";
+    assert!(part(&read(&page).1, "thin").contains(none));
+    assert!(!part(&read(&page).1, "all").contains("thin support"));
+    page.fixtures[7].support = 2;
+    page.fixtures[9].support = 1;
+    page.fixtures[11].support = 1_234;
+    let (_, elements) = read(&page);
+    let thin = part(&elements, "thin");
+    assert!(thin.contains("2 corrections rest on leaves with fewer than three fixtures."));
+    assert!(thin.contains("--min-samples-leaf 3"));
+    assert!(thin.find("F-9-0.2001") < thin.find("F-7-0.2672"), "{thin}");
+    let all = part(&elements, "all");
+    assert_eq!(all.matches("thin support").count(), 2);
+    for row in [
+        "F-7-0.267-0.367-0.1672thin support",
+        "F-11-0.133-0.233-0.0331,234",
+    ] {
+        assert!(all.contains(row), "{row} in {all}");
+    }
+    page.fixtures.iter_mut().for_each(|it| it.support = 1);
+    let (text, elements) = read(&page);
+    let every = "Every correction rests on leaves with fewer than three fixtures.";
+    assert!(part(&elements, "thin").contains(every));
+    assert!(text.contains("Thin support: 30</a>"));
+    page.fixtures[0].support = 3;
+    assert!(part(&read(&page).1, "thin").contains("And 9 more"));
+}
+
 /// How often an element is in the picture of the rig: those of the legend come behind it.
 fn in_rig(text: &str, element: &str) -> usize {
     let picture = text.split_once("rig-picture").unwrap().1;
@@ -186,7 +219,9 @@ fn every_fixture_is_in_the_picture_and_in_the_table() {
     let plus = page.fixtures.iter().filter(|it| it.correction > 0.0);
     assert_eq!(in_rig(&text, "M0-2.4v4.8"), plus.count(), "signs");
     assert_eq!(in_rig(&text, "<path"), 998, "zero has no sign");
-    assert!(text.contains("<title>F-1: -0.499 (offset 0.00900900901 m, height 1)</title>"));
+    assert!(
+        text.contains("<title>F-1: -0.499 (offset 0.00900900901 m, height 1); support 4</title>")
+    );
     assert!(part(&elements, "rig").contains("-0.6 to -0.4"));
     assert_eq!(text.matches("<th scope=\"row\"><bdi>F-").count(), 999 + 5);
 }
@@ -204,7 +239,9 @@ fn many_fixtures_are_dots() {
     assert_eq!(in_rig(&text, "class=\"rim\""), 1);
     assert!(part(&elements, "rig").contains("too many of them"));
     assert!(part(&elements, "all").contains("F-4999"));
-    let most = write(&rig(65_535, 1.0)).len();
+    let mut page = rig(65_535, 1.0);
+    page.fixtures.iter_mut().for_each(|it| it.support = 1);
+    let most = write(&page).len();
     assert!(most < 9_000_000, "{most}");
 }
 
