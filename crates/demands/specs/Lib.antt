@@ -30,6 +30,12 @@ pub mod Sides
 pub mod Heights
 pub mod Filled
 pub mod Support
+pub mod TreesLeft
+pub mod Through
+pub mod OneLeaf
+pub mod LeastLeaf
+pub mod Undoing
+pub mod Reasons
 pub mod Limits
 pub mod Tried
 -- reading

@@ -18,6 +18,8 @@ pub mod Values
 pub mod Heights
 -- a cut that is found leaves rows on both sides, and both are good nodes again; where it stands
 pub mod Cuts
+-- a search finds a cut exactly where a feature tried offers one
+pub mod Offers
 -- two growths alike but for the height: the same rows go the same way
 pub mod Twins
 -- how many nodes a growth makes at most
@@ -29,6 +31,10 @@ pub mod Follows
 pub mod Tapes
 -- what each split leaves
 pub mod Splits
+-- the history of a growth: every node as it was met, in the order of their numbers; that every growth has one, and what it says of a growth that has ended
+pub mod Met
+pub mod History
+pub mod Settled
 -- the root of a fit that passes its checks is good
 pub mod Root
 -- one fit at two heights
@@ -37,6 +43,12 @@ pub mod TwinFits
 pub mod Passed
 -- good tables: a walk ends at a leaf, and what a fit grows is one
 pub mod Tables
+-- through which nodes a row's walk passes, and the level of a node
+pub mod Passes
+-- the rows of a node are those whose walk passes through it
+pub mod Reached
+-- the history of a fit, by row numbers
+pub mod FitHistory
 -- what is written can be read back: trees laid out as a table, those of a fit, and the two columns beside them
 pub mod Laid
 pub mod Written

@@ -205,6 +205,17 @@ module _ {ℓ} {A : Type ℓ} where
   total-le f g [] h = omega arith
   total-le f g (x ∷ l) h = omega (arith, h .0, total-le f g l (h .1))
 
+  pub total-none : (f : A → ℕ) (l : List A) → Every (λ x. f x ≡ 0) l → total f l ≡ 0
+  unfolding total
+  total-none f [] h = refl
+  total-none f (x ∷ l) h = omega (arith, h .0, total-none f l (h .1))
+
+  -- by two weights together
+  pub total-both : (f g : A → ℕ) (l : List A) → total (λ x. f x + g x) l ≡ total f l + total g l
+  unfolding total
+  total-both f g [] = refl
+  total-both f g (x ∷ l) = omega (arith, total-both f g l)
+
   -- what passes and what does not is all there is
   total-put : (f : A → ℕ) (b : Bool) (x : A) (k l : List A) → total f (putIf b x k) + total f (putIf (not b) x l) ≡ f x + (total f k + total f l)
   unfolding total putIf
@@ -269,6 +280,12 @@ unfolding from
 getD-from f a zero j d h = absurd (not-suc-le-zero h)
 getD-from f a (suc n) zero d h = ap f (sym (add-zero a))
 getD-from f a (suc n) (suc j) d h = getD-from f (suc a) n j d (le-of-suc-le-suc h) ∙ ap f (shift a j)
+
+-- one more at its end
+pub from-more : (a n : ℕ) → from a (suc n) ≡ from a n ++ ((a + n) ∷ [])
+unfolding from
+from-more a zero = ap (λ k. k ∷ []) (sym (add-zero a))
+from-more a (suc n) = ap (λ l. a ∷ l) (from-more (suc a) n ∙ ap (λ k. from (suc a) n ++ (k ∷ [])) (shift a n))
 
 pub from-below : (a n : ℕ) → Every (λ k. k < a + n) (from a n)
 unfolding from

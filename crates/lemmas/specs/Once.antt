@@ -11,12 +11,12 @@ use lib.ListN.{length}
 use lib.Dec.{T, eqb, ltb, eqb→eq, eqb-refl, ltb→lt}
 use lib.Ieee.Fits.{and-l, and-r}
 use Rattle.rules.specs.Words.{from, keep, total, member, fresh, eachOnce}
-use Rattle.lemmas.specs.Lists.{is-true, is-false, Every, every-all, total-same, total-keep, length-total, length-from}
+use Rattle.lemmas.specs.Lists.{is-true, is-false, Every, every-all, total-same, total-none, total-keep, length-total, length-from}
 
-eqb-yes : (a b : ℕ) → a ≡ b → eqb a b ≡ true
+pub eqb-yes : (a b : ℕ) → a ≡ b → eqb a b ≡ true
 eqb-yes a b q = is-true (eqb a b) (subst (λ k. T (eqb a k)) q (eqb-refl a))
 
-eqb-no : (a b : ℕ) → a ≢ b → eqb a b ≡ false
+pub eqb-no : (a b : ℕ) → a ≢ b → eqb a b ≡ false
 eqb-no a b d = go (eqb a b) (λ t. d (eqb→eq a b t))
   where
     go : (x : Bool) → (T x → ⊥) → x ≡ false
@@ -36,7 +36,7 @@ sum-past h x i (suc n) l = λ r. cond (eqb-no i x (λ q. off i x l q) r) 0 (h i)
     more i x l = omega arith
 
 -- one of a range taken out
-sum-out : (h : ℕ → ℕ) (x i n : ℕ) → i ≤ x → x < i + n → total h (from i n) ≡ h x + total (λ k. cond (eqb k x) 0 (h k)) (from i n)
+pub sum-out : (h : ℕ → ℕ) (x i n : ℕ) → i ≤ x → x < i + n → total h (from i n) ≡ h x + total (λ k. cond (eqb k x) 0 (h k)) (from i n)
 unfolding total from
 sum-out h x i zero a b = absurd (none i x a b)
   where
@@ -67,6 +67,15 @@ sum-out h x i (suc n) a b = go (ℕ-discrete i x) (λ c d. sum-out h x (suc i) n
         ap (λ s. h i + s) (ih (next i x a d) (ends i x n b))
         ∙ turn (h i) (h x) rest
         ∙ (λ r. h x + (cond (sym (eqb-no i x d) r) 0 (h i) + rest))
+
+-- where one alone of a range weighs anything, that is what it weighs
+pub sum-alone : (h : ℕ → ℕ) (x n : ℕ) → x < n → ((k : ℕ) → k ≢ x → h k ≡ 0) → total h (from 0 n) ≡ h x
+sum-alone h x n l none =
+    sum-out h x 0 n (omega arith) (omega (arith, l)) ∙ ap (λ m. h x + m) (total-none _ (from 0 n) (every-all _ (λ k. off k (ℕ-discrete k x)) (from 0 n))) ∙ add-zero (h x)
+  where
+    off : (k : ℕ) → Dec (k ≡ x) → cond (eqb k x) 0 (h k) ≡ 0
+    off k (yes q) = ap (λ b. cond b 0 (h k)) (eqb-yes k x q)
+    off k (no d) = ap (λ b. cond b 0 (h k)) (eqb-no k x d) ∙ none k d
 
 -- g where l does not have the number
 abbrev miss : List ℕ → (ℕ → ℕ) → ℕ → ℕ

@@ -3,6 +3,7 @@ use Prim.Native.Nat.{ℕ, zero, suc, _+_, _<_, _≤_}
 use native.Mathlib.Nat.{not-suc-le-zero, le-of-suc-le-suc, zero-add, add-zero}
 use native.Mathlib.Omega.{arith}
 use mathlib.Core.Path.{_≡_, refl, sym, ap, _∙_, subst}
+use mathlib.Core.Logic.{_⊎_, inl, inr}
 use mathlib.Core.Bool.{Bool, true, false, _&&_, _||_, cond}
 use mathlib.Core.List.{List, [], _∷_}
 use lib.ListN.{length, getD}
@@ -78,37 +79,42 @@ node-good features rs t k h l =
 
 -- ---- the walk
 
+pub onto-leaf : (e : Entry) (xs : List Float) (k : ℕ) → isLeaf e ≡ true → onto e xs k ≡ k
+unfolding onto
+onto-leaf e xs k q = rw q refl
+
+-- from a split a row goes to one of its children
+pub onto-child : (e : Entry) (xs : List Float) (k : ℕ) → isLeaf e ≡ false → (onto e xs k ≡ e .trueChild) ⊎ (onto e xs k ≡ e .falseChild)
+unfolding onto
+onto-child e xs k q = rw q (go (le (getD xs (e .feature) nan) (e .threshold)))
+  where
+    go : (b : Bool) → (cond b (e .trueChild) (e .falseChild) ≡ e .trueChild) ⊎ (cond b (e .trueChild) (e .falseChild) ≡ e .falseChild)
+    go true = inl refl
+    go false = inr refl
+
+-- a leaf is stayed at, whether the tree is good or not
+pub stays : (rs : List Entry) (xs : List Float) (f k : ℕ) → isLeaf (getD rs k noEntry) ≡ true → walked f rs xs k ≡ k
+unfolding walked
+stays rs xs zero k h = refl
+stays rs xs (suc f) k h = ap (walked f rs xs) (onto-leaf (getD rs k noEntry) xs k h) ∙ stays rs xs f k h
+
 module _ (features : ℕ) (rs : List Entry) (good : T (goodTree features rs)) (xs : List Float) where
   abbrev rowOn : ℕ → Entry
   rowOn k = getD rs k noEntry
 
-  -- where the row goes from a split
-  abbrev sent : ℕ → ℕ
-  sent k = cond (le (getD xs (rowOn k .feature) nan) (rowOn k .threshold)) (rowOn k .trueChild) (rowOn k .falseChild)
-
-  onto-leaf : (k : ℕ) → isLeaf (rowOn k) ≡ true → onto (rowOn k) xs k ≡ k
-  unfolding onto
-  onto-leaf k q = ap (λ z. cond z k (sent k)) q
-
-  onto-split : (k : ℕ) → isLeaf (rowOn k) ≡ false → onto (rowOn k) xs k ≡ sent k
-  unfolding onto
-  onto-split k q = ap (λ z. cond z k (sent k)) q
-
   pub leaf-stays : (f k : ℕ) → isLeaf (rowOn k) ≡ true → walked f rs xs k ≡ k
-  unfolding walked
-  leaf-stays zero k h = refl
-  leaf-stays (suc f) k h = ap (walked f rs xs) (onto-leaf k h) ∙ leaf-stays f k h
+  leaf-stays = stays rs xs
 
   -- from a split a row goes up, and stays inside
-  sent-on : (k : ℕ) → k < length rs → isLeaf (rowOn k) ≡ false → (k < sent k) × (sent k < length rs)
-  sent-on k h q = go (le (getD xs (rowOn k .feature) nan) (rowOn k .threshold))
+  pub onto-up : (k : ℕ) → k < length rs → isLeaf (rowOn k) ≡ false → (k < onto (rowOn k) xs k) × (onto (rowOn k) xs k < length rs)
+  onto-up k h q = go (onto (rowOn k) xs k) (onto-child (rowOn k) xs k q)
     where
       g : Onward features (length rs) k (rowOn k)
       g = node-good features rs good k h q
 
-      go : (b : Bool) → (k < cond b (rowOn k .trueChild) (rowOn k .falseChild)) × (cond b (rowOn k .trueChild) (rowOn k .falseChild) < length rs)
-      go true = (g .above, omega (arith, g .next, g .inside))
-      go false = (omega (arith, g .next, g .above), g .inside)
+      go : (m : ℕ) → (m ≡ rowOn k .trueChild) ⊎ (m ≡ rowOn k .falseChild) → (k < m) × (m < length rs)
+      go m (inl e) = (omega (arith, e, g .above), omega (arith, e, g .next, g .inside))
+      go m (inr e) = (omega (arith, e, g .next, g .above), omega (arith, e, g .inside))
 
   pub record Ends (m : ℕ) : Type 0 where
     pub inside : m < length rs
@@ -126,9 +132,8 @@ module _ (features : ℕ) (rs : List Entry) (good : T (goodTree features rs)) (x
       next n k m x z = omega arith
 
       go : (z : Bool) → isLeaf (rowOn k) ≡ z → ((m : ℕ) → m < length rs → length rs ≤ m + f → Ends (walked f rs xs m)) → Ends (walked f rs xs (onto (rowOn k) xs k))
-      go true q ih = subst Ends (sym (ap (walked f rs xs) (onto-leaf k q) ∙ leaf-stays f k q)) (record { inside = h; leaf = q })
-      go false q ih =
-          subst (λ m. Ends (walked f rs xs m)) (sym (onto-split k q)) (ih (sent k) (sent-on k h q .1) (next (length rs) k (sent k) (sent-on k h q .0) b))
+      go true q ih = subst Ends (sym (ap (walked f rs xs) (onto-leaf (rowOn k) xs k q) ∙ leaf-stays f k q)) (record { inside = h; leaf = q })
+      go false q ih = let (up, inside) = onto-up k h q in ih (onto (rowOn k) xs k) inside (next (length rs) k _ up b)
 
   pub walk-ends : Ends (walked (length rs) rs xs 0)
   unfolding goodTree

@@ -1,0 +1,140 @@
+-- The Rust's undoing of a split can never run. At a split the Rust goes along the node's rows in the order of the split feature, counts those up to the first that goes to the false side as
+-- the true side and all from it on as the false side, and takes the split back if either count is below the least leaf. Of every split of every tree of every fit that answers: those two
+-- counts are the ones beside its children, and both reach the least leaf. They are counted here as the Rust counts them, not by where each row goes: that no row of the true side comes
+-- behind one of the false side is part of what is shown. It holds because no value falls along a listing, and because no cut is found that leaves less. Assumes nothing.
+use Prim.Native.Nat.{ℕ, suc, _<_, _≤_}
+use native.Mathlib.Omega.{arith}
+use mathlib.Core.Path.{_≡_, refl, sym, ap, _∙_, subst}
+use mathlib.Core.Bool.{Bool, true, false, not, cond, true≢false}
+use mathlib.Core.List.{List, [], _∷_, map}
+use lib.ListN.{length, getD, List·getD-map}
+use lib.Dec.{T}
+use lib.Ieee.{le}
+use Rattle.floats.specs.Order.{le-trans64}
+use Rattle.rules.specs.declared.Fork.{Fork}
+use Rattle.rules.specs.declared.Kind.{Kind}
+use Rattle.rules.specs.declared.Kind.the-variants.{Leaf, Split}
+use Rattle.rules.specs.Words.{putIf, keep, total}
+use Rattle.rules.specs.Totals.{valueOf}
+use Rattle.rules.specs.Lent.{Data, OneTree, Entry, cell, countIn}
+use Rattle.rules.specs.Draws.{Tapes}
+use Rattle.rules.specs.Search.{at}
+use Rattle.rules.specs.Growth.{TreeNode, State}
+use Rattle.rules.specs.Fit.{elementIn, element, listing, root, entryOf}
+use Rattle.rules.specs.Table.{isLeaf}
+use Rattle.rules.specs.Reading.{noEntry}
+use Rattle.lemmas.specs.Lists.{is-true, Every, every-imp, keep-all, keep-none, Ordered, ordered-keep}
+use Rattle.lemmas.specs.Nodes.{noNode, kindAt, countAt}
+use Rattle.lemmas.specs.Splits.{Divides}
+use Rattle.lemmas.specs.Root.{Before, Listed}
+use Rattle.lemmas.specs.Tables.{length-entries}
+use Rattle.lemmas.specs.FitHistory.{Grown, rowsAt, count-along, least-at, leaf-at, split-at, goesAt, rows-child}
+use Rattle.demands.specs.TreesLeft.{Left, OfEveryTree, leftOf, of-every-tree}
+
+-- ---- the statement
+
+-- the entries up to the first that fails a test, and those from it on
+unfoldable pub upTo : {A : Type 0} → (A → Bool) → List A → List A
+upTo p [] = []
+upTo p (x ∷ l) = cond (p x) (x ∷ upTo p l) []
+
+unfoldable pub fromOn : {A : Type 0} → (A → Bool) → List A → List A
+fromOn p [] = []
+fromOn p (x ∷ l) = cond (p x) (fromOn p l) (x ∷ l)
+
+-- at a split with entry e a row goes to the true side
+abbrev pub goesBy : OneTree → Data → Entry → ℕ → Bool
+goesBy F D e i = le (cell (F .params .features) (D .values) (e .feature) i) (e .threshold)
+
+-- the Rust's two counts at node k, with entry e: along the rows that pass through it, in the order of e's feature
+abbrev pub trueCount : OneTree → Data → Left → ℕ → Entry → ℕ
+trueCount F D L k e = total (countIn (F .counts)) (upTo (goesBy F D e) (rowsAt F D (L .entries) k (e .feature)))
+
+abbrev pub falseCount : OneTree → Data → Left → ℕ → Entry → ℕ
+falseCount F D L k e = total (countIn (F .counts)) (fromOn (goesBy F D e) (rowsAt F D (L .entries) k (e .feature)))
+
+-- they are those of the children, and the split stays
+pub record Kept (F : OneTree) (D : Data) (L : Left) (k : ℕ) (e : Entry) : Type 0 where
+  pub trueIs : trueCount F D L k e ≡ getD (L .counts) (e .trueChild) 0
+  pub falseIs : falseCount F D L k e ≡ getD (L .counts) (e .falseChild) 0
+  pub leafTrue : F .params .leaf ≤ trueCount F D L k e
+  pub leafFalse : F .params .leaf ≤ falseCount F D L k e
+
+abbrev pub NeverUndone : OneTree → Data → Left → Type 0
+NeverUndone F D L = (k : ℕ) → k < length (L .entries) → isLeaf (getD (L .entries) k noEntry) ≡ false → Kept F D L k (getD (L .entries) k noEntry)
+
+-- ---- up to the first of the false side
+
+-- where nothing passes behind what fails
+module _ {A : Type 0} (R : A → A → Type 0) (p : A → Bool) (back : (x y : A) → R x y → p y ≡ true → p x ≡ true) where
+  none-behind : (x : A) → p x ≡ false → (l : List A) → Every (R x) l → Every (λ y. p y ≡ false) l
+  none-behind x f l h = every-imp _ _ (λ y r. go y r (p y) refl) l h
+    where
+      go : (y : A) → R x y → (b : Bool) → p y ≡ b → p y ≡ false
+      go y r true e = absurd (true≢false (sym (back x y r e) ∙ f))
+      go y r false e = e
+
+  up-keep : (l : List A) → Ordered R l → (upTo p l ≡ keep p l) × (fromOn p l ≡ keep (λ x. not (p x)) l)
+  unfolding upTo fromOn keep putIf
+  up-keep [] o = (refl, refl)
+  up-keep (x ∷ l) o = go (p x) refl (up-keep l (o .1))
+    where
+      go : (b : Bool) → p x ≡ b → (upTo p l ≡ keep p l) × (fromOn p l ≡ keep (λ y. not (p y)) l)
+          → (cond b (x ∷ upTo p l) [] ≡ putIf b x (keep p l)) × (cond b (fromOn p l) (x ∷ l) ≡ putIf (not b) x (keep (λ y. not (p y)) l))
+      go true e ih = (ap (λ r. x ∷ r) (ih .0), ih .1)
+      go false e ih =
+          let none = none-behind x e l (o .0) in (sym (keep-none p l none), ap (λ r. x ∷ r) (sym (keep-all (λ y. not (p y)) l (every-imp _ _ (λ y f. ap not f) l none))))
+
+-- ---- of every tree
+
+module _ (F : OneTree) (D : Data) (l : Listed F D) (some : 0 < F .params .features) (s : State Tapes) (g : Grown F D s) where
+  abbrev left : Left
+  left = leftOf F D s
+
+  -- at node k, split into fork
+  module _ (k : ℕ) (h : k < length (s .nodes)) (fork : Fork) (e : kindAt (s .nodes) k ≡ Split fork) where
+    abbrev entry : Entry
+    entry = entryOf (valueOf (getD (s .nodes) k noNode .totals)) (Split fork)
+
+    abbrev j : ℕ
+    j = fork .cut .feature
+
+    d : Divides (F .params) (s .nodes) k fork
+    d = g .stands .splits k fork e
+
+    along : (upTo (goesAt F D l s g (fork .cut)) (rowsAt F D (left .entries) k j) ≡ keep (goesAt F D l s g (fork .cut)) (rowsAt F D (left .entries) k j))
+        × (fromOn (goesAt F D l s g (fork .cut)) (rowsAt F D (left .entries) k j) ≡ keep (λ i. not (goesAt F D l s g (fork .cut) i)) (rowsAt F D (left .entries) k j))
+    unfolding at element elementIn cell
+    along =
+        up-keep (Before F D j) (goesAt F D l s g (fork .cut)) (λ a b r t. is-true _ (le-trans64 (at j (element F D a)) (at j (element F D b)) (fork .cut .threshold) r (subst T (sym t) tt)))
+        (rowsAt F D (left .entries) k j) (ordered-keep (Before F D j) _ (listing F D j) (l .rising j (d .known)))
+
+    -- the counts beside a child
+    beside : (c : ℕ) → c < length (s .nodes) → 0 < c → (rows : List ℕ) → rowsAt F D (left .entries) c j ≡ rows
+        → (total (countIn (F .counts)) rows ≡ getD (left .counts) c 0) × (F .params .leaf ≤ total (countIn (F .counts)) rows)
+    beside c b up rows q =
+        let n : total (countIn (F .counts)) rows ≡ countAt (s .nodes) c = sym (count-along F D l s g c b j (d .known) ∙ ap (total (countIn (F .counts))) q) in (
+          n ∙ sym (List·getD-map (λ (x : TreeNode). x .count) (s .nodes) c noNode),
+          subst (λ m. F .params .leaf ≤ m) (sym n) (least-at F D l s g c b up .1),
+        )
+
+    kept-at : Kept F D left k entry
+    unfolding entryOf
+    kept-at =
+        let parts = rows-child F D l s g k h fork e j in
+        let t = beside (fork .children) (omega (arith, d .inside)) (omega (arith, d .above)) _ (parts .0 ∙ sym (along .0)) in
+        let f = beside (suc (fork .children)) (d .inside) (omega arith) _ (parts .1 ∙ sym (along .1)) in
+        record { trueIs = t .0; falseIs = f .0; leafTrue = t .1; leafFalse = f .1 }
+
+  grown-kept : NeverUndone F D left
+  grown-kept k b inner = go (kindAt (s .nodes) k) refl
+    where
+      h : k < length (s .nodes)
+      h = subst (λ n. k < n) (length-entries (s .nodes)) b
+
+      go : (z : Kind) → kindAt (s .nodes) k ≡ z → Kept F D left k (getD (left .entries) k noEntry)
+      go Leaf e = absurd (true≢false (sym (leaf-at F D l s g k h e) ∙ inner))
+      go (Split fork) e = subst (Kept F D left k) (sym (split-at F D l s g k h fork e)) (kept-at k h fork e)
+
+pub never-undone : OfEveryTree NeverUndone
+never-undone = of-every-tree NeverUndone grown-kept

@@ -1,0 +1,396 @@
+-- A search finds a cut exactly where a feature that it tries offers one: for the best splitter a place of its column, for the random splitter the threshold drawn for it, that leaves
+-- the least leaf on both sides. And what a search takes from the tapes: its choice words, and a threshold for each feature tried whose lowest value is below its highest.
+-- Over both heights at once: where a cut stands between two values does not matter here. Assumes nothing.
+use Prim.Native.Nat.{ℕ, suc, _+_, _-_, _<_, min}
+use native.Mathlib.Nat.{zero-add}
+use native.Mathlib.Omega.{arith}
+use mathlib.Core.Path.{_≡_, refl, sym, ap, _∙_, subst}
+use mathlib.Core.Logic.{inl, inr}
+use mathlib.Core.Bool.{Bool, true, false, not, _&&_, _||_, cond, or-true, or-false, or-assoc}
+use mathlib.Core.List.{List, [], _∷_, map}
+use lib.ListN.{length, getD, take, drop}
+use lib.Seq.{drop-nil}
+use lib.Dec.{T, leb, ltb, not-T, leb→le, le→leb, ltb→lt, nltb→le}
+use lib.Ieee.{Float, nan, lt, le, eq}
+use Rattle.floats.specs.Order.{le-cases, le-of-eq64, le-trans64, lt-not-le, eq-sym}
+use Rattle.rules.specs.declared.Totals.{Totals}
+use Rattle.rules.specs.declared.Params.{Params}
+use Rattle.rules.specs.declared.Splitter.{Splitter}
+use Rattle.rules.specs.declared.Splitter.the-variants.{Best, Random}
+use Rattle.rules.specs.declared.Cut.{Cut}
+use Rattle.rules.specs.declared.Held.{Held}
+use Rattle.rules.specs.declared.Held.the-variants.{Nothing, Holds}
+use Rattle.rules.specs.declared.Sweep.{Sweep}
+use Rattle.rules.specs.Words.{putIf, keep, total, eachOnce}
+use Rattle.rules.specs.Totals.{empty, less, proxy}
+use Rattle.rules.specs.Draws.{Out, ok, bind, Tapes, takeWords, takeThreshold, nextThreshold, tape}
+use Rattle.rules.specs.Search.{Element, Column, at, tally, NodeRows, goesTrue, better, judge, candidateAt, step, sweep, bestIn}
+use Rattle.rules.specs.Search.{final, drawn, Tries, drawIn, randomIn, tryOne, tryAll, Found, noCut, cutFound, found, search}
+use Rattle.lemmas.specs.Lists.{is-true, Every, every-imp, every-take, keep-map, keep-same, total-sides, total-map}
+use Rattle.lemmas.specs.Once.{once-below}
+use Rattle.lemmas.specs.Outs.{Then, then-then, then-after, then-of}
+use Rattle.lemmas.specs.Values.{Value, eq-refl}
+use Rattle.lemmas.specs.Cuts.{Sound}
+
+-- ---- what a feature offers
+
+-- of a column of entries with a value and a count each
+module _ {A : Type 0} (value : A → Float) (count : A → ℕ) (leaf : ℕ) where
+  -- a place behind x, up to which the counts are k: its value differs from the one before, and the least leaf is before it and from it on
+  unfoldable pub cutsFrom : ℕ → A → List A → Bool
+  cutsFrom k x [] = false
+  cutsFrom k x (y ∷ l) = (not (eq (value y) (value x)) && (leb leaf k && leb leaf (total count (y ∷ l)))) || cutsFrom (k + count y) y l
+
+  -- some place of the column
+  unfoldable pub cutsAlong : List A → Bool
+  cutsAlong [] = false
+  cutsAlong (x ∷ l) = cutsFrom (count x) x l
+
+  -- a threshold has the least leaf on both sides
+  unfoldable pub cutsAt : List A → Float → Bool
+  cutsAt l t = leb leaf (total count (keep (λ x. le (value x) t) l)) && leb leaf (total count (keep (λ x. not (le (value x) t)) l))
+
+unfoldable pub lastOf : {A : Type 0} → A → List A → A
+lastOf x [] = x
+lastOf x (y ∷ l) = lastOf y l
+
+-- the lowest value of a column that never falls is below its highest, so that a threshold is drawn between them
+unfoldable pub spread : {A : Type 0} → (A → Float) → List A → Bool
+spread value [] = false
+spread value (x ∷ l) = lt (value x) (value (lastOf x l))
+
+-- of the features of a node
+pub record Offers : Type 0 where
+  -- feature j has a place to cut
+  pub place : ℕ → Bool
+  -- a threshold is drawn for it
+  pub draws : ℕ → Bool
+  -- that threshold is a cut
+  pub parts : ℕ → Float → Bool
+
+-- by their columns
+abbrev pub offersOf : {A : Type 0} → (ℕ → A → Float) → (A → ℕ) → ℕ → (ℕ → List A) → Offers
+offersOf value count leaf column =
+    record {
+      place = λ j. cutsAlong (value j) count leaf (column j);
+      draws = λ j. spread (value j) (column j);
+      parts = λ j t. cutsAt (value j) count leaf (column j) t;
+    }
+
+-- some feature of those tried offers a cut; the random splitter takes its thresholds from the front of ts, one for each feature that it draws for
+unfoldable pub offered : Offers → Splitter → List Float → List ℕ → Bool
+offered o Best ts [] = false
+offered o Best ts (j ∷ js) = o .place j || offered o Best ts js
+offered o Random ts [] = false
+offered o Random ts (j ∷ js) = cond (o .draws j) (o .parts j (getD ts 0 nan) || offered o Random (drop 1 ts) js) (offered o Random ts js)
+
+-- how many thresholds are taken
+unfoldable pub drawsOf : Offers → Splitter → List ℕ → ℕ
+drawsOf o Best js = 0
+drawsOf o Random js = length (keep (o .draws) js)
+
+-- the features that a search tries, of its choice words
+abbrev pub triedOf : Params → List ℕ → List ℕ
+triedOf P words = take (min (P .tried) (P .features)) (take (P .features) words)
+
+-- a node's own
+abbrev pub nodeOffers : Params → NodeRows → Offers
+nodeOffers P node = offersOf at (λ (e : Element). e .count) (P .leaf) (λ j. getD (node .columns) j [])
+
+abbrev pub isCut : Found → Bool
+isCut noCut = false
+isCut (cutFound c) = true
+
+-- what a search that answers has found and taken
+pub record Searched (P : Params) (node : NodeRows) (d : Tapes) (f : Found) (d′ : Tapes) : Type 0 where
+  pub found : isCut f ≡ offered (nodeOffers P node) (P .splitter) (d .thresholds) (triedOf P (d .words))
+  pub words : d′ .words ≡ drop (P .features) (d .words)
+  pub thresholds : d′ .thresholds ≡ drop (drawsOf (nodeOffers P node) (P .splitter) (triedOf P (d .words))) (d .thresholds)
+  pub searches : d′ .searches ≡ suc (d .searches)
+  pub known : Every (λ j. j < P .features) (triedOf P (d .words))
+
+-- ---- one candidate
+
+abbrev counts : Element → ℕ
+counts e = e .count
+
+abbrev isHeld : Held → Bool
+isHeld h = isCut (found h)
+
+-- what is held is not let go
+better-holds : (h : Held) (c : Cut) (q : Float) → isHeld (better h c q) ≡ true
+unfolding better
+better-holds Nothing c q = refl
+better-holds (Holds b p) c q = go (lt p q)
+  where
+    go : (x : Bool) → isHeld (cond x (Holds c q) (Holds b p)) ≡ true
+    go true = refl
+    go false = refl
+
+same-test : (a b : Bool) → (T a → T b) → (T b → T a) → a ≡ b
+same-test true b f g = sym (is-true b (f tt))
+same-test false true f g = absurd (g tt)
+same-test false false f g = refl
+
+not-less : (a b : ℕ) → not (ltb a b) ≡ leb b a
+not-less a b = same-test (not (ltb a b)) (leb b a) (λ t. le→leb b a (nltb→le a b t)) (λ t. not-T (ltb a b) (λ u. omega (arith, leb→le b a t, ltb→lt a b u)))
+
+-- a candidate with k before it and n from it on
+judge-holds : (P : Params) (node : NodeRows) (h : Held) (t : Totals) (k n : ℕ) (c : Cut) → node .count ≡ k + n
+    → isHeld (judge P node h t k c) ≡ (isHeld h || (leb (P .leaf) k && leb (P .leaf) n))
+unfolding judge
+judge-holds P node h t k n c counted =
+    go (ltb k (P .leaf)) (ltb (node .count - k) (P .leaf)) (proxy t (less (node .totals) t))
+    ∙ (λ i. isHeld h || (not-less k (P .leaf) i && (not-less (node .count - k) (P .leaf) ∙ ap (leb (P .leaf)) rest) i))
+  where
+    rest : node .count - k ≡ n
+    rest = omega (arith, counted)
+
+    go : (x y : Bool) (q : Float) → isHeld (cond x h (cond y h (better h c q))) ≡ (isHeld h || (not x && not y))
+    go true y q = sym (or-false (isHeld h))
+    go false true q = sym (or-false (isHeld h))
+    go false false q = better-holds h c q ∙ sym (or-true (isHeld h))
+
+-- ---- the best splitter
+
+eq-trans : (x y z : Float) → T (eq x y) → T (eq y z) → T (eq x z)
+eq-trans x y z h k =
+    let back : T (le z x) = le-trans64 z y x (le-of-eq64 z y (eq-sym y z k)) (le-of-eq64 y x (eq-sym x y h)) in
+    elim (le-cases x z (le-trans64 x y z (le-of-eq64 x y h) (le-of-eq64 y z k))) [ inl l ↦ absurd (lt-not-le x z l back) | inr e ↦ e ]
+
+-- a value is equal to both of two equals or to neither, so the first of a run will do for the one before
+eq-alike : (p y z : Float) → T (eq y p) → eq z p ≡ eq z y
+eq-alike p y z h = same-test (eq z p) (eq z y) (λ e. eq-trans z p y e (eq-sym y p h)) (λ e. eq-trans z y p e h)
+
+module _ (P : Params) (node : NodeRows) (j : ℕ) where
+  candidate-holds : (b : Bool) (x : Float) (w : Sweep) (n : ℕ) → node .count ≡ w .count + n
+      → isHeld (candidateAt b P node j x w) ≡ (isHeld (w .best) || (b && (leb (P .leaf) (w .count) && leb (P .leaf) n)))
+  unfolding candidateAt
+  candidate-holds false x w n counted = sym (or-false (isHeld (w .best)))
+  candidate-holds true x w n counted = judge-holds P node (w .best) (w .before) (w .count) n _ counted
+
+  -- the sweep, behind x: the run's first value stands for the value of x
+  sweep-holds : (w : Sweep) (x : Element) (rest : Column) → ((z : Float) → eq z (w .last) ≡ eq z (at j x)) → node .count ≡ w .count + tally rest
+      → isHeld (sweep P node j w rest .best) ≡ (isHeld (w .best) || cutsFrom (at j) counts (P .leaf) (w .count) x rest)
+  unfolding sweep step cutsFrom total
+  sweep-holds w x [] same counted = sym (or-false (isHeld (w .best)))
+  sweep-holds w x (e ∷ es) same counted =
+      sweep-holds (step P node j w e) e es (run (eq (at j e) (w .last)) refl) (omega (arith, counted))
+      ∙ ap (λ b. b || later) (candidate-holds (not (eq (at j e) (w .last))) (at j e) w (tally (e ∷ es)) counted)
+      ∙ or-assoc (isHeld (w .best)) (not (eq (at j e) (w .last)) && leaves) later
+      ∙ ap (λ b. isHeld (w .best) || ((not b && leaves) || later)) (same (at j e))
+    where
+      leaves : Bool
+      leaves = leb (P .leaf) (w .count) && leb (P .leaf) (tally (e ∷ es))
+
+      later : Bool
+      later = cutsFrom (at j) counts (P .leaf) (w .count + e .count) e es
+
+      run : (b : Bool) → eq (at j e) (w .last) ≡ b → (z : Float) → eq z (cond b (w .last) (at j e)) ≡ eq z (at j e)
+      run true h z = eq-alike (w .last) (at j e) z (subst T (sym h) tt)
+      run false h z = refl
+
+  best-holds : (h : Held) (col : Column) → Every (λ x. Value (at j x)) col → node .count ≡ tally col
+      → isHeld (bestIn P node j h col) ≡ (isHeld h || cutsAlong (at j) counts (P .leaf) col)
+  unfolding bestIn cutsAlong cutsFrom
+  best-holds h [] v counted = sym (or-false (isHeld h))
+  best-holds h (e ∷ es) v counted =
+      sweep-holds (record { before = empty; count = 0; last = at j e; best = h }) e (e ∷ es) (λ z. refl) (omega (arith, counted))
+      ∙ ap (λ b. isHeld h || ((not b && (leb (P .leaf) 0 && leb (P .leaf) (tally (e ∷ es)))) || cutsFrom (at j) counts (P .leaf) (0 + e .count) e es)) (eq-refl (at j e) (v .0))
+      ∙ ap (λ k. isHeld h || cutsFrom (at j) counts (P .leaf) k e es) (zero-add (e .count))
+
+  -- ---- the random splitter
+
+  drawn-holds : (h : Held) (col : Column) (t : Float) → node .count ≡ tally col → isHeld (drawn P node j h col t) ≡ (isHeld h || cutsAt (at j) counts (P .leaf) col t)
+  unfolding drawn goesTrue cutsAt
+  drawn-holds h col t counted = judge-holds P node h _ _ (tally (keep (λ x. not (le (at j x) t)) col)) _ (counted ∙ sym (total-sides counts (λ x. le (at j x) t) col))
+
+-- ---- features one after another
+
+-- what the first of them does to what the others offer and take
+offered-first : (o : Offers) (splitter : Splitter) (ts : List Float) (j : ℕ) (js : List ℕ)
+    → offered o splitter ts (j ∷ js) ≡ (offered o splitter ts (j ∷ []) || offered o splitter (drop (drawsOf o splitter (j ∷ [])) ts) js)
+unfolding offered drawsOf keep putIf
+offered-first o Best ts j js = ap (λ b. b || offered o Best ts js) (sym (or-false (o .place j)))
+offered-first o Random ts j js = go (o .draws j) (o .parts j (getD ts 0 nan))
+  where
+    go : (b p : Bool) → cond b (p || offered o Random (drop 1 ts) js) (offered o Random ts js) ≡ (cond b (p || false) false || offered o Random (drop (length (putIf b j [])) ts) js)
+    go true p = ap (λ b. b || offered o Random (drop 1 ts) js) (sym (or-false p))
+    go false p = refl
+
+draws-first : (o : Offers) (splitter : Splitter) (ts : List Float) (j : ℕ) (js : List ℕ)
+    → drop (drawsOf o splitter (j ∷ js)) ts ≡ drop (drawsOf o splitter js) (drop (drawsOf o splitter (j ∷ [])) ts)
+unfolding drawsOf keep putIf
+draws-first o Best ts j js = refl
+draws-first o Random ts j js = go (o .draws j) ts
+  where
+    go : (b : Bool) (ts : List Float) → drop (length (putIf b j (keep (o .draws) js))) ts ≡ drop (length (keep (o .draws) js)) (drop (length (putIf b j [])) ts)
+    go true [] = sym (drop-nil (length (keep (o .draws) js)))
+    go true (t ∷ ts) = refl
+    go false ts = refl
+
+-- what trying features has done: whether they offered a cut, and how many thresholds they took
+record Tried (b : Bool) (n : ℕ) (r r′ : Tries Tapes) : Type 0 where
+  best : isHeld (r′ .best) ≡ (isHeld (r .best) || b)
+  words : r′ .left .words ≡ r .left .words
+  thresholds : r′ .left .thresholds ≡ drop n (r .left .thresholds)
+  searches : r′ .left .searches ≡ r .left .searches
+
+untouched : (r : Tries Tapes) → Tried false 0 r r
+untouched r = record { best = sym (or-false (isHeld (r .best))); words = refl; thresholds = refl; searches = refl }
+
+-- where none is left there is no answer, so the default does not matter
+takes-threshold : (ts : List Float) (lowest highest : Float) (d : Tapes)
+    → Then (nextThreshold ts lowest highest d) (λ m. m ≡ (getD ts 0 nan, record { words = d .words; thresholds = drop 1 ts; searches = d .searches }))
+unfolding nextThreshold takeThreshold
+takes-threshold [] lowest highest d = tt
+takes-threshold (t ∷ ts) lowest highest d = go (le lowest t && lt t highest)
+  where
+    go : (b : Bool) → Then (takeThreshold b t ts d) (λ m. m ≡ (t, record { words = d .words; thresholds = ts; searches = d .searches }))
+    go false = tt
+    go true = refl
+
+final-last : (e : Element) (es : Column) → final e es ≡ lastOf e es
+unfolding final lastOf
+final-last e [] = refl
+final-last e (f ∷ fs) = final-last f fs
+
+module _ (P : Params) (node : NodeRows) where
+  -- of one feature, that a threshold is drawn for or not
+  abbrev One : ℕ → Column → Bool → Tries Tapes → Tries Tapes → Type 0
+  One j col b r r′ = Tried (cond b (cutsAt (at j) counts (P .leaf) col (getD (r .left .thresholds) 0 nan) || false) false) (length (putIf b j [])) r r′
+
+  random-tried : (j : ℕ) (r : Tries Tapes) (col : Column) → node .count ≡ tally col → Then (randomIn (tape (P .features)) P node j r col) (One j col (spread (at j) col) r)
+  unfolding randomIn drawIn spread putIf tape
+  random-tried j r [] counted = untouched r
+  random-tried j r (e ∷ es) counted =
+      subst (λ x. Then (drawIn (tape (P .features)) (lt (at j e) (at j (final e es))) P node j r e es) (One j (e ∷ es) (lt (at j e) (at j x)) r)) (final-last e es)
+      (go (lt (at j e) (at j (final e es))))
+    where
+      go : (b : Bool) → Then (drawIn (tape (P .features)) b P node j r e es) (One j (e ∷ es) b r)
+      go false = untouched r
+      go true =
+          then-then (nextThreshold (r .left .thresholds) (at j e) (at j (final e es)) (r .left)) _ _ _ (takes-threshold (r .left .thresholds) (at j e) (at j (final e es)) (r .left))
+          (λ m q. subst (λ n. One j (e ∷ es) true r (record { best = drawn P node j (r .best) (e ∷ es) (n .0); left = n .1 })) (sym q)
+          (record { best = drawn-holds P node j (r .best) (e ∷ es) _ counted ∙ ap (λ b. isHeld (r .best) || b) (sym (or-false _)); words = refl; thresholds = refl; searches = refl }))
+
+  -- of a list of features
+  abbrev All : Splitter → List ℕ → Tries Tapes → Tries Tapes → Type 0
+  All b js r r′ = Tried (offered (nodeOffers P node) b (r .left .thresholds) js) (drawsOf (nodeOffers P node) b js) r r′
+
+  one-tried : (b : Splitter) (j : ℕ) (r : Tries Tapes) → Sound P node j → Then (tryOne (tape (P .features)) b P node j r) (All b (j ∷ []) r)
+  unfolding tryOne offered drawsOf keep
+  one-tried Best j r s =
+      record { best = best-holds P node j (r .best) _ (s .values) (s .counted) ∙ ap (λ b. isHeld (r .best) || b) (sym (or-false _)); words = refl; thresholds = refl; searches = refl }
+  one-tried Random j r s = random-tried j r (getD (node .columns) j []) (s .counted)
+
+  none-tried : (b : Splitter) (r : Tries Tapes) → All b [] r r
+  unfolding offered drawsOf keep
+  none-tried Best r = untouched r
+  none-tried Random r = untouched r
+
+  all-tried : (js : List ℕ) (r : Tries Tapes) → Every (Sound P node) js → Then (tryAll (tape (P .features)) P node js r) (All (P .splitter) js r)
+  unfolding tryAll
+  all-tried [] r s = none-tried (P .splitter) r
+  all-tried (j ∷ js) r s =
+      then-then (tryOne (tape (P .features)) (P .splitter) P node j r) _ _ _ (one-tried (P .splitter) j r (s .0))
+      (λ r′ h. then-after (tryAll (tape (P .features)) P node js r′) _ _ (all-tried js r′ (s .1)) (λ r″ k. both r′ r″ h k))
+    where
+      both : (r′ r″ : Tries Tapes) → All (P .splitter) (j ∷ []) r r′ → All (P .splitter) js r′ r″ → All (P .splitter) (j ∷ js) r r″
+      both r′ r″ h k =
+          record {
+            best =
+                k .best ∙ (λ i. h .best i || offered (nodeOffers P node) (P .splitter) (h .thresholds i) js) ∙ or-assoc (isHeld (r .best)) _ _
+                ∙ ap (λ b. isHeld (r .best) || b) (sym (offered-first (nodeOffers P node) (P .splitter) (r .left .thresholds) j js));
+            words = k .words ∙ h .words;
+            thresholds = k .thresholds ∙ ap (drop (drawsOf (nodeOffers P node) (P .splitter) js)) (h .thresholds) ∙ sym (draws-first (nodeOffers P node) (P .splitter) (r .left .thresholds) j js);
+            searches = k .searches ∙ h .searches;
+          }
+
+-- ---- a search
+
+pub search-offers : (P : Params) (node : NodeRows) → ((j : ℕ) → j < P .features → Sound P node j) → (d : Tapes) (f : Found) (d′ : Tapes)
+    → search (tape (P .features)) P d node ≡ ok (f, d′) → Searched P node d f d′
+unfolding search tape takeWords bind
+search-offers P node sound d f d′ e =
+    then-of (λ m. Searched P node d (m .0) (m .1)) (search (tape (P .features)) P d node) (f, d′) e (go (eachOnce (P .features) (take (P .features) (d .words))) (λ t. t))
+  where
+    tries : List ℕ × Tapes → Out (Found × Tapes)
+    tries o =
+        bind (tryAll (tape (P .features)) P node (take (min (P .tried) (P .features)) (o .0)) (record { best = Nothing; left = o .1 }))
+        (λ r. ok (found (r .best), tape (P .features) .done (r .left)))
+
+    go : (b : Bool) → (T b → T (eachOnce (P .features) (take (P .features) (d .words)))) → Then (bind (takeWords b (P .features) d) tries) (λ m. Searched P node d (m .0) (m .1))
+    go false h = tt
+    go true h =
+        let known : Every (λ j. j < P .features) (triedOf P (d .words)) = every-take _ (min (P .tried) (P .features)) _ (once-below (P .features) _ (h tt)) in
+        then-then (tryAll (tape (P .features)) P node (triedOf P (d .words)) _) _ _ _ (all-tried P node (triedOf P (d .words)) _ (every-imp _ _ sound (triedOf P (d .words)) known))
+        (λ r k. record { found = k .best; words = k .words; thresholds = k .thresholds; searches = ap suc (k .searches); known = known })
+
+-- ---- entries by another name
+
+module _ {A B : Type 0} (count : A → ℕ) (leaf : ℕ) (f : B → A) where
+  from-map : (value : A → Float) (k : ℕ) (x : B) (l : List B) → cutsFrom value count leaf k (f x) (map f l) ≡ cutsFrom (λ y. value (f y)) (λ y. count (f y)) leaf k x l
+  unfolding cutsFrom
+  from-map value k x [] = refl
+  from-map value k x (y ∷ l) =
+      λ i. (not (eq (value (f y)) (value (f x))) && (leb leaf k && leb leaf (total-map count f (y ∷ l) i))) || from-map value (k + count (f y)) y l i
+
+  along-map : (value : A → Float) (l : List B) → cutsAlong value count leaf (map f l) ≡ cutsAlong (λ y. value (f y)) (λ y. count (f y)) leaf l
+  unfolding cutsAlong
+  along-map value [] = refl
+  along-map value (x ∷ l) = from-map value (count (f x)) x l
+
+  at-map : (value : A → Float) (l : List B) (t : Float) → cutsAt value count leaf (map f l) t ≡ cutsAt (λ y. value (f y)) (λ y. count (f y)) leaf l t
+  unfolding cutsAt
+  at-map value l t = λ i. leb leaf (side (λ x. le (value x) t) i) && leb leaf (side (λ x. not (le (value x) t)) i)
+    where
+      side : (p : A → Bool) → total count (keep p (map f l)) ≡ total (λ y. count (f y)) (keep (λ y. p (f y)) l)
+      side p = ap (total count) (keep-map p f l) ∙ total-map count f (keep (λ y. p (f y)) l)
+
+  last-map : (x : B) (l : List B) → lastOf (f x) (map f l) ≡ f (lastOf x l)
+  unfolding lastOf
+  last-map x [] = refl
+  last-map x (y ∷ l) = last-map y l
+
+  spread-map : (value : A → Float) (l : List B) → spread value (map f l) ≡ spread (λ y. value (f y)) l
+  unfolding spread
+  spread-map value [] = refl
+  spread-map value (x ∷ l) = ap (λ y. lt (value (f x)) (value y)) (last-map x l)
+
+-- two that offer the same for feature j
+record Alike (o o′ : Offers) (j : ℕ) : Type 0 where
+  place : o .place j ≡ o′ .place j
+  draws : o .draws j ≡ o′ .draws j
+  parts : (t : Float) → o .parts j t ≡ o′ .parts j t
+
+module _ (o o′ : Offers) where
+  offered-same : (splitter : Splitter) (ts : List Float) (js : List ℕ) → Every (Alike o o′) js → offered o splitter ts js ≡ offered o′ splitter ts js
+  unfolding offered
+  offered-same Best ts [] h = refl
+  offered-same Best ts (j ∷ js) h = λ i. h .0 .place i || offered-same Best ts js (h .1) i
+  offered-same Random ts [] h = refl
+  offered-same Random ts (j ∷ js) h =
+      λ i. cond (h .0 .draws i) (h .0 .parts (getD ts 0 nan) i || offered-same Random (drop 1 ts) js (h .1) i) (offered-same Random ts js (h .1) i)
+
+  draws-same : (splitter : Splitter) (js : List ℕ) → Every (Alike o o′) js → drawsOf o splitter js ≡ drawsOf o′ splitter js
+  unfolding drawsOf
+  draws-same Best js h = refl
+  draws-same Random js h = ap length (keep-same (o .draws) (o′ .draws) js (every-imp _ _ (λ j a. a .draws) js h))
+
+module _ {A B : Type 0} (value : ℕ → A → Float) (count : A → ℕ) (leaf : ℕ) (column : ℕ → List A) (f : B → A) (column′ : ℕ → List B) where
+  alike-map : (j : ℕ) → column j ≡ map f (column′ j) → Alike (offersOf value count leaf column) (offersOf (λ j x. value j (f x)) (λ x. count (f x)) leaf column′) j
+  alike-map j e =
+      record {
+        place = ap (cutsAlong (value j) count leaf) e ∙ along-map count leaf f (value j) (column′ j);
+        draws = ap (spread (value j)) e ∙ spread-map count leaf f (value j) (column′ j);
+        parts = λ t. ap (λ l. cutsAt (value j) count leaf l t) e ∙ at-map count leaf f (value j) (column′ j) t;
+      }
+
+  pub offers-map : (splitter : Splitter) (ts : List Float) (js : List ℕ) → Every (λ j. column j ≡ map f (column′ j)) js
+      → offered (offersOf value count leaf column) splitter ts js ≡ offered (offersOf (λ j x. value j (f x)) (λ x. count (f x)) leaf column′) splitter ts js
+  offers-map splitter ts js h = offered-same _ _ splitter ts js (every-imp _ _ alike-map js h)
+
+  pub draws-map : (splitter : Splitter) (js : List ℕ) → Every (λ j. column j ≡ map f (column′ j)) js
+      → drawsOf (offersOf value count leaf column) splitter js ≡ drawsOf (offersOf (λ j x. value j (f x)) (λ x. count (f x)) leaf column′) splitter js
+  draws-map splitter js h = draws-same _ _ splitter js (every-imp _ _ alike-map js h)
