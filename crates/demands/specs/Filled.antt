@@ -1,6 +1,5 @@
 -- Every split of a fit that answers leaves both sides filled, and with the least leaf: in the tree that was grown, each of a split's two children has a count of at
--- least 1 and at least the least leaf, and together they have the split's. A node that waits is always split, so the counts that the Rust's undoing of a split tests are
--- these: it can never run. Assumes nothing.
+-- least 1 and at least the least leaf, and together they have the split's. Assumes nothing.
 use mathlib.Core.Path.{_≡_}
 use Rattle.rules.specs.declared.Report.{Report}
 use Rattle.rules.specs.declared.TreeAnswer.{TreeAnswer}

@@ -30,14 +30,15 @@ pub mod Sides
 pub mod Heights
 pub mod Filled
 pub mod Support
+pub mod Limits
+pub mod Tried
+-- every kept row in one leaf, and why a node is a leaf
 pub mod TreesLeft
 pub mod Through
 pub mod OneLeaf
 pub mod LeastLeaf
 pub mod Undoing
 pub mod Reasons
-pub mod Limits
-pub mod Tried
 -- reading
 pub mod Means
 pub mod Error

@@ -75,11 +75,12 @@ pub data Reason : Type 0 where
   -- none of these
   cutOffered : Reason
 
+-- the first that holds, by whether something is kept, the level is below the limit, the count reaches the least split, and a cut is offered
+abbrev pub reasonBy : Bool → Bool → Bool → Bool → Reason
+reasonBy some low many offers = cond some (cond low (cond many (cond offers cutOffered noCutOffered) belowLeastSplit) atTheLimit) nothingKept
+
 unfoldable pub reasonAt : OneTree → Data → Left → ℕ → Reason
-reasonAt F D L k =
-    cond (ltb 0 (countOf L k))
-    (cond (ltb (levelIn (L .entries) k) (F .params .limit)) (cond (leb (F .params .split) (countOf L k)) (cond (isOffered F D L k) cutOffered noCutOffered) belowLeastSplit) atTheLimit)
-    nothingKept
+reasonAt F D L k = reasonBy (ltb 0 (countOf L k)) (ltb (levelIn (L .entries) k) (F .params .limit)) (leb (F .params .split) (countOf L k)) (isOffered F D L k)
 
 abbrev pub stops : Reason → Bool
 stops nothingKept = true
@@ -96,12 +97,29 @@ LeafByReason F D L = (k : ℕ) → k < length (L .entries) → (isLeaf (getD (L 
 abbrev pub SearchesTold : OneTree → Data → Left → Type 0
 SearchesTold F D L = L .report .searches ≡ length (searchedTo F L (length (L .entries)))
 
+-- ---- reasons
+
+stops-by : (some low many offers : Bool) → not ((some && (low && many)) && offers) ≡ stops (reasonBy some low many offers)
+stops-by true true true true = refl
+stops-by true true true false = refl
+stops-by true true false offers = refl
+stops-by true false many offers = refl
+stops-by false low many offers = refl
+
 abbrev Something : Reason → Type 0
 Something nothingKept = ⊥
 Something atTheLimit = Unit {0}
 Something belowLeastSplit = Unit {0}
 Something noCutOffered = Unit {0}
 Something cutOffered = Unit {0}
+
+-- where something is kept, that is not the reason
+something : (some low many offers : Bool) → some ≡ true → reasonBy some low many offers ≡ nothingKept → ⊥
+something true true true true t e = subst Something e tt
+something true true true false t e = subst Something e tt
+something true true false offers t e = subst Something e tt
+something true false many offers t e = subst Something e tt
+something false low many offers t e = false≢true t
 
 -- ---- one node more
 
@@ -230,7 +248,11 @@ module _ (F : OneTree) (D : Data) (l : Listed F D) (some : 0 < F .params .featur
   unfolding keep from total
   ledger zero h =
       let e = g .history .start in
-      record { words = ap (λ (d : Tapes). d .words) e ∙ ap (λ m. drop m (F .words)) (sym (zero-mul (P .features))); thresholds = ap (λ (d : Tapes). d .thresholds) e; searches = ap (λ (d : Tapes). d .searches) e }
+      record {
+        words = ap (λ (d : Tapes). d .words) e ∙ ap (λ m. drop m (F .words)) (sym (zero-mul (P .features)));
+        thresholds = ap (λ (d : Tapes). d .thresholds) e;
+        searches = ap (λ (d : Tapes). d .searches) e;
+      }
   ledger (suc k) h =
       let b : k < length (s .nodes) = omega (arith, h) in
       subst (Ledger (suc k)) (sym (g .history .next k h)) (ledger-after k b (ledger k b))
@@ -253,35 +275,28 @@ module _ (F : OneTree) (D : Data) (l : Listed F D) (some : 0 < F .params .featur
       go false q = ap isCut (subst (λ b. Gave P (chooses P) b (met k)) q (gave k h) .0)
       go true q = cut-is k h (ledger k h) q
 
-  -- where something is kept, that is not the reason
-  other : (some low many offers : Bool) → some ≡ true → cond some (cond low (cond many (cond offers cutOffered noCutOffered) belowLeastSplit) atTheLimit) nothingKept ≡ nothingKept → ⊥
-  other true true true true t e = subst Something e tt
-  other true true true false t e = subst Something e tt
-  other true true false o t e = subst Something e tt
-  other true false m o t e = subst Something e tt
-  other false lo m o t e = false≢true t
-
   grown-reason : LeafByReason F D left
   unfolding reasonAt
-  grown-reason k b = (leaf-is k h ∙ ap not (found-is k h) ∙ by (ltb 0 (countOf left k)) (ltb (levelIn (left .entries) k) (P .limit)) (leb (P .split) (countOf left k)) (isOffered F D left k), only)
+  grown-reason k b = (leaf-is k h ∙ ap not (found-is k h) ∙ stops-by keeps low many offers, λ q. only k refl q)
     where
       h : k < length (s .nodes)
       h = subst (λ n. k < n) (length-entries (s .nodes)) b
 
-      by : (some low many offers : Bool) → not ((some && (low && many)) && offers) ≡ stops (cond some (cond low (cond many (cond offers cutOffered noCutOffered) belowLeastSplit) atTheLimit) nothingKept)
-      by true true true true = refl
-      by true true true false = refl
-      by true true false o = refl
-      by true false m o = refl
-      by false lo m o = refl
+      keeps : Bool
+      keeps = ltb 0 (countOf left k)
 
-      only : reasonAt F D left k ≡ nothingKept → k ≡ 0
-      only q = go k refl
-        where
-          go : (m : ℕ) → k ≡ m → k ≡ 0
-          go zero e = e
-          go (suc m) e =
-              absurd (other (ltb 0 (countOf left k)) (ltb (levelIn (left .entries) k) (P .limit)) (leb (P .split) (countOf left k)) (isOffered F D left k) (filled k h (omega (arith, e))) q)
+      low : Bool
+      low = ltb (levelIn (left .entries) k) (P .limit)
+
+      many : Bool
+      many = leb (P .split) (countOf left k)
+
+      offers : Bool
+      offers = isOffered F D left k
+
+      only : (m : ℕ) → k ≡ m → reasonBy keeps low many offers ≡ nothingKept → k ≡ 0
+      only zero e q = e
+      only (suc m) e q = absurd (something keeps low many offers (filled k h (omega (arith, e))) q)
 
   grown-told : SearchesTold F D left
   unfolding treeOf

@@ -1,37 +1,42 @@
 -- The Rust's undoing of a split can never run. At a split the Rust goes along the node's rows in the order of the split feature, counts those up to the first that goes to the false side as
--- the true side and all from it on as the false side, and takes the split back if either count is below the least leaf. Of every split of every tree of every fit that answers: those two
--- counts are the ones beside its children, and both reach the least leaf. They are counted here as the Rust counts them, not by where each row goes: that no row of the true side comes
--- behind one of the false side is part of what is shown. It holds because no value falls along a listing, and because no cut is found that leaves less. Assumes nothing.
-use Prim.Native.Nat.{ℕ, suc, _<_, _≤_}
+-- the true side and all from it on as the false side, and takes the split back if either count is below the least leaf. Of every tree of every fit that answers: at each split those two
+-- counts are the ones beside its children, and both reach the least leaf; and a growth that has the undoing in it, for every node that waits, is the same growth. The two are counted here
+-- as the Rust counts them, not by where each row goes: that no row of the true side comes behind one of the false side is part of what is shown. It holds because no value falls along a
+-- listing, and because no cut is found that leaves less on either side. Assumes nothing.
+use Prim.Native.Nat.{ℕ, zero, suc, _-_, _<_, _≤_}
 use native.Mathlib.Omega.{arith}
 use mathlib.Core.Path.{_≡_, refl, sym, ap, _∙_, subst}
-use mathlib.Core.Bool.{Bool, true, false, not, cond, true≢false}
-use mathlib.Core.List.{List, [], _∷_, map}
+use mathlib.Core.Bool.{Bool, true, false, not, _&&_, _||_, cond, true≢false}
+use mathlib.Core.List.{List, [], _∷_}
 use lib.ListN.{length, getD, List·getD-map}
-use lib.Dec.{T}
+use lib.Dec.{T, ltb, ltb→lt, not-T}
 use lib.Ieee.{le}
 use Rattle.floats.specs.Order.{le-trans64}
+use Rattle.rules.specs.declared.Params.{Params}
 use Rattle.rules.specs.declared.Fork.{Fork}
 use Rattle.rules.specs.declared.Kind.{Kind}
 use Rattle.rules.specs.declared.Kind.the-variants.{Leaf, Split}
 use Rattle.rules.specs.Words.{putIf, keep, total}
 use Rattle.rules.specs.Totals.{valueOf}
 use Rattle.rules.specs.Lent.{Data, OneTree, Entry, cell, countIn}
-use Rattle.rules.specs.Draws.{Tapes}
-use Rattle.rules.specs.Search.{at}
-use Rattle.rules.specs.Growth.{TreeNode, State}
-use Rattle.rules.specs.Fit.{elementIn, element, listing, root, entryOf}
+use Rattle.rules.specs.Draws.{Out, ok, bind, Tapes, tape}
+use Rattle.rules.specs.Search.{Column, at, tally, NodeRows, goesTrue, onTrue, onFalse, trueSide, falseSide, Found}
+use Rattle.rules.specs.Growth.{TreeNode, Waiting, State, leafOf, searchable, runs, searchIf, expand, grow, growAll, fromRoot}
+use Rattle.rules.specs.Fit.{elementIn, element, listing, root, treeOf, growFrom, fit, entryOf}
 use Rattle.rules.specs.Table.{isLeaf}
 use Rattle.rules.specs.Reading.{noEntry}
-use Rattle.lemmas.specs.Lists.{is-true, Every, every-imp, keep-all, keep-none, Ordered, ordered-keep}
+use Rattle.lemmas.specs.Lists.{is-true, is-false, Every, every-imp, keep-all, keep-none, Ordered, ordered-keep}
+use Rattle.lemmas.specs.Outs.{Then, bind-same}
+use Rattle.lemmas.specs.WaitingOrder.{runs-same, searchIf-joins, expand-joins}
 use Rattle.lemmas.specs.Nodes.{noNode, kindAt, countAt}
-use Rattle.lemmas.specs.Splits.{Divides}
-use Rattle.lemmas.specs.Root.{Before, Listed}
+use Rattle.lemmas.specs.Cuts.{Good, Suits, Ripe, search-fine, tape-fair, side-good}
+use Rattle.lemmas.specs.Splits.{Divides, joins-ripe}
+use Rattle.lemmas.specs.Root.{Before, Listed, root-good}
 use Rattle.lemmas.specs.Tables.{length-entries}
-use Rattle.lemmas.specs.FitHistory.{Grown, rowsAt, count-along, least-at, leaf-at, split-at, goesAt, rows-child}
+use Rattle.lemmas.specs.FitHistory.{chooses, startOf, Grown, rowsAt, count-along, least-at, leaf-at, split-at, goesAt, rows-child}
 use Rattle.demands.specs.TreesLeft.{Left, OfEveryTree, leftOf, of-every-tree}
 
--- ---- the statement
+-- ---- the statements
 
 -- the entries up to the first that fails a test, and those from it on
 unfoldable pub upTo : {A : Type 0} → (A → Bool) → List A → List A
@@ -53,15 +58,39 @@ trueCount F D L k e = total (countIn (F .counts)) (upTo (goesBy F D e) (rowsAt F
 abbrev pub falseCount : OneTree → Data → Left → ℕ → Entry → ℕ
 falseCount F D L k e = total (countIn (F .counts)) (fromOn (goesBy F D e) (rowsAt F D (L .entries) k (e .feature)))
 
--- they are those of the children, and the split stays
-pub record Kept (F : OneTree) (D : Data) (L : Left) (k : ℕ) (e : Entry) : Type 0 where
+-- they are those of the children, and neither is too low
+pub record Stays (F : OneTree) (D : Data) (L : Left) (k : ℕ) (e : Entry) : Type 0 where
   pub trueIs : trueCount F D L k e ≡ getD (L .counts) (e .trueChild) 0
   pub falseIs : falseCount F D L k e ≡ getD (L .counts) (e .falseChild) 0
   pub leafTrue : F .params .leaf ≤ trueCount F D L k e
   pub leafFalse : F .params .leaf ≤ falseCount F D L k e
 
 abbrev pub NeverUndone : OneTree → Data → Left → Type 0
-NeverUndone F D L = (k : ℕ) → k < length (L .entries) → isLeaf (getD (L .entries) k noEntry) ≡ false → Kept F D L k (getD (L .entries) k noEntry)
+NeverUndone F D L = (k : ℕ) → k < length (L .entries) → isLeaf (getD (L .entries) k noEntry) ≡ false → Stays F D L k (getD (L .entries) k noEntry)
+
+module _ (P : Params) {S : Type 0} (choose : S → NodeRows → Out (Found × S)) where
+  -- a waiting node whose split is taken back: by the same two counts, along its column
+  abbrev pub takenBack : Waiting → Bool
+  takenBack w =
+      let rows = getD (w .node .columns) (w .cut .feature) [] in
+      ltb (tally (upTo (goesTrue (w .cut)) rows)) (P .leaf) || ltb (tally (fromOn (goesTrue (w .cut)) rows)) (P .leaf)
+
+  -- as growth splits, but that such a node stays a leaf
+  unfoldable pub expandOrNot : Waiting → State S → Out (List Waiting × State S)
+  expandOrNot w s = cond (takenBack w) (ok ([], s)) (expand P choose w s)
+
+  unfoldable pub growOrNot : ℕ → Waiting → State S → Out (State S)
+  growOrNot zero w s = ok s
+  growOrNot (suc k) w s = bind (expandOrNot w s) (λ r. runs (λ w′ s′. growOrNot k w′ s′) (r .0) (r .1))
+
+  unfoldable pub fromRootOrNot : NodeRows → S → Out (State S)
+  fromRootOrNot root s =
+      bind (searchIf P choose (ltb 0 (root .count) && searchable P 1 root) 0 1 root s) (λ r.
+      runs (λ w s′. growOrNot (P .limit - w .level) w s′) (r .0) (record { nodes = leafOf root ∷ []; depth = 0; left = r .1 }))
+
+-- a fit that grows so is the fit
+abbrev pub SameWithUndoing : OneTree → Data → Left → Type 0
+SameWithUndoing F D L = bind (fromRootOrNot (F .params) (chooses (F .params)) (root F D) (startOf F)) (λ s. ok (treeOf F (root F D) s)) ≡ fit F D
 
 -- ---- up to the first of the false side
 
@@ -118,7 +147,7 @@ module _ (F : OneTree) (D : Data) (l : Listed F D) (some : 0 < F .params .featur
           subst (λ m. F .params .leaf ≤ m) (sym n) (least-at F D l s g c b up .1),
         )
 
-    kept-at : Kept F D left k entry
+    kept-at : Stays F D left k entry
     unfolding entryOf
     kept-at =
         let parts = rows-child F D l s g k h fork e j in
@@ -132,9 +161,51 @@ module _ (F : OneTree) (D : Data) (l : Listed F D) (some : 0 < F .params .featur
       h : k < length (s .nodes)
       h = subst (λ n. k < n) (length-entries (s .nodes)) b
 
-      go : (z : Kind) → kindAt (s .nodes) k ≡ z → Kept F D left k (getD (left .entries) k noEntry)
+      go : (z : Kind) → kindAt (s .nodes) k ≡ z → Stays F D left k (getD (left .entries) k noEntry)
       go Leaf e = absurd (true≢false (sym (leaf-at F D l s g k h e) ∙ inner))
-      go (Split fork) e = subst (Kept F D left k) (sym (split-at F D l s g k h fork e)) (kept-at k h fork e)
+      go (Split fork) e = subst (Stays F D left k) (sym (split-at F D l s g k h fork e)) (kept-at k h fork e)
 
 pub never-undone : OfEveryTree NeverUndone
 never-undone = of-every-tree NeverUndone grown-kept
+
+-- ---- of every growth
+
+module _ (P : Params) {S : Type 0} (choose : S → NodeRows → Out (Found × S)) (fine : (s : S) (node : NodeRows) → Good P node → Then (choose s node) (λ r. Suits P node (r .0))) where
+  -- a ripe node is not taken back
+  ripe-stays : (w : Waiting) → Ripe P w → takenBack P choose w ≡ false
+  unfolding goesTrue
+  ripe-stays w h = λ i. enough _ (subst (λ l. P .leaf ≤ tally l) (sym (along .0)) (h .fine .leafTrue)) i || enough _ (subst (λ l. P .leaf ≤ tally l) (sym (along .1)) (h .fine .leafFalse)) i
+    where
+      rows : Column
+      rows = getD (w .node .columns) (w .cut .feature) []
+
+      along : (upTo (goesTrue (w .cut)) rows ≡ trueSide (w .cut) rows) × (fromOn (goesTrue (w .cut)) rows ≡ falseSide (w .cut) rows)
+      along =
+          up-keep (λ x y. T (le (at (w .cut .feature) x) (at (w .cut .feature) y))) (goesTrue (w .cut))
+          (λ x y r t. is-true _ (le-trans64 (at (w .cut .feature) x) (at (w .cut .feature) y) (w .cut .threshold) r (subst T (sym t) tt)))
+          rows (h .good .sound (w .cut .feature) (h .fine .known) .rising)
+
+      enough : (n : ℕ) → P .leaf ≤ n → ltb n (P .leaf) ≡ false
+      enough n l = is-false (ltb n (P .leaf)) (not-T (ltb n (P .leaf)) (λ t. omega (arith, l, ltb→lt n (P .leaf) t)))
+
+  grow-same : (k : ℕ) (w : Waiting) (s : State S) → Ripe P w → growOrNot P choose k w s ≡ grow P choose k w s
+  unfolding growOrNot grow expandOrNot
+  grow-same zero w s h = refl
+  grow-same (suc k) w s h =
+      ap (λ b. bind (cond b (ok ([], s)) (expand P choose w s)) (λ r. runs (λ w′ s′. growOrNot P choose k w′ s′) (r .0) (r .1))) (ripe-stays w h)
+      ∙ bind-same (expand P choose w s) _ _ _
+      (expand-joins P choose (Ripe P) w s (λ t a. joins-ripe P choose fine _ _ _ t (side-good P onTrue w h)) (λ t a. joins-ripe P choose fine _ _ _ t (side-good P onFalse w h)))
+      (λ r q. runs-same _ _ (r .0) (r .1) (every-imp _ _ (λ v g t. grow-same k v t g) (r .0) q))
+
+  from-root-same : (root : NodeRows) (s : S) → Good P root → fromRootOrNot P choose root s ≡ fromRoot P choose root s
+  unfolding fromRootOrNot fromRoot growAll
+  from-root-same root s g =
+      bind-same (searchIf P choose (ltb 0 (root .count) && searchable P 1 root) 0 1 root s) _ _ _ (searchIf-joins P choose (Ripe P) _ 0 1 root s (λ t. joins-ripe P choose fine 0 1 root s g))
+      (λ r q. runs-same _ _ (r .0) _ (every-imp _ _ (λ v h t. grow-same (P .limit - v .level) v t h) (r .0) q))
+
+pub same-with-undoing : OfEveryTree SameWithUndoing
+unfolding fit growFrom
+same-with-undoing =
+    of-every-tree SameWithUndoing
+    (λ F D l some s g. ap (λ m. bind m (λ t. ok (treeOf F (root F D) t)))
+    (from-root-same (F .params) (chooses (F .params)) (search-fine (F .params) (tape (F .params .features)) (tape-fair (F .params))) (root F D) (startOf F) (root-good F D l)))

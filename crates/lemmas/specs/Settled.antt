@@ -77,12 +77,15 @@ module _ (P : Params) {S : Type 0} (choose : S → NodeRows → Out (Found × S)
     up-to : (f k : ℕ) → k ≤ f → k < length ns → Q k
     up-to zero k b l = let e : k ≡ 0 = omega arith in subst Q (sym e) first
     up-to (suc f) zero b l = first
-    up-to (suc f) (suc k) b l = go (up (met (suc k) .parent) inside (o .fork) (o .split) (forked _ inside (o .fork) (o .split)) (up-to f (met (suc k) .parent) (omega (arith, o .before, b)) inside)) (o .which)
+    up-to (suc f) (suc k) b l = go (up p inside (o .fork) (o .split) (forked p inside (o .fork) (o .split)) (up-to f p (omega (arith, o .before, b)) inside)) (o .which)
       where
         o : Born P choose ns met (suc k)
         o = h .born (suc k) (omega arith) l
 
-        inside : met (suc k) .parent < length ns
+        p : ℕ
+        p = met (suc k) .parent
+
+        inside : p < length ns
         inside = omega (arith, o .before, l)
 
         go : Q (o .fork .children) × Q (suc (o .fork .children)) → (suc k ≡ o .fork .children) ⊎ (suc k ≡ suc (o .fork .children)) → Q (suc k)

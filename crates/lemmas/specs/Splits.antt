@@ -165,7 +165,7 @@ module _ (P : Params) (w : Waiting) (ns : List TreeNode) (h : Stands P ns) (p : 
 module _ (P : Params) {S : Type 0} (choose : S → NodeRows → Out (Found × S))
     (fine : (s : S) (node : NodeRows) → Good P node → Then (choose s node) (λ r. Suits P node (r .0))) where
   -- whoever joins is ripe
-  joins-ripe : (n level : ℕ) (node : NodeRows) (t : S) → Good P node → Then (choose t node) (λ r. Every (Ripe P) (joins n level node (r .0)))
+  pub joins-ripe : (n level : ℕ) (node : NodeRows) (t : S) → Good P node → Then (choose t node) (λ r. Every (Ripe P) (joins n level node (r .0)))
   unfolding joins
   joins-ripe n level node t g = then-after (choose t node) _ _ (fine t node g) (λ r f. go (r .0) f)
     where

@@ -3,3 +3,5 @@ pub mod TableCalls
 pub mod Rehearsal
 -- a model file, byte by byte
 pub mod ModelFile
+-- why each node of its trees is a leaf or a split
+pub mod Reasons
