@@ -1,7 +1,8 @@
 -- Every node but the root has the least leaf: the count beside it is at least as great, whatever the least leaf is, and never 0. It holds of every tree of every fit that answers, because
--- every node but the root is a side of a cut that was found, and no cut is found that leaves less on either side. Assumes nothing.
+-- every node but the root is a side of a cut that was found, and no cut is found that leaves less on either side, or no row at all: it is at least the lowest value of the node's rows and
+-- below the highest. Assumes nothing.
 use Prim.Native.Nat.{ℕ, _<_, _≤_}
-use mathlib.Core.Path.{_≡_, sym, subst}
+use mathlib.Core.Path.{sym, subst}
 use lib.ListN.{length, getD, List·getD-map}
 use Rattle.rules.specs.Lent.{Data, OneTree}
 use Rattle.rules.specs.Growth.{TreeNode}

@@ -1,6 +1,6 @@
 -- Every fixture in exactly one leaf. A kept row, walked through the table that is left with the values that it was trained on, ends in a leaf and passes through no other; and its count is
--- among those that stand beside that leaf. So the counts of the leaves are those of the kept rows, each once, and add up to them all. It holds of every tree of every fit that answers,
--- because the table is good and a node's count is that of the kept rows that pass through it. Assumes nothing.
+-- at most the one beside that leaf. The counts of all leaves add up to the counts of all kept rows. It holds of every tree of every fit that answers, because the table is good, and because
+-- a node's count is the sum of the counts of the kept rows that pass through it. Assumes nothing.
 use Prim.Native.Nat.{ℕ, _+_, _<_, _≤_}
 use native.Mathlib.Nat.{zero-add}
 use native.Mathlib.Omega.{arith}
@@ -41,7 +41,7 @@ pub record OneLeaf (es : List Entry) (xs : List Float) (k : ℕ) : Type 0 where
   pub through : passes es xs k ≡ true
   pub alone : (m : ℕ) → isLeaf (getD es m noEntry) ≡ true → passes es xs m ≡ true → m ≡ k
 
--- a row ends there, and if it is kept its count is among those beside it
+-- a kept row ends there, and its count is at most the one beside it
 abbrev pub EndsInOne : OneTree → Data → Left → Type 0
 EndsInOne F D L =
     (i : ℕ) → i < F .rows → kept F i ≡ true

@@ -1,17 +1,17 @@
 -- Why a node is a leaf. A node of a tree that a fit leaves is a leaf exactly where growth had a reason to stop there: nothing is kept, the depth limit stopped it, its count is below the
 -- least split, or no feature that its search tried offered a cut that leaves the least leaf on both sides. For the best splitter a cut is a place of the feature's column where the value
 -- differs from the one before; for the random splitter it is the threshold drawn for that feature. So a leaf is there for one of these reasons only, and where none holds there is a split.
--- Each is said by what a caller has: the table that is left with its counts, the listings, and the draws; for nodes are searched in the order of their numbers, each search with the choice
--- words and thresholds that follow those of the one before. How many searches are reported is how many nodes are searched so. It holds of every tree of every fit that answers, under both
--- splitters and at both heights, because a candidate that is held is never let go. Assumes nothing.
-use Prim.Native.Nat.{ℕ, zero, suc, _+_, _*_, _<_, min}
+-- That nothing is kept is the reason of the root alone. All of it is said by what a caller has: the table that is left with its counts, and what was passed in; for nodes are searched in the
+-- order of their numbers, each search with the choice words and thresholds that follow those of the one before. As many searches and thresholds are reported as these come to. It holds of
+-- every tree of every fit that answers, under both splitters and at both heights, because once a search holds a candidate it goes on holding one. Assumes nothing.
+use Prim.Native.Nat.{ℕ, zero, suc, _+_, _-_, _*_, _<_, _≤_, min}
 use native.Mathlib.Nat.{add-zero, zero-add, zero-mul, suc-mul}
 use native.Mathlib.Numerals.{add-one}
 use native.Mathlib.Omega.{arith}
 use mathlib.Core.Path.{_≡_, refl, sym, ap, _∙_, subst}
 use mathlib.Core.Bool.{Bool, true, false, not, _&&_, cond, false≢true}
 use mathlib.Core.List.{List, [], _∷_, _++_, map}
-use lib.ListN.{length, getD, take, drop, length-append, List·getD-map}
+use lib.ListN.{length, getD, take, drop, length-append, length-drop, List·getD-map}
 use lib.Seq.{drop-drop}
 use lib.Dec.{ltb, leb, lt→ltb}
 use Rattle.rules.specs.declared.Params.{Params}
@@ -25,7 +25,8 @@ use Rattle.rules.specs.Table.{isLeaf}
 use Rattle.rules.specs.Reading.{noEntry}
 use Rattle.lemmas.specs.Lists.{is-true, Every, every-imp, keep-append, total-append, from-more}
 use Rattle.lemmas.specs.Nodes.{noNode, countAt}
-use Rattle.lemmas.specs.Offers.{Offers, offersOf, offered, drawsOf, triedOf, nodeOffers, isCut, Searched, search-offers, offers-map, draws-map}
+use Rattle.lemmas.specs.Offers.{Offers, offersOf, offered, drawsOf, triedOf, nodeOffers, isCut, Searched, search-offers}
+use Rattle.lemmas.specs.OffersAlike.{offers-map, draws-map}
 use Rattle.lemmas.specs.Root.{Listed}
 use Rattle.lemmas.specs.Tables.{length-entries}
 use Rattle.lemmas.specs.Passes.{levelIn}
@@ -93,9 +94,10 @@ stops cutOffered = false
 abbrev pub LeafByReason : OneTree → Data → Left → Type 0
 LeafByReason F D L = (k : ℕ) → k < length (L .entries) → (isLeaf (getD (L .entries) k noEntry) ≡ stops (reasonAt F D L k)) × (reasonAt F D L k ≡ nothingKept → k ≡ 0)
 
--- the searches that are reported
-abbrev pub SearchesTold : OneTree → Data → Left → Type 0
-SearchesTold F D L = L .report .searches ≡ length (searchedTo F L (length (L .entries)))
+-- the searches and the thresholds that are reported
+pub record DrawsTold (F : OneTree) (D : Data) (L : Left) : Type 0 where
+  pub searches : L .report .searches ≡ length (searchedTo F L (length (L .entries)))
+  pub thresholds : L .report .thresholds ≡ drawnTo F D L (length (L .entries))
 
 -- ---- reasons
 
@@ -183,6 +185,7 @@ module _ (F : OneTree) (D : Data) (l : Listed F D) (some : 0 < F .params .featur
     words : d .words ≡ drop (length (searchedTo F left k) * P .features) (F .words)
     thresholds : d .thresholds ≡ drop (drawnTo F D left k) (F .thresholds)
     searches : d .searches ≡ length (searchedTo F left k)
+    within : drawnTo F D left k ≤ length (F .thresholds)
 
   module _ (k : ℕ) (h : k < length (s .nodes)) where
     -- its search, if it has one
@@ -233,6 +236,7 @@ module _ (F : OneTree) (D : Data) (l : Listed F D) (some : 0 < F .params .featur
                 words = ap (λ (d : Tapes). d .words) e ∙ t .words ∙ ap (λ m. drop (m * P .features) (F .words)) (sym (number false q ∙ add-zero n));
                 thresholds = ap (λ (d : Tapes). d .thresholds) e ∙ t .thresholds ∙ ap (λ m. drop m (F .thresholds)) (sym (drawn false q ∙ add-zero (drawnTo F D left k)));
                 searches = ap (λ (d : Tapes). d .searches) e ∙ t .searches ∙ sym (number false q ∙ add-zero n);
+                within = omega (arith, drawn false q, t .within);
               }
           go true q =
               let x = searched q in
@@ -242,6 +246,7 @@ module _ (F : OneTree) (D : Data) (l : Listed F D) (some : 0 < F .params .featur
                 thresholds = x .thresholds ∙ (λ i. drop (draws-are q i) (t .thresholds i)) ∙ drop-drop (drawsAt F D left k) (drawnTo F D left k) (F .thresholds)
                     ∙ ap (λ m. drop m (F .thresholds)) (sym (drawn true q));
                 searches = x .searches ∙ ap suc (t .searches) ∙ sym (number true q ∙ add-one n);
+                within = omega (arith, drawn true q, t .within, x .enough, draws-are q, ap length (t .thresholds) ∙ length-drop (drawnTo F D left k) (F .thresholds));
               }
 
   ledger : (k : ℕ) → k < length (s .nodes) → Ledger k (met k .before)
@@ -252,6 +257,7 @@ module _ (F : OneTree) (D : Data) (l : Listed F D) (some : 0 < F .params .featur
         words = ap (λ (d : Tapes). d .words) e ∙ ap (λ m. drop m (F .words)) (sym (zero-mul (P .features)));
         thresholds = ap (λ (d : Tapes). d .thresholds) e;
         searches = ap (λ (d : Tapes). d .searches) e;
+        within = omega arith;
       }
   ledger (suc k) h =
       let b : k < length (s .nodes) = omega (arith, h) in
@@ -298,18 +304,28 @@ module _ (F : OneTree) (D : Data) (l : Listed F D) (some : 0 < F .params .featur
       only zero e q = e
       only (suc m) e q = absurd (something keeps low many offers (filled k h (omega (arith, e))) q)
 
-  grown-told : SearchesTold F D left
-  unfolding treeOf
-  grown-told = go (length (s .nodes)) refl (g .history .some) ∙ ap (λ n. length (searchedTo F left n)) (sym (length-entries (s .nodes)))
+  -- after the last node
+  ledger-end : Ledger (length (s .nodes)) (s .left)
+  ledger-end = go (length (s .nodes)) refl (g .history .some)
     where
-      go : (n : ℕ) → length (s .nodes) ≡ n → 0 < n → s .left .searches ≡ length (searchedTo F left (length (s .nodes)))
+      go : (n : ℕ) → length (s .nodes) ≡ n → 0 < n → Ledger (length (s .nodes)) (s .left)
       go zero e h = absurd (omega (arith, h))
       go (suc m) e h =
           let b : m < length (s .nodes) = omega (arith, e) in
-          ap (λ (d : Tapes). d .searches) (sym (g .history .last m (sym e))) ∙ ledger-after m b (ledger m b) .searches ∙ ap (λ n. length (searchedTo F left n)) (sym e)
+          subst (λ n. Ledger n (s .left)) (sym e) (subst (Ledger (suc m)) (g .history .last m (sym e)) (ledger-after m b (ledger m b)))
+
+  grown-told : DrawsTold F D left
+  unfolding treeOf
+  grown-told =
+      subst (λ n. (s .left .searches ≡ length (searchedTo F left n)) × (length (F .thresholds) - length (s .left .thresholds) ≡ drawnTo F D left n) → DrawsTold F D left) (length-entries (s .nodes))
+      (λ q. record { searches = q .0; thresholds = q .1 })
+      (ledger-end .searches, used)
+    where
+      used : length (F .thresholds) - length (s .left .thresholds) ≡ drawnTo F D left (length (s .nodes))
+      used = omega (arith, ledger-end .within, ap length (ledger-end .thresholds) ∙ length-drop (drawnTo F D left (length (s .nodes))) (F .thresholds))
 
 pub leaf-by-reason : OfEveryTree LeafByReason
 leaf-by-reason = of-every-tree LeafByReason grown-reason
 
-pub searches-told : OfEveryTree SearchesTold
-searches-told = of-every-tree SearchesTold grown-told
+pub draws-told : OfEveryTree DrawsTold
+draws-told = of-every-tree DrawsTold grown-told

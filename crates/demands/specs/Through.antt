@@ -1,6 +1,6 @@
--- The count beside a node is that of the kept rows that pass through it: of the rows that the tree keeps, those whose walk through the table that is left, with the values that they were
--- trained on, visits the node. So the support of a leaf is what stands behind it, no more and no less. It holds of every tree of every fit that answers, because where growth sends a row
--- and where a reader sends it is decided by the same comparison. Assumes nothing.
+-- The count beside a node is the sum of the counts of the kept rows that pass through it: of the rows that the tree keeps, those whose walk through the table that is left, with the values
+-- that they were trained on, visits the node. So the support of a leaf is what stands behind it, no more and no less. It holds of every tree of every fit that answers, because where growth
+-- sends a row and where a reader sends it is decided by the same comparison. Assumes nothing.
 use Prim.Native.Nat.{ℕ, _<_}
 use mathlib.Core.Path.{_≡_, _∙_, subst}
 use lib.ListN.{length, getD, List·getD-map}

@@ -1,9 +1,8 @@
 -- Trees as fits leave them. What holds of every tree that grows from listings in order holds of every tree that a fit leaves: of the one tree of a fit that answers, and of each tree of a
 -- forest, by its entries, the counts beside them and its report. So what is said of them is said once for both fits, both splitters and both heights. Assumes nothing.
 use Prim.Native.Nat.{ℕ, _<_}
-use mathlib.Core.Path.{_≡_, sym, ap, _∙_, subst}
+use mathlib.Core.Path.{_≡_, sym, ap, subst}
 use mathlib.Core.List.{List, map}
-use lib.ListN.{getD}
 use Rattle.rules.specs.declared.Report.{Report}
 use Rattle.rules.specs.declared.TreeAnswer.{TreeAnswer}
 use Rattle.rules.specs.declared.ForestAnswer.{ForestAnswer}

@@ -1,39 +1,44 @@
 -- The Rust's undoing of a split can never run. At a split the Rust goes along the node's rows in the order of the split feature, counts those up to the first that goes to the false side as
--- the true side and all from it on as the false side, and takes the split back if either count is below the least leaf. Of every tree of every fit that answers: at each split those two
--- counts are the ones beside its children, and both reach the least leaf; and a growth that has the undoing in it, for every node that waits, is the same growth. The two are counted here
--- as the Rust counts them, not by where each row goes: that no row of the true side comes behind one of the false side is part of what is shown. It holds because no value falls along a
--- listing, and because no cut is found that leaves less on either side. Assumes nothing.
+-- the true side and all from it on as the false side, and takes the split back if either count is below the least leaf: the node stays a leaf, and no child is made. Of every tree of every
+-- fit that answers: at each split those two counts are the ones beside its children, and both reach the least leaf. And both fits with the undoing in them, for every node that waits, are
+-- the fits of the rules, with the same answer and the same rooms. The two counts are added up here as the Rust adds them up, not by where each row goes: that no row of the true side comes
+-- behind one of the false side is part of what is shown. It holds because no value falls along a listing, and because no cut is found that leaves less on either side. Assumes nothing.
 use Prim.Native.Nat.{ℕ, zero, suc, _-_, _<_, _≤_}
 use native.Mathlib.Omega.{arith}
 use mathlib.Core.Path.{_≡_, refl, sym, ap, _∙_, subst}
 use mathlib.Core.Bool.{Bool, true, false, not, _&&_, _||_, cond, true≢false}
 use mathlib.Core.List.{List, [], _∷_}
 use lib.ListN.{length, getD, List·getD-map}
-use lib.Dec.{T, ltb, ltb→lt, not-T}
+use lib.Dec.{T, ltb}
 use lib.Ieee.{le}
 use Rattle.floats.specs.Order.{le-trans64}
 use Rattle.rules.specs.declared.Params.{Params}
 use Rattle.rules.specs.declared.Fork.{Fork}
 use Rattle.rules.specs.declared.Kind.{Kind}
 use Rattle.rules.specs.declared.Kind.the-variants.{Leaf, Split}
-use Rattle.rules.specs.Words.{putIf, keep, total}
+use Rattle.rules.specs.declared.Checked.{Checked}
+use Rattle.rules.specs.Words.{from, putIf, keep, total}
 use Rattle.rules.specs.Totals.{valueOf}
-use Rattle.rules.specs.Lent.{Data, OneTree, Entry, cell, countIn}
+use Rattle.rules.specs.Lent.{Data, OneTree, Entry, WaitingForm, TreeRooms, ForestRooms, cell, countIn}
+use Rattle.rules.specs.Checks.{checked}
 use Rattle.rules.specs.Draws.{Out, ok, bind, Tapes, tape}
 use Rattle.rules.specs.Search.{Column, at, tally, NodeRows, goesTrue, onTrue, onFalse, trueSide, falseSide, Found}
 use Rattle.rules.specs.Growth.{TreeNode, Waiting, State, leafOf, searchable, runs, searchIf, expand, grow, growAll, fromRoot}
-use Rattle.rules.specs.Fit.{elementIn, element, listing, root, treeOf, growFrom, fit, entryOf}
+use Rattle.rules.specs.Fit.{elementIn, element, listing, root, Tree, treeOf, growFrom, fit, entryOf, TreeCall, oneTreeOf, grownTree, treeTests, treeEnds, fitTree}
+use Rattle.rules.specs.Forest.{ForestCall, oneTreeAt, eachTree, Forest, grownAll, nextTree, growTrees, grownForest, forestTests, forestEnds, fitForest}
 use Rattle.rules.specs.Table.{isLeaf}
 use Rattle.rules.specs.Reading.{noEntry}
-use Rattle.lemmas.specs.Lists.{is-true, is-false, Every, every-imp, keep-all, keep-none, Ordered, ordered-keep}
+use Rattle.lemmas.specs.Lists.{is-true, ltb-no, Every, every-all, every-imp, every-map, keep-all, keep-none, Ordered, ordered-keep}
 use Rattle.lemmas.specs.Outs.{Then, bind-same}
 use Rattle.lemmas.specs.WaitingOrder.{runs-same, searchIf-joins, expand-joins}
 use Rattle.lemmas.specs.Nodes.{noNode, kindAt, countAt}
 use Rattle.lemmas.specs.Cuts.{Good, Suits, Ripe, search-fine, tape-fair, side-good}
 use Rattle.lemmas.specs.Splits.{Divides, joins-ripe}
 use Rattle.lemmas.specs.Root.{Before, Listed, root-good}
+use Rattle.lemmas.specs.Passed.{forest-passed, forest-framed, Binary64, listed-right}
 use Rattle.lemmas.specs.Tables.{length-entries}
 use Rattle.lemmas.specs.FitHistory.{chooses, startOf, Grown, rowsAt, count-along, least-at, leaf-at, split-at, goesAt, rows-child}
+use Rattle.lemmas.specs.Answered.{tree-listed}
 use Rattle.demands.specs.TreesLeft.{Left, OfEveryTree, leftOf, of-every-tree}
 
 -- ---- the statements
@@ -68,16 +73,16 @@ pub record Stays (F : OneTree) (D : Data) (L : Left) (k : ℕ) (e : Entry) : Typ
 abbrev pub NeverUndone : OneTree → Data → Left → Type 0
 NeverUndone F D L = (k : ℕ) → k < length (L .entries) → isLeaf (getD (L .entries) k noEntry) ≡ false → Stays F D L k (getD (L .entries) k noEntry)
 
-module _ (P : Params) {S : Type 0} (choose : S → NodeRows → Out (Found × S)) where
-  -- a waiting node whose split is taken back: by the same two counts, along its column
-  abbrev pub takenBack : Waiting → Bool
-  takenBack w =
-      let rows = getD (w .node .columns) (w .cut .feature) [] in
-      ltb (tally (upTo (goesTrue (w .cut)) rows)) (P .leaf) || ltb (tally (fromOn (goesTrue (w .cut)) rows)) (P .leaf)
+-- a waiting node whose split is taken back: by the same two counts, along its column
+abbrev pub takenBack : Params → Waiting → Bool
+takenBack P w =
+    let rows = getD (w .node .columns) (w .cut .feature) [] in
+    ltb (tally (upTo (goesTrue (w .cut)) rows)) (P .leaf) || ltb (tally (fromOn (goesTrue (w .cut)) rows)) (P .leaf)
 
+module _ (P : Params) {S : Type 0} (choose : S → NodeRows → Out (Found × S)) where
   -- as growth splits, but that such a node stays a leaf
   unfoldable pub expandOrNot : Waiting → State S → Out (List Waiting × State S)
-  expandOrNot w s = cond (takenBack w) (ok ([], s)) (expand P choose w s)
+  expandOrNot w s = cond (takenBack P w) (ok ([], s)) (expand P choose w s)
 
   unfoldable pub growOrNot : ℕ → Waiting → State S → Out (State S)
   growOrNot zero w s = ok s
@@ -88,9 +93,20 @@ module _ (P : Params) {S : Type 0} (choose : S → NodeRows → Out (Found × S)
       bind (searchIf P choose (ltb 0 (root .count) && searchable P 1 root) 0 1 root s) (λ r.
       runs (λ w s′. growOrNot (P .limit - w .level) w s′) (r .0) (record { nodes = leafOf root ∷ []; depth = 0; left = r .1 }))
 
--- a fit that grows so is the fit
-abbrev pub SameWithUndoing : OneTree → Data → Left → Type 0
-SameWithUndoing F D L = bind (fromRootOrNot (F .params) (chooses (F .params)) (root F D) (startOf F)) (λ s. ok (treeOf F (root F D) s)) ≡ fit F D
+-- a tree that grows so, and a forest of such trees
+abbrev pub fitOrNot : OneTree → Data → Out Tree
+fitOrNot F D = bind (fromRootOrNot (F .params) (chooses (F .params)) (root F D) (startOf F)) (λ s. ok (treeOf F (root F D) s))
+
+unfoldable pub treesOrNot : ℕ → List OneTree → Data → Forest
+treesOrNot k [] D = grownAll []
+treesOrNot k (F ∷ Fs) D = nextTree k (fitOrNot F D) (treesOrNot (suc k) Fs D)
+
+-- both fits, with such trees in them: the same answer and the same rooms, whether it is refused, meets a bad draw or is grown
+abbrev pub SameWithUndoing : Type 1
+SameWithUndoing =
+    (W : Type 0) (K : WaitingForm W)
+    → ((C : TreeCall) (R : TreeRooms W) → Binary64 (C .given .inputs .values) → treeEnds K (checked (treeTests K C R)) (fitOrNot (oneTreeOf C) (C .given .inputs)) R ≡ fitTree K C R)
+    × ((C : ForestCall) (R : ForestRooms W) → Binary64 (C .given .inputs .values) → forestEnds K (checked (forestTests K C R)) (treesOrNot 0 (eachTree C) (C .given .inputs)) R ≡ fitForest K C R)
 
 -- ---- up to the first of the false side
 
@@ -172,9 +188,12 @@ never-undone = of-every-tree NeverUndone grown-kept
 
 module _ (P : Params) {S : Type 0} (choose : S → NodeRows → Out (Found × S)) (fine : (s : S) (node : NodeRows) → Good P node → Then (choose s node) (λ r. Suits P node (r .0))) where
   -- a ripe node is not taken back
-  ripe-stays : (w : Waiting) → Ripe P w → takenBack P choose w ≡ false
+  ripe-stays : (w : Waiting) → Ripe P w → takenBack P w ≡ false
   unfolding goesTrue
-  ripe-stays w h = λ i. enough _ (subst (λ l. P .leaf ≤ tally l) (sym (along .0)) (h .fine .leafTrue)) i || enough _ (subst (λ l. P .leaf ≤ tally l) (sym (along .1)) (h .fine .leafFalse)) i
+  ripe-stays w h =
+      λ i.
+      ltb-no _ (P .leaf) (subst (λ l. P .leaf ≤ tally l) (sym (along .0)) (h .fine .leafTrue)) i
+      || ltb-no _ (P .leaf) (subst (λ l. P .leaf ≤ tally l) (sym (along .1)) (h .fine .leafFalse)) i
     where
       rows : Column
       rows = getD (w .node .columns) (w .cut .feature) []
@@ -184,9 +203,6 @@ module _ (P : Params) {S : Type 0} (choose : S → NodeRows → Out (Found × S)
           up-keep (λ x y. T (le (at (w .cut .feature) x) (at (w .cut .feature) y))) (goesTrue (w .cut))
           (λ x y r t. is-true _ (le-trans64 (at (w .cut .feature) x) (at (w .cut .feature) y) (w .cut .threshold) r (subst T (sym t) tt)))
           rows (h .good .sound (w .cut .feature) (h .fine .known) .rising)
-
-      enough : (n : ℕ) → P .leaf ≤ n → ltb n (P .leaf) ≡ false
-      enough n l = is-false (ltb n (P .leaf)) (not-T (ltb n (P .leaf)) (λ t. omega (arith, l, ltb→lt n (P .leaf) t)))
 
   grow-same : (k : ℕ) (w : Waiting) (s : State S) → Ripe P w → growOrNot P choose k w s ≡ grow P choose k w s
   unfolding growOrNot grow expandOrNot
@@ -203,9 +219,36 @@ module _ (P : Params) {S : Type 0} (choose : S → NodeRows → Out (Found × S)
       bind-same (searchIf P choose (ltb 0 (root .count) && searchable P 1 root) 0 1 root s) _ _ _ (searchIf-joins P choose (Ripe P) _ 0 1 root s (λ t. joins-ripe P choose fine 0 1 root s g))
       (λ r q. runs-same _ _ (r .0) _ (every-imp _ _ (λ v h t. grow-same (P .limit - v .level) v t h) (r .0) q))
 
-pub same-with-undoing : OfEveryTree SameWithUndoing
+fit-same : (F : OneTree) (D : Data) → Listed F D → fitOrNot F D ≡ fit F D
 unfolding fit growFrom
-same-with-undoing =
-    of-every-tree SameWithUndoing
-    (λ F D l some s g. ap (λ m. bind m (λ t. ok (treeOf F (root F D) t)))
-    (from-root-same (F .params) (chooses (F .params)) (search-fine (F .params) (tape (F .params .features)) (tape-fair (F .params))) (root F D) (startOf F) (root-good F D l)))
+fit-same F D l =
+    ap (λ m. bind m (λ s. ok (treeOf F (root F D) s)))
+    (from-root-same (F .params) (chooses (F .params)) (search-fine (F .params) (tape (F .params .features)) (tape-fair (F .params))) (root F D) (startOf F) (root-good F D l))
+
+trees-same : (k : ℕ) (Fs : List OneTree) (D : Data) → Every (λ F. fitOrNot F D ≡ fit F D) Fs → treesOrNot k Fs D ≡ growTrees k Fs D
+unfolding treesOrNot growTrees
+trees-same k [] D h = refl
+trees-same k (F ∷ Fs) D h = λ i. nextTree k (h .0 i) (trees-same (suc k) Fs D (h .1) i)
+
+module _ {W : Type 0} (K : WaitingForm W) where
+  -- a refusal before growth looks at no tree
+  tree-call-same : (C : TreeCall) (R : TreeRooms W) → Binary64 (C .given .inputs .values) → (v : Checked) → checked (treeTests K C R) ≡ v
+      → treeEnds K v (fitOrNot (oneTreeOf C) (C .given .inputs)) R ≡ treeEnds K v (fit (oneTreeOf C) (C .given .inputs)) R
+  unfolding treeEnds
+  tree-call-same C R held Checked.Passed q = ap (λ o. treeEnds K Checked.Passed o R) (fit-same (oneTreeOf C) (C .given .inputs) (tree-listed K C R held q .0))
+  tree-call-same C R held (Checked.Refused r) q = refl
+
+  forest-call-same : (C : ForestCall) (R : ForestRooms W) → Binary64 (C .given .inputs .values) → (v : Checked) → checked (forestTests K C R) ≡ v
+      → forestEnds K v (treesOrNot 0 (eachTree C) (C .given .inputs)) R ≡ forestEnds K v (growTrees 0 (eachTree C) (C .given .inputs)) R
+  unfolding forestEnds eachTree
+  forest-call-same C R held Checked.Passed q =
+      let p = forest-passed K C R q .passed in
+      ap (λ f. forestEnds K Checked.Passed f R)
+      (trees-same 0 (eachTree C) (C .given .inputs)
+      (every-map _ (oneTreeAt C) (from 0 (C .trees))
+      (every-all _ (λ t. fit-same (oneTreeAt C t) (C .given .inputs) (listed-right (C .shape) (C .trees) (C .given) p (oneTreeAt C t) (forest-framed C p t) held)) (from 0 (C .trees)))))
+  forest-call-same C R held (Checked.Refused r) q = refl
+
+pub same-with-undoing : SameWithUndoing
+unfolding fitTree grownTree fitForest grownForest
+same-with-undoing W K = ((λ C R held. tree-call-same K C R held (checked (treeTests K C R)) refl), (λ C R held. forest-call-same K C R held (checked (forestTests K C R)) refl))

@@ -1,7 +1,7 @@
 -- The history of a fit whose listings are in order, by row numbers: a node's columns are the listings with the kept rows alone that pass through it, its count is the sum of theirs, and its
 -- level is the table's. Every node but the root has a count, and the least leaf. Assumes nothing.
 use Prim.Native.Nat.{ℕ, suc, _<_, _≤_}
-use mathlib.Core.Path.{_≡_, refl, sym, ap, _∙_, subst}
+use mathlib.Core.Path.{_≡_, refl, sym, ap, _∙_}
 use mathlib.Core.Bool.{Bool, true, false, not, _&&_, and-assoc}
 use mathlib.Core.List.{List, [], map}
 use lib.ListN.{length, getD}
@@ -21,7 +21,7 @@ use Rattle.rules.specs.Table.{isLeaf}
 use Rattle.rules.specs.Reading.{noEntry}
 use Rattle.lemmas.specs.Lists.{every-all, keep-same, keep-map, keep-keep, getD-keep, total-map}
 use Rattle.lemmas.specs.Once.{once-keep}
-use Rattle.lemmas.specs.Outs.{Then, then-then, then-both, then-of}
+use Rattle.lemmas.specs.Outs.{Then, then-then, then-both}
 use Rattle.lemmas.specs.Nodes.{noNode, kindAt, countAt}
 use Rattle.lemmas.specs.Cuts.{Good, Suits, search-fine, tape-fair}
 use Rattle.lemmas.specs.Splits.{Stands, growth-stands}

@@ -20,6 +20,7 @@ pub mod Heights
 pub mod Cuts
 -- a search finds a cut exactly where a feature tried offers one
 pub mod Offers
+pub mod OffersAlike
 -- two growths alike but for the height: the same rows go the same way
 pub mod Twins
 -- how many nodes a growth makes at most

@@ -7,7 +7,7 @@ use mathlib.Core.Bool.{Bool, true, false, not, _&&_, _||_, cond}
 use mathlib.Core.List.{List, [], _∷_, _++_, map}
 use lib.ListN.{length, getD, set, take, drop, List·getD-map}
 use lib.Seq.{take-nil}
-use lib.Dec.{T, ltb, ltb→lt}
+use lib.Dec.{T, ltb, ltb→lt, not-T}
 use lib.Ieee.Fits.{and-l, and-r, and-i}
 use Rattle.rules.specs.Words.{from, putIf, keep, every, along, alongFrom, total}
 
@@ -20,6 +20,10 @@ is-true false t = absurd t
 pub is-false : (b : Bool) → T (not b) → b ≡ false
 is-false true t = absurd t
 is-false false t = refl
+
+-- of numbers that are not in this order
+pub ltb-no : (a b : ℕ) → b ≤ a → ltb a b ≡ false
+ltb-no a b h = is-false (ltb a b) (not-T (ltb a b) (λ t. omega (arith, h, ltb→lt a b t)))
 
 pub or-other : (a b : Bool) → a ≡ false → T (a || b) → T b
 or-other true b q t = absurd (subst T q tt)

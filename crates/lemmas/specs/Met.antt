@@ -1,7 +1,7 @@
 -- What the history of a growth is, over any way to choose cuts: every node as growth met it, in the order of the nodes' numbers. Each is searched from where the one before it left off, or
--- not searched at all; it is a split exactly where its search found a cut, and its two children are the sides of that cut. With it those that wait, for as long as growth goes on.
--- Definitions, and how a list of things met grows by two. Assumes nothing.
-use Prim.Native.Nat.{ℕ, zero, suc, _+_, _<_, _≤_}
+-- not searched at all; if its search found a cut it waits, and then is a split whose two children are the sides of that cut; otherwise it is a leaf. It says nothing of the depth, nor in
+-- which order those that waited were split. Definitions, and how what is met grows by two. Assumes nothing.
+use Prim.Native.Nat.{ℕ, zero, suc, _+_, _<_}
 use native.Mathlib.Omega.{arith}
 use native.Mathlib.Decide.{ℕ-discrete, decLt}
 use mathlib.Core.Path.{_≡_, refl, sym, ap, subst}
@@ -9,7 +9,7 @@ use mathlib.Core.Logic.{_⊎_}
 use mathlib.Core.Bool.{Bool, true, false, _&&_, cond}
 use mathlib.Core.List.{List, [], _∷_}
 use lib.ListN.{length, getD}
-use lib.Dec.{ltb, eqb, ltb→lt, lt→ltb, not-T}
+use lib.Dec.{ltb, eqb, lt→ltb}
 use Rattle.rules.specs.declared.Params.{Params}
 use Rattle.rules.specs.declared.Cut.{Cut}
 use Rattle.rules.specs.declared.Fork.{Fork}
@@ -17,7 +17,7 @@ use Rattle.rules.specs.declared.Kind.the-variants.{Leaf, Split}
 use Rattle.rules.specs.Draws.{Out, ok}
 use Rattle.rules.specs.Search.{NodeRows, onTrue, onFalse, Found, noCut, cutFound}
 use Rattle.rules.specs.Growth.{TreeNode, Waiting, State, child, leafOf, splitting, searchable}
-use Rattle.lemmas.specs.Lists.{is-true, is-false, Every, Ordered}
+use Rattle.lemmas.specs.Lists.{is-true, ltb-no, Every, Ordered}
 use Rattle.lemmas.specs.Once.{eqb-yes, eqb-no}
 use Rattle.lemmas.specs.Nodes.{noNode, kindAt, asLeaf}
 
@@ -117,16 +117,13 @@ module _ {A : Type 0} (n : ℕ) (f : ℕ → A) (a b : A) where
   unfolding extended
   extended-old k h = ap (λ z. cond z (f k) (cond (eqb k n) a b)) (is-true (ltb k n) (lt→ltb k n h))
 
-  past : (k : ℕ) → n ≤ k → ltb k n ≡ false
-  past k h = is-false (ltb k n) (not-T (ltb k n) (λ t. omega (arith, h, ltb→lt k n t)))
-
   pub extended-first : extended n ≡ a
   unfolding extended
-  extended-first = λ i. cond (past n (omega arith) i) (f n) (cond (eqb-yes n n refl i) a b)
+  extended-first = λ i. cond (ltb-no n n (omega arith) i) (f n) (cond (eqb-yes n n refl i) a b)
 
   pub extended-second : extended (suc n) ≡ b
   unfolding extended
-  extended-second = λ i. cond (past (suc n) (omega arith) i) (f (suc n)) (cond (eqb-no (suc n) n (λ q. omega (arith, q)) i) a b)
+  extended-second = λ i. cond (ltb-no (suc n) n (omega arith) i) (f (suc n)) (cond (eqb-no (suc n) n (λ q. omega (arith, q)) i) a b)
 
 -- what holds before n and of the two holds of all
 pub all-places : (Q : ℕ → Type 0) (n : ℕ) → ((k : ℕ) → k < n → Q k) → Q n → Q (suc n) → (k : ℕ) → k < n + 2 → Q k

@@ -1,15 +1,15 @@
 -- A search finds a cut exactly where a feature that it tries offers one: for the best splitter a place of its column, for the random splitter the threshold drawn for it, that leaves
 -- the least leaf on both sides. And what a search takes from the tapes: its choice words, and a threshold for each feature tried whose lowest value is below its highest.
 -- Over both heights at once: where a cut stands between two values does not matter here. Assumes nothing.
-use Prim.Native.Nat.{ℕ, suc, _+_, _-_, _<_, min}
+use Prim.Native.Nat.{ℕ, suc, _+_, _-_, _<_, _≤_, min}
 use native.Mathlib.Nat.{zero-add}
 use native.Mathlib.Omega.{arith}
 use mathlib.Core.Path.{_≡_, refl, sym, ap, _∙_, subst}
 use mathlib.Core.Logic.{inl, inr}
 use mathlib.Core.Bool.{Bool, true, false, not, _&&_, _||_, cond, or-true, or-false, or-assoc}
-use mathlib.Core.List.{List, [], _∷_, map}
-use lib.ListN.{length, getD, take, drop}
-use lib.Seq.{drop-nil}
+use mathlib.Core.List.{List, [], _∷_}
+use lib.ListN.{length, getD, take, drop, length-drop}
+use lib.Seq.{drop-drop}
 use lib.Dec.{T, leb, ltb, not-T, leb→le, le→leb, ltb→lt, nltb→le}
 use lib.Ieee.{Float, nan, lt, le, eq}
 use Rattle.floats.specs.Order.{le-cases, le-of-eq64, le-trans64, lt-not-le, eq-sym}
@@ -26,7 +26,7 @@ use Rattle.rules.specs.Totals.{empty, less, proxy}
 use Rattle.rules.specs.Draws.{Out, ok, bind, Tapes, takeWords, takeThreshold, nextThreshold, tape}
 use Rattle.rules.specs.Search.{Element, Column, at, tally, NodeRows, goesTrue, better, judge, candidateAt, step, sweep, bestIn}
 use Rattle.rules.specs.Search.{final, drawn, Tries, drawIn, randomIn, tryOne, tryAll, Found, noCut, cutFound, found, search}
-use Rattle.lemmas.specs.Lists.{is-true, Every, every-imp, every-take, keep-map, keep-same, total-sides, total-map}
+use Rattle.lemmas.specs.Lists.{is-true, Every, every-imp, every-take, total-sides}
 use Rattle.lemmas.specs.Once.{once-below}
 use Rattle.lemmas.specs.Outs.{Then, then-then, then-after, then-of}
 use Rattle.lemmas.specs.Values.{Value, eq-refl}
@@ -107,6 +107,7 @@ pub record Searched (P : Params) (node : NodeRows) (d : Tapes) (f : Found) (d′
   pub words : d′ .words ≡ drop (P .features) (d .words)
   pub thresholds : d′ .thresholds ≡ drop (drawsOf (nodeOffers P node) (P .splitter) (triedOf P (d .words))) (d .thresholds)
   pub searches : d′ .searches ≡ suc (d .searches)
+  pub enough : drawsOf (nodeOffers P node) (P .splitter) (triedOf P (d .words)) ≤ length (d .thresholds)
   pub known : Every (λ j. j < P .features) (triedOf P (d .words))
 
 -- ---- one candidate
@@ -218,16 +219,14 @@ offered-first o Random ts j js = go (o .draws j) (o .parts j (getD ts 0 nan))
     go true p = ap (λ b. b || offered o Random (drop 1 ts) js) (sym (or-false p))
     go false p = refl
 
-draws-first : (o : Offers) (splitter : Splitter) (ts : List Float) (j : ℕ) (js : List ℕ)
-    → drop (drawsOf o splitter (j ∷ js)) ts ≡ drop (drawsOf o splitter js) (drop (drawsOf o splitter (j ∷ [])) ts)
+draws-add : (o : Offers) (splitter : Splitter) (j : ℕ) (js : List ℕ) → drawsOf o splitter (j ∷ js) ≡ drawsOf o splitter (j ∷ []) + drawsOf o splitter js
 unfolding drawsOf keep putIf
-draws-first o Best ts j js = refl
-draws-first o Random ts j js = go (o .draws j) ts
+draws-add o Best j js = refl
+draws-add o Random j js = go (o .draws j)
   where
-    go : (b : Bool) (ts : List Float) → drop (length (putIf b j (keep (o .draws) js))) ts ≡ drop (length (keep (o .draws) js)) (drop (length (putIf b j [])) ts)
-    go true [] = sym (drop-nil (length (keep (o .draws) js)))
-    go true (t ∷ ts) = refl
-    go false ts = refl
+    go : (b : Bool) → length (putIf b j (keep (o .draws) js)) ≡ length (putIf b j []) + length (keep (o .draws) js)
+    go true = omega arith
+    go false = omega arith
 
 -- what trying features has done: whether they offered a cut, and how many thresholds they took
 record Tried (b : Bool) (n : ℕ) (r r′ : Tries Tapes) : Type 0 where
@@ -235,20 +234,21 @@ record Tried (b : Bool) (n : ℕ) (r r′ : Tries Tapes) : Type 0 where
   words : r′ .left .words ≡ r .left .words
   thresholds : r′ .left .thresholds ≡ drop n (r .left .thresholds)
   searches : r′ .left .searches ≡ r .left .searches
+  enough : n ≤ length (r .left .thresholds)
 
 untouched : (r : Tries Tapes) → Tried false 0 r r
-untouched r = record { best = sym (or-false (isHeld (r .best))); words = refl; thresholds = refl; searches = refl }
+untouched r = record { best = sym (or-false (isHeld (r .best))); words = refl; thresholds = refl; searches = refl; enough = omega arith }
 
 -- where none is left there is no answer, so the default does not matter
 takes-threshold : (ts : List Float) (lowest highest : Float) (d : Tapes)
-    → Then (nextThreshold ts lowest highest d) (λ m. m ≡ (getD ts 0 nan, record { words = d .words; thresholds = drop 1 ts; searches = d .searches }))
+    → Then (nextThreshold ts lowest highest d) (λ m. (m ≡ (getD ts 0 nan, record { words = d .words; thresholds = drop 1 ts; searches = d .searches })) × (1 ≤ length ts))
 unfolding nextThreshold takeThreshold
 takes-threshold [] lowest highest d = tt
 takes-threshold (t ∷ ts) lowest highest d = go (le lowest t && lt t highest)
   where
-    go : (b : Bool) → Then (takeThreshold b t ts d) (λ m. m ≡ (t, record { words = d .words; thresholds = ts; searches = d .searches }))
+    go : (b : Bool) → Then (takeThreshold b t ts d) (λ m. (m ≡ (t, record { words = d .words; thresholds = ts; searches = d .searches })) × (1 ≤ suc (length ts)))
     go false = tt
-    go true = refl
+    go true = (refl, omega arith)
 
 final-last : (e : Element) (es : Column) → final e es ≡ lastOf e es
 unfolding final lastOf
@@ -271,8 +271,14 @@ module _ (P : Params) (node : NodeRows) where
       go false = untouched r
       go true =
           then-then (nextThreshold (r .left .thresholds) (at j e) (at j (final e es)) (r .left)) _ _ _ (takes-threshold (r .left .thresholds) (at j e) (at j (final e es)) (r .left))
-          (λ m q. subst (λ n. One j (e ∷ es) true r (record { best = drawn P node j (r .best) (e ∷ es) (n .0); left = n .1 })) (sym q)
-          (record { best = drawn-holds P node j (r .best) (e ∷ es) _ counted ∙ ap (λ b. isHeld (r .best) || b) (sym (or-false _)); words = refl; thresholds = refl; searches = refl }))
+          (λ m q. subst (λ n. One j (e ∷ es) true r (record { best = drawn P node j (r .best) (e ∷ es) (n .0); left = n .1 })) (sym (q .0))
+          (record {
+            best = drawn-holds P node j (r .best) (e ∷ es) _ counted ∙ ap (λ b. isHeld (r .best) || b) (sym (or-false _));
+            words = refl;
+            thresholds = refl;
+            searches = refl;
+            enough = q .1;
+          }))
 
   -- of a list of features
   abbrev All : Splitter → List ℕ → Tries Tapes → Tries Tapes → Type 0
@@ -281,7 +287,13 @@ module _ (P : Params) (node : NodeRows) where
   one-tried : (b : Splitter) (j : ℕ) (r : Tries Tapes) → Sound P node j → Then (tryOne (tape (P .features)) b P node j r) (All b (j ∷ []) r)
   unfolding tryOne offered drawsOf keep
   one-tried Best j r s =
-      record { best = best-holds P node j (r .best) _ (s .values) (s .counted) ∙ ap (λ b. isHeld (r .best) || b) (sym (or-false _)); words = refl; thresholds = refl; searches = refl }
+      record {
+        best = best-holds P node j (r .best) _ (s .values) (s .counted) ∙ ap (λ b. isHeld (r .best) || b) (sym (or-false _));
+        words = refl;
+        thresholds = refl;
+        searches = refl;
+        enough = omega arith;
+      }
   one-tried Random j r s = random-tried j r (getD (node .columns) j []) (s .counted)
 
   none-tried : (b : Splitter) (r : Tries Tapes) → All b [] r r
@@ -298,13 +310,18 @@ module _ (P : Params) (node : NodeRows) where
     where
       both : (r′ r″ : Tries Tapes) → All (P .splitter) (j ∷ []) r r′ → All (P .splitter) js r′ r″ → All (P .splitter) (j ∷ js) r r″
       both r′ r″ h k =
+          let sum = draws-add (nodeOffers P node) (P .splitter) j js in
           record {
             best =
                 k .best ∙ (λ i. h .best i || offered (nodeOffers P node) (P .splitter) (h .thresholds i) js) ∙ or-assoc (isHeld (r .best)) _ _
                 ∙ ap (λ b. isHeld (r .best) || b) (sym (offered-first (nodeOffers P node) (P .splitter) (r .left .thresholds) j js));
             words = k .words ∙ h .words;
-            thresholds = k .thresholds ∙ ap (drop (drawsOf (nodeOffers P node) (P .splitter) js)) (h .thresholds) ∙ sym (draws-first (nodeOffers P node) (P .splitter) (r .left .thresholds) j js);
+            thresholds =
+                k .thresholds ∙ ap (drop (drawsOf (nodeOffers P node) (P .splitter) js)) (h .thresholds)
+                ∙ drop-drop (drawsOf (nodeOffers P node) (P .splitter) js) (drawsOf (nodeOffers P node) (P .splitter) (j ∷ [])) (r .left .thresholds)
+                ∙ ap (λ n. drop n (r .left .thresholds)) (sym sum);
             searches = k .searches ∙ h .searches;
+            enough = omega (arith, sum, h .enough, k .enough, ap length (h .thresholds) ∙ length-drop (drawsOf (nodeOffers P node) (P .splitter) (j ∷ [])) (r .left .thresholds));
           }
 
 -- ---- a search
@@ -325,72 +342,4 @@ search-offers P node sound d f d′ e =
     go true h =
         let known : Every (λ j. j < P .features) (triedOf P (d .words)) = every-take _ (min (P .tried) (P .features)) _ (once-below (P .features) _ (h tt)) in
         then-then (tryAll (tape (P .features)) P node (triedOf P (d .words)) _) _ _ _ (all-tried P node (triedOf P (d .words)) _ (every-imp _ _ sound (triedOf P (d .words)) known))
-        (λ r k. record { found = k .best; words = k .words; thresholds = k .thresholds; searches = ap suc (k .searches); known = known })
-
--- ---- entries by another name
-
-module _ {A B : Type 0} (count : A → ℕ) (leaf : ℕ) (f : B → A) where
-  from-map : (value : A → Float) (k : ℕ) (x : B) (l : List B) → cutsFrom value count leaf k (f x) (map f l) ≡ cutsFrom (λ y. value (f y)) (λ y. count (f y)) leaf k x l
-  unfolding cutsFrom
-  from-map value k x [] = refl
-  from-map value k x (y ∷ l) =
-      λ i. (not (eq (value (f y)) (value (f x))) && (leb leaf k && leb leaf (total-map count f (y ∷ l) i))) || from-map value (k + count (f y)) y l i
-
-  along-map : (value : A → Float) (l : List B) → cutsAlong value count leaf (map f l) ≡ cutsAlong (λ y. value (f y)) (λ y. count (f y)) leaf l
-  unfolding cutsAlong
-  along-map value [] = refl
-  along-map value (x ∷ l) = from-map value (count (f x)) x l
-
-  at-map : (value : A → Float) (l : List B) (t : Float) → cutsAt value count leaf (map f l) t ≡ cutsAt (λ y. value (f y)) (λ y. count (f y)) leaf l t
-  unfolding cutsAt
-  at-map value l t = λ i. leb leaf (side (λ x. le (value x) t) i) && leb leaf (side (λ x. not (le (value x) t)) i)
-    where
-      side : (p : A → Bool) → total count (keep p (map f l)) ≡ total (λ y. count (f y)) (keep (λ y. p (f y)) l)
-      side p = ap (total count) (keep-map p f l) ∙ total-map count f (keep (λ y. p (f y)) l)
-
-  last-map : (x : B) (l : List B) → lastOf (f x) (map f l) ≡ f (lastOf x l)
-  unfolding lastOf
-  last-map x [] = refl
-  last-map x (y ∷ l) = last-map y l
-
-  spread-map : (value : A → Float) (l : List B) → spread value (map f l) ≡ spread (λ y. value (f y)) l
-  unfolding spread
-  spread-map value [] = refl
-  spread-map value (x ∷ l) = ap (λ y. lt (value (f x)) (value y)) (last-map x l)
-
--- two that offer the same for feature j
-record Alike (o o′ : Offers) (j : ℕ) : Type 0 where
-  place : o .place j ≡ o′ .place j
-  draws : o .draws j ≡ o′ .draws j
-  parts : (t : Float) → o .parts j t ≡ o′ .parts j t
-
-module _ (o o′ : Offers) where
-  offered-same : (splitter : Splitter) (ts : List Float) (js : List ℕ) → Every (Alike o o′) js → offered o splitter ts js ≡ offered o′ splitter ts js
-  unfolding offered
-  offered-same Best ts [] h = refl
-  offered-same Best ts (j ∷ js) h = λ i. h .0 .place i || offered-same Best ts js (h .1) i
-  offered-same Random ts [] h = refl
-  offered-same Random ts (j ∷ js) h =
-      λ i. cond (h .0 .draws i) (h .0 .parts (getD ts 0 nan) i || offered-same Random (drop 1 ts) js (h .1) i) (offered-same Random ts js (h .1) i)
-
-  draws-same : (splitter : Splitter) (js : List ℕ) → Every (Alike o o′) js → drawsOf o splitter js ≡ drawsOf o′ splitter js
-  unfolding drawsOf
-  draws-same Best js h = refl
-  draws-same Random js h = ap length (keep-same (o .draws) (o′ .draws) js (every-imp _ _ (λ j a. a .draws) js h))
-
-module _ {A B : Type 0} (value : ℕ → A → Float) (count : A → ℕ) (leaf : ℕ) (column : ℕ → List A) (f : B → A) (column′ : ℕ → List B) where
-  alike-map : (j : ℕ) → column j ≡ map f (column′ j) → Alike (offersOf value count leaf column) (offersOf (λ j x. value j (f x)) (λ x. count (f x)) leaf column′) j
-  alike-map j e =
-      record {
-        place = ap (cutsAlong (value j) count leaf) e ∙ along-map count leaf f (value j) (column′ j);
-        draws = ap (spread (value j)) e ∙ spread-map count leaf f (value j) (column′ j);
-        parts = λ t. ap (λ l. cutsAt (value j) count leaf l t) e ∙ at-map count leaf f (value j) (column′ j) t;
-      }
-
-  pub offers-map : (splitter : Splitter) (ts : List Float) (js : List ℕ) → Every (λ j. column j ≡ map f (column′ j)) js
-      → offered (offersOf value count leaf column) splitter ts js ≡ offered (offersOf (λ j x. value j (f x)) (λ x. count (f x)) leaf column′) splitter ts js
-  offers-map splitter ts js h = offered-same _ _ splitter ts js (every-imp _ _ alike-map js h)
-
-  pub draws-map : (splitter : Splitter) (js : List ℕ) → Every (λ j. column j ≡ map f (column′ j)) js
-      → drawsOf (offersOf value count leaf column) splitter js ≡ drawsOf (offersOf (λ j x. value j (f x)) (λ x. count (f x)) leaf column′) splitter js
-  draws-map splitter js h = draws-same _ _ splitter js (every-imp _ _ alike-map js h)
+        (λ r k. record { found = k .best; words = k .words; thresholds = k .thresholds; searches = ap suc (k .searches); enough = k .enough; known = known })

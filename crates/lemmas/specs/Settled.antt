@@ -6,7 +6,7 @@ use mathlib.Core.Path.{_≡_, refl, sym, ap, _∙_, subst}
 use mathlib.Core.Logic.{_⊎_, inl, inr}
 use mathlib.Core.Bool.{Bool, true, false}
 use mathlib.Core.List.{List, []}
-use lib.ListN.{length, getD}
+use lib.ListN.{length}
 use Rattle.rules.specs.declared.Params.{Params}
 use Rattle.rules.specs.declared.Cut.{Cut}
 use Rattle.rules.specs.declared.Fork.{Fork}
@@ -14,9 +14,9 @@ use Rattle.rules.specs.declared.Kind.{Kind}
 use Rattle.rules.specs.declared.Kind.the-variants.{Leaf, Split}
 use Rattle.rules.specs.Draws.{Out}
 use Rattle.rules.specs.Search.{NodeRows, onTrue, onFalse, Found, noCut, cutFound}
-use Rattle.rules.specs.Growth.{TreeNode, Waiting, State, child, leafOf, splitting}
+use Rattle.rules.specs.Growth.{TreeNode, State, leafOf, splitting}
 use Rattle.lemmas.specs.Outs.{Then, then-of}
-use Rattle.lemmas.specs.Nodes.{noNode, kindAt, countAt}
+use Rattle.lemmas.specs.Nodes.{kindAt, countAt}
 use Rattle.lemmas.specs.Cuts.{Good, Suits, Ripe, side-good}
 use Rattle.lemmas.specs.Splits.{leaf≢split, counts}
 use Rattle.lemmas.specs.Met.{Met, waitingAt, asked, Gave, ChildOf, SplitAt, Became, Born, History}

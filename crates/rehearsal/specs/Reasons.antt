@@ -1,5 +1,5 @@
 -- Why each node of the trees P1 to P9 is a leaf, or that it is none: the reasons of crate demands, computed from what each fit leaves. One list and one theorem; beside the table's own,
--- two trees of the random splitter, where the cut that is offered or not is the one drawn. Assumes nothing.
+-- three trees of the random splitter, where the cut that is offered or not is the one drawn. Assumes nothing.
 use Prim.Native.Nat.{ℕ}
 use mathlib.Core.Path.{_≡_, refl}
 use mathlib.Core.List.{List, [], _∷_, map}
@@ -77,7 +77,8 @@ cases =
     ∷ nodes (tree Unlimited 1 2 (sampled flats)) (cutOffered ∷ noCutOffered ∷ cutOffered ∷ belowLeastSplit ∷ belowLeastSplit ∷ [])
     -- P9
     ∷ nodes (tree Unlimited 1 2 (given rise flats (0 ∷ 0 ∷ 0 ∷ 0 ∷ []) sorted)) (nothingKept ∷ [])
-    -- at random, with a least leaf of 2: 1.5 leaves one row, though 2.5 would leave two; then 2.5, and in both children what is drawn leaves one
+    -- at random: each search cuts at the threshold drawn for it; with a least leaf of 2, 1.5 leaves one row, though 2.5 would leave two; then 2.5, and in both children what is drawn leaves one
+    ∷ nodes (drawnTree 1 (half 5 ∷ half 3 ∷ half 7 ∷ [])) (cutOffered ∷ cutOffered ∷ cutOffered ∷ replicate 4 belowLeastSplit)
     ∷ nodes (drawnTree 2 (half 3 ∷ [])) (noCutOffered ∷ [])
     ∷ nodes (drawnTree 2 (half 5 ∷ half 3 ∷ half 7 ∷ [])) (cutOffered ∷ noCutOffered ∷ noCutOffered ∷ [])
     ∷ []
