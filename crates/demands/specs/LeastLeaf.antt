@@ -22,4 +22,4 @@ pub least-leaf : OfEveryTree LeastLeaf
 least-leaf =
     of-every-tree LeastLeaf
     (λ F D l some s g k up h. subst (λ n. (1 ≤ n) × (F .params .leaf ≤ n)) (sym (List·getD-map (λ (n : TreeNode). n .count) (s .nodes) k noNode))
-    (least-at F D l s g k (subst (λ n. k < n) (length-entries (s .nodes)) h) up))
+    (least-at l g k (subst (λ n. k < n) (length-entries (s .nodes)) h) up))

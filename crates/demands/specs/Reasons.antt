@@ -20,7 +20,7 @@ use Rattle.rules.specs.Lent.{Data, OneTree, cell, countIn}
 use Rattle.rules.specs.Draws.{Tapes}
 use Rattle.rules.specs.Search.{Element, at, Found, noCut, cutFound}
 use Rattle.rules.specs.Growth.{TreeNode, State, searchable}
-use Rattle.rules.specs.Fit.{elementIn, element, root, treeOf}
+use Rattle.rules.specs.Fit.{elementIn, element, treeOf}
 use Rattle.rules.specs.Table.{isLeaf}
 use Rattle.rules.specs.Reading.{noEntry}
 use Rattle.lemmas.specs.Lists.{is-true, Every, every-imp, keep-append, total-append, from-more}
@@ -32,7 +32,8 @@ use Rattle.lemmas.specs.Tables.{length-entries}
 use Rattle.lemmas.specs.Passes.{levelIn}
 use Rattle.lemmas.specs.Met.{Met, asked, Gave}
 use Rattle.lemmas.specs.Settled.{cut-splits, uncut-leaf, count-met}
-use Rattle.lemmas.specs.FitHistory.{chooses, startOf, Grown, rowsAt, good-at, least-at, leaf-at, inner-at, level-at, column-rows}
+use Rattle.lemmas.specs.Reached.{leaf-written, split-inner, level-met}
+use Rattle.lemmas.specs.FitHistory.{chooses, Grown, rowsAt, good-at, least-at, column-rows}
 use Rattle.demands.specs.TreesLeft.{Left, OfEveryTree, leftOf, of-every-tree}
 
 -- ---- the statements
@@ -163,20 +164,20 @@ module _ (F : OneTree) (D : Data) (l : Listed F D) (some : 0 < F .params .featur
 
   -- a node that is not the root is never empty
   filled : (k : ℕ) → k < length (s .nodes) → 0 < k → ltb 0 (countOf left k) ≡ true
-  filled k h up = is-true _ (lt→ltb 0 (countOf left k) (subst (λ n. 0 < n) (sym (count-is k)) (least-at F D l s g k h up .0)))
+  filled k h up = is-true _ (lt→ltb 0 (countOf left k) (subst (λ n. 0 < n) (sym (count-is k)) (least-at l g k h up .0)))
 
   -- what growth asks of a node is what the table says
-  asked-is : (k : ℕ) → k < length (s .nodes) → asked P (chooses P) k (met k) ≡ isSearched F left k
+  asked-is : (k : ℕ) → k < length (s .nodes) → asked P k (met k) ≡ isSearched F left k
   unfolding searchable
   asked-is k h = go k refl
     where
       counted : met k .rows .count ≡ countOf left k
-      counted = sym (count-is k ∙ count-met P (chooses P) (root F D) (startOf F) s (g .history) k h)
+      counted = sym (count-is k ∙ count-met (g .history) k h)
 
       same : searchable P (met k .level) (met k .rows) ≡ (ltb (levelIn (left .entries) k) (P .limit) && leb (P .split) (countOf left k))
-      same = λ i. ltb (sym (level-at F D l s g k h) i) (P .limit) && leb (P .split) (counted i)
+      same = λ i. ltb (sym (level-met (g .history) (g .stands) k h) i) (P .limit) && leb (P .split) (counted i)
 
-      go : (m : ℕ) → k ≡ m → asked P (chooses P) m (met k) ≡ (ltb 0 (countOf left k) && (ltb (levelIn (left .entries) k) (P .limit) && leb (P .split) (countOf left k)))
+      go : (m : ℕ) → k ≡ m → asked P m (met k) ≡ (ltb 0 (countOf left k) && (ltb (levelIn (left .entries) k) (P .limit) && leb (P .split) (countOf left k)))
       go zero q = λ i. ltb 0 (counted i) && same i
       go (suc m) q = same ∙ ap (λ b. b && (ltb (levelIn (left .entries) k) (P .limit) && leb (P .split) (countOf left k))) (sym (filled k h (omega (arith, q))))
 
@@ -189,16 +190,16 @@ module _ (F : OneTree) (D : Data) (l : Listed F D) (some : 0 < F .params .featur
 
   module _ (k : ℕ) (h : k < length (s .nodes)) where
     -- its search, if it has one
-    gave : Gave P (chooses P) (isSearched F left k) (met k)
-    gave = subst (λ b. Gave P (chooses P) b (met k)) (asked-is k h) (g .history .known k h .gave)
+    gave : Gave (chooses P) (isSearched F left k) (met k)
+    gave = subst (λ b. Gave (chooses P) b (met k)) (asked-is k h) (g .history .known k h .gave)
 
     searched : isSearched F left k ≡ true → Searched P (met k .rows) (met k .before) (met k .found) (met k .after)
     searched q =
-        search-offers P (met k .rows) (good-at F D l s g k h .sound) (met k .before) (met k .found) (met k .after) (subst (λ b. Gave P (chooses P) b (met k)) q gave)
+        search-offers P (met k .rows) (good-at l g k h .sound) (met k .before) (met k .found) (met k .after) (subst (λ b. Gave (chooses P) b (met k)) q gave)
 
     -- the columns that it searches are the listings
     columns : isSearched F left k ≡ true → Every (λ j. getD (met k .rows .columns) j [] ≡ map (element F D) (rowsAt F D (left .entries) k j)) (triedOf P (met k .before .words))
-    columns q = every-imp _ _ (λ j b. column-rows F D l s g k h j b) (triedOf P (met k .before .words)) (searched q .known)
+    columns q = every-imp _ _ (λ j b. column-rows l g k h j b) (triedOf P (met k .before .words)) (searched q .known)
 
     module _ (t : Ledger k (met k .before)) where
       tried-is : triedOf P (met k .before .words) ≡ triedAt F left k
@@ -231,7 +232,7 @@ module _ (F : OneTree) (D : Data) (l : Listed F D) (some : 0 < F .params .featur
 
           go : (b : Bool) → isSearched F left k ≡ b → Ledger (suc k) (met k .after)
           go false q =
-              let e : met k .after ≡ met k .before = subst (λ b. Gave P (chooses P) b (met k)) q gave .1 in
+              let e : met k .after ≡ met k .before = subst (λ b. Gave (chooses P) b (met k)) q gave .1 in
               record {
                 words = ap (λ (d : Tapes). d .words) e ∙ t .words ∙ ap (λ m. drop (m * P .features) (F .words)) (sym (number false q ∙ add-zero n));
                 thresholds = ap (λ (d : Tapes). d .thresholds) e ∙ t .thresholds ∙ ap (λ m. drop m (F .thresholds)) (sym (drawn false q ∙ add-zero (drawnTo F D left k)));
@@ -270,15 +271,15 @@ module _ (F : OneTree) (D : Data) (l : Listed F D) (some : 0 < F .params .featur
   leaf-is k h = go (met k .found) refl
     where
       go : (x : Found) → met k .found ≡ x → isLeaf (getD (left .entries) k noEntry) ≡ not (isCut x)
-      go noCut q = leaf-at F D l s g k h (uncut-leaf P (chooses P) (root F D) (startOf F) s (g .history) k h q)
-      go (cutFound c) q = inner-at F D l s g k h _ (cut-splits P (chooses P) (root F D) (startOf F) s (g .history) k h c q .kind)
+      go noCut q = leaf-written (g .history) (g .stands) k h (uncut-leaf (g .history) k h q)
+      go (cutFound c) q = split-inner (g .history) (g .stands) k h _ (cut-splits (g .history) k h c q .kind)
 
   -- one that is searched found what was offered
   found-is : (k : ℕ) → k < length (s .nodes) → isCut (met k .found) ≡ (isSearched F left k && isOffered F D left k)
   found-is k h = go (isSearched F left k) refl
     where
       go : (b : Bool) → isSearched F left k ≡ b → isCut (met k .found) ≡ (b && isOffered F D left k)
-      go false q = ap isCut (subst (λ b. Gave P (chooses P) b (met k)) q (gave k h) .0)
+      go false q = ap isCut (subst (λ b. Gave (chooses P) b (met k)) q (gave k h) .0)
       go true q = cut-is k h (ledger k h) q
 
   grown-reason : LeafByReason F D left

@@ -25,7 +25,7 @@ Through F D L =
 
 pub grown-through : (F : OneTree) (D : Data) → Listed F D → 0 < F .params .features → (s : State Tapes) → Grown F D s → Through F D (leftOf F D s)
 grown-through F D l some s g k h =
-    List·getD-map (λ (n : TreeNode). n .count) (s .nodes) k noNode ∙ count-through F D l s g some k (subst (λ n. k < n) (length-entries (s .nodes)) h)
+    List·getD-map (λ (n : TreeNode). n .count) (s .nodes) k noNode ∙ count-through l g some k (subst (λ n. k < n) (length-entries (s .nodes)) h)
 
 pub through : OfEveryTree Through
 through = of-every-tree Through grown-through

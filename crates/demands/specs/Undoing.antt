@@ -13,6 +13,7 @@ use lib.Dec.{T, ltb}
 use lib.Ieee.{le}
 use Rattle.floats.specs.Order.{le-trans64}
 use Rattle.rules.specs.declared.Params.{Params}
+use Rattle.rules.specs.declared.Cut.{Cut}
 use Rattle.rules.specs.declared.Fork.{Fork}
 use Rattle.rules.specs.declared.Kind.{Kind}
 use Rattle.rules.specs.declared.Kind.the-variants.{Leaf, Split}
@@ -37,7 +38,8 @@ use Rattle.lemmas.specs.Splits.{Divides, joins-ripe}
 use Rattle.lemmas.specs.Root.{Before, Listed, root-good}
 use Rattle.lemmas.specs.Passed.{forest-passed, forest-framed, Binary64, listed-right}
 use Rattle.lemmas.specs.Tables.{length-entries}
-use Rattle.lemmas.specs.FitHistory.{chooses, startOf, Grown, rowsAt, count-along, least-at, leaf-at, split-at, goesAt, rows-child}
+use Rattle.lemmas.specs.Reached.{leaf-written, split-written}
+use Rattle.lemmas.specs.FitHistory.{chooses, startOf, Grown, rowsAt, count-along, goesAt, least-at, rows-child}
 use Rattle.lemmas.specs.Answered.{tree-listed}
 use Rattle.demands.specs.TreesLeft.{Left, OfEveryTree, leftOf, of-every-tree}
 
@@ -52,16 +54,16 @@ unfoldable pub fromOn : {A : Type 0} → (A → Bool) → List A → List A
 fromOn p [] = []
 fromOn p (x ∷ l) = cond (p x) (fromOn p l) (x ∷ l)
 
--- at a split with entry e a row goes to the true side
-abbrev pub goesBy : OneTree → Data → Entry → ℕ → Bool
-goesBy F D e i = le (cell (F .params .features) (D .values) (e .feature) i) (e .threshold)
+-- the cut of a split with entry e
+abbrev pub cutIn : Entry → Cut
+cutIn e = record { feature = e .feature; threshold = e .threshold }
 
 -- the Rust's two counts at node k, with entry e: along the rows that pass through it, in the order of e's feature
 abbrev pub trueCount : OneTree → Data → Left → ℕ → Entry → ℕ
-trueCount F D L k e = total (countIn (F .counts)) (upTo (goesBy F D e) (rowsAt F D (L .entries) k (e .feature)))
+trueCount F D L k e = total (countIn (F .counts)) (upTo (goesAt F D (cutIn e)) (rowsAt F D (L .entries) k (e .feature)))
 
 abbrev pub falseCount : OneTree → Data → Left → ℕ → Entry → ℕ
-falseCount F D L k e = total (countIn (F .counts)) (fromOn (goesBy F D e) (rowsAt F D (L .entries) k (e .feature)))
+falseCount F D L k e = total (countIn (F .counts)) (fromOn (goesAt F D (cutIn e)) (rowsAt F D (L .entries) k (e .feature)))
 
 -- they are those of the children, and neither is too low
 pub record Stays (F : OneTree) (D : Data) (L : Left) (k : ℕ) (e : Entry) : Type 0 where
@@ -147,26 +149,26 @@ module _ (F : OneTree) (D : Data) (l : Listed F D) (some : 0 < F .params .featur
     d : Divides (F .params) (s .nodes) k fork
     d = g .stands .splits k fork e
 
-    along : (upTo (goesAt F D l s g (fork .cut)) (rowsAt F D (left .entries) k j) ≡ keep (goesAt F D l s g (fork .cut)) (rowsAt F D (left .entries) k j))
-        × (fromOn (goesAt F D l s g (fork .cut)) (rowsAt F D (left .entries) k j) ≡ keep (λ i. not (goesAt F D l s g (fork .cut) i)) (rowsAt F D (left .entries) k j))
+    along : (upTo (goesAt F D (fork .cut)) (rowsAt F D (left .entries) k j) ≡ keep (goesAt F D (fork .cut)) (rowsAt F D (left .entries) k j))
+        × (fromOn (goesAt F D (fork .cut)) (rowsAt F D (left .entries) k j) ≡ keep (λ i. not (goesAt F D (fork .cut) i)) (rowsAt F D (left .entries) k j))
     unfolding at element elementIn cell
     along =
-        up-keep (Before F D j) (goesAt F D l s g (fork .cut)) (λ a b r t. is-true _ (le-trans64 (at j (element F D a)) (at j (element F D b)) (fork .cut .threshold) r (subst T (sym t) tt)))
+        up-keep (Before F D j) (goesAt F D (fork .cut)) (λ a b r t. is-true _ (le-trans64 (at j (element F D a)) (at j (element F D b)) (fork .cut .threshold) r (subst T (sym t) tt)))
         (rowsAt F D (left .entries) k j) (ordered-keep (Before F D j) _ (listing F D j) (l .rising j (d .known)))
 
     -- the counts beside a child
     beside : (c : ℕ) → c < length (s .nodes) → 0 < c → (rows : List ℕ) → rowsAt F D (left .entries) c j ≡ rows
         → (total (countIn (F .counts)) rows ≡ getD (left .counts) c 0) × (F .params .leaf ≤ total (countIn (F .counts)) rows)
     beside c b up rows q =
-        let n : total (countIn (F .counts)) rows ≡ countAt (s .nodes) c = sym (count-along F D l s g c b j (d .known) ∙ ap (total (countIn (F .counts))) q) in (
+        let n : total (countIn (F .counts)) rows ≡ countAt (s .nodes) c = sym (count-along l g c b j (d .known) ∙ ap (total (countIn (F .counts))) q) in (
           n ∙ sym (List·getD-map (λ (x : TreeNode). x .count) (s .nodes) c noNode),
-          subst (λ m. F .params .leaf ≤ m) (sym n) (least-at F D l s g c b up .1),
+          subst (λ m. F .params .leaf ≤ m) (sym n) (least-at l g c b up .1),
         )
 
     kept-at : Stays F D left k entry
     unfolding entryOf
     kept-at =
-        let parts = rows-child F D l s g k h fork e j in
+        let parts = rows-child l g k h fork e j in
         let t = beside (fork .children) (omega (arith, d .inside)) (omega (arith, d .above)) _ (parts .0 ∙ sym (along .0)) in
         let f = beside (suc (fork .children)) (d .inside) (omega arith) _ (parts .1 ∙ sym (along .1)) in
         record { trueIs = t .0; falseIs = f .0; leafTrue = t .1; leafFalse = f .1 }
@@ -178,8 +180,8 @@ module _ (F : OneTree) (D : Data) (l : Listed F D) (some : 0 < F .params .featur
       h = subst (λ n. k < n) (length-entries (s .nodes)) b
 
       go : (z : Kind) → kindAt (s .nodes) k ≡ z → Stays F D left k (getD (left .entries) k noEntry)
-      go Leaf e = absurd (true≢false (sym (leaf-at F D l s g k h e) ∙ inner))
-      go (Split fork) e = subst (Stays F D left k) (sym (split-at F D l s g k h fork e)) (kept-at k h fork e)
+      go Leaf e = absurd (true≢false (sym (leaf-written (g .history) (g .stands) k h e) ∙ inner))
+      go (Split fork) e = subst (Stays F D left k) (sym (split-written (g .history) (g .stands) k h fork e)) (kept-at k h fork e)
 
 pub never-undone : OfEveryTree NeverUndone
 never-undone = of-every-tree NeverUndone grown-kept

@@ -1,36 +1,33 @@
--- The history of a fit whose listings are in order, by row numbers: a node's columns are the listings with the kept rows alone that pass through it, its count is the sum of theirs, and its
--- level is the table's. Every node but the root has a count, and the least leaf. Assumes nothing.
+-- The history of a fit whose listings are in order, by row numbers: a node's columns are the listings with the kept rows alone that pass through it, its count is the sum of their counts,
+-- and a split's rows go to its children by its cut. Every node but the root has a count, and the least leaf. Assumes nothing.
 use Prim.Native.Nat.{ℕ, suc, _<_, _≤_}
 use mathlib.Core.Path.{_≡_, refl, sym, ap, _∙_}
-use mathlib.Core.Bool.{Bool, true, false, not, _&&_, and-assoc}
+use mathlib.Core.Bool.{Bool, not, _&&_, and-assoc}
 use mathlib.Core.List.{List, [], map}
 use lib.ListN.{length, getD}
 use lib.Ieee.{Float, le}
 use Rattle.rules.specs.declared.Params.{Params}
 use Rattle.rules.specs.declared.Cut.{Cut}
 use Rattle.rules.specs.declared.Fork.{Fork}
-use Rattle.rules.specs.declared.Kind.the-variants.{Leaf, Split}
+use Rattle.rules.specs.declared.Kind.the-variants.{Split}
 use Rattle.rules.specs.Words.{from, keep, total}
-use Rattle.rules.specs.Totals.{valueOf}
 use Rattle.rules.specs.Lent.{Data, OneTree, Entry, valuesAt, cell, countIn, kept, keptRows}
 use Rattle.rules.specs.Draws.{Out, Tapes, tape}
 use Rattle.rules.specs.Search.{Element, at, NodeRows, tally, goesTrue, Found, search}
 use Rattle.rules.specs.Growth.{State, fromRoot}
-use Rattle.rules.specs.Fit.{elementIn, element, listing, column, root, treeOf, growFrom, fit, entryOf, entries}
-use Rattle.rules.specs.Table.{isLeaf}
-use Rattle.rules.specs.Reading.{noEntry}
+use Rattle.rules.specs.Fit.{elementIn, element, listing, column, root, treeOf, growFrom, fit, entries}
 use Rattle.lemmas.specs.Lists.{every-all, keep-same, keep-map, keep-keep, getD-keep, total-map}
 use Rattle.lemmas.specs.Once.{once-keep}
 use Rattle.lemmas.specs.Outs.{Then, then-then, then-both}
-use Rattle.lemmas.specs.Nodes.{noNode, kindAt, countAt}
+use Rattle.lemmas.specs.Nodes.{kindAt, countAt}
 use Rattle.lemmas.specs.Cuts.{Good, Suits, search-fine, tape-fair}
 use Rattle.lemmas.specs.Splits.{Stands, growth-stands}
 use Rattle.lemmas.specs.Root.{Listed, column-at, root-good}
-use Rattle.lemmas.specs.Passes.{passes, levelIn}
+use Rattle.lemmas.specs.Passes.{passes}
 use Rattle.lemmas.specs.Met.{Met, History}
 use Rattle.lemmas.specs.History.{growth-history}
 use Rattle.lemmas.specs.Settled.{count-met, good-met, least-met}
-use Rattle.lemmas.specs.Reached.{leaf-written, split-written, split-inner, level-met, rows-met, through-child}
+use Rattle.lemmas.specs.Reached.{rows-met, through-child}
 
 -- what a fit chooses by, and what it starts with
 abbrev pub chooses : Params → Tapes → NodeRows → Out (Found × Tapes)
@@ -64,7 +61,11 @@ trained F D i = valuesAt (F .params .features) (D .values) i
 abbrev pub rowsAt : OneTree → Data → List Entry → ℕ → ℕ → List ℕ
 rowsAt F D es k j = keep (λ i. kept F i && passes es (trained F D i) k) (listing F D j)
 
-module _ (F : OneTree) (D : Data) (ok : Listed F D) (s : State Tapes) (g : Grown F D s) where
+-- row i goes to the true side of a cut
+abbrev pub goesAt : OneTree → Data → Cut → ℕ → Bool
+goesAt F D c i = le (cell (F .params .features) (D .values) (c .feature) i) (c .threshold)
+
+module _ {F : OneTree} {D : Data} (ok : Listed F D) {s : State Tapes} (g : Grown F D s) where
   abbrev P : Params
   P = F .params
 
@@ -79,30 +80,17 @@ module _ (F : OneTree) (D : Data) (ok : Listed F D) (s : State Tapes) (g : Grown
   fines = search-fine P (tape (P .features)) (tape-fair P)
 
   pub good-at : (k : ℕ) → k < length (s .nodes) → Good P (metAt k .rows)
-  good-at = good-met P (chooses P) (root F D) (startOf F) s (g .history) fines (root-good F D ok)
+  good-at = good-met (g .history) fines (root-good F D ok)
 
   -- every node but the root has a count, and the least leaf
   pub least-at : (k : ℕ) → k < length (s .nodes) → 0 < k → (1 ≤ countAt (s .nodes) k) × (P .leaf ≤ countAt (s .nodes) k)
-  least-at = least-met P (chooses P) (root F D) (startOf F) s (g .history) fines (root-good F D ok)
-
-  -- what is written of a leaf and of a split
-  pub leaf-at : (k : ℕ) → k < length (s .nodes) → kindAt (s .nodes) k ≡ Leaf → isLeaf (getD es k noEntry) ≡ true
-  leaf-at = leaf-written P (chooses P) (root F D) (startOf F) s (g .history) (g .stands)
-
-  pub split-at : (k : ℕ) → k < length (s .nodes) → (fork : Fork) → kindAt (s .nodes) k ≡ Split fork → getD es k noEntry ≡ entryOf (valueOf (getD (s .nodes) k noNode .totals)) (Split fork)
-  split-at = split-written P (chooses P) (root F D) (startOf F) s (g .history) (g .stands)
-
-  pub inner-at : (k : ℕ) → k < length (s .nodes) → (fork : Fork) → kindAt (s .nodes) k ≡ Split fork → isLeaf (getD es k noEntry) ≡ false
-  inner-at = split-inner P (chooses P) (root F D) (startOf F) s (g .history) (g .stands)
-
-  pub level-at : (k : ℕ) → k < length (s .nodes) → levelIn es k ≡ metAt k .level
-  level-at = level-met P (chooses P) (root F D) (startOf F) s (g .history) (g .stands)
+  least-at = least-met (g .history) fines (root-good F D ok)
 
   -- its columns are listings
   pub column-rows : (k : ℕ) → k < length (s .nodes) → (j : ℕ) → j < P .features → getD (metAt k .rows .columns) j [] ≡ map (element F D) (rowsAt F D es k j)
   unfolding column element elementIn
   column-rows k l j h =
-      ap (λ cs. getD cs j []) (rows-met P (chooses P) (root F D) (startOf F) s (g .history) (g .stands) k l)
+      ap (λ cs. getD cs j []) (rows-met (g .history) (g .stands) k l)
       ∙ getD-keep (λ (e : Element). passes es (e .values) k) (root F D .columns) j
       ∙ ap (keep (λ (e : Element). passes es (e .values) k)) (column-at F D ok j h)
       ∙ keep-map (λ (e : Element). passes es (e .values) k) (element F D) (keep (kept F) (listing F D j))
@@ -118,7 +106,7 @@ module _ (F : OneTree) (D : Data) (ok : Listed F D) (s : State Tapes) (g : Grown
   pub count-along : (k : ℕ) → k < length (s .nodes) → (j : ℕ) → j < P .features → countAt (s .nodes) k ≡ total (countIn (F .counts)) (rowsAt F D es k j)
   unfolding element elementIn
   count-along k l j h =
-      count-met P (chooses P) (root F D) (startOf F) s (g .history) k l ∙ good-at k l .sound j h .counted ∙ ap tally (column-rows k l j h)
+      count-met (g .history) k l ∙ good-at k l .sound j h .counted ∙ ap tally (column-rows k l j h)
       ∙ total-map (λ (e : Element). e .count) (element F D) (rowsAt F D es k j)
 
   pub count-through : 0 < P .features → (k : ℕ) → k < length (s .nodes) → countAt (s .nodes) k ≡ total (countIn (F .counts)) (keep (λ i. passes es (trained F D i) k) (keptRows F))
@@ -126,18 +114,15 @@ module _ (F : OneTree) (D : Data) (ok : Listed F D) (s : State Tapes) (g : Grown
 
   -- ---- a split's rows go to its children
 
-  -- a row's value of a cut's feature is at most the threshold
-  abbrev pub goesAt : Cut → ℕ → Bool
-  goesAt c i = le (cell (P .features) (D .values) (c .feature) i) (c .threshold)
-
   pub rows-child : (k : ℕ) → k < length (s .nodes) → (fork : Fork) → kindAt (s .nodes) k ≡ Split fork → (j : ℕ)
-      → (rowsAt F D es (fork .children) j ≡ keep (goesAt (fork .cut)) (rowsAt F D es k j)) × (rowsAt F D es (suc (fork .children)) j ≡ keep (λ i. not (goesAt (fork .cut) i)) (rowsAt F D es k j))
+      → (rowsAt F D es (fork .children) j ≡ keep (goesAt F D (fork .cut)) (rowsAt F D es k j))
+      × (rowsAt F D es (suc (fork .children)) j ≡ keep (λ i. not (goesAt F D (fork .cut) i)) (rowsAt F D es k j))
   unfolding goesTrue at element elementIn cell
-  rows-child k l fork e j = (side (fork .children) (goesAt (fork .cut)) (λ i. goes i .0), side (suc (fork .children)) (λ i. not (goesAt (fork .cut) i)) (λ i. goes i .1))
+  rows-child k l fork e j = (side (fork .children) (goesAt F D (fork .cut)) (λ i. goes i .0), side (suc (fork .children)) (λ i. not (goesAt F D (fork .cut) i)) (λ i. goes i .1))
     where
-      goes : (i : ℕ) → (passes es (trained F D i) (fork .children) ≡ (passes es (trained F D i) k && goesAt (fork .cut) i))
-          × (passes es (trained F D i) (suc (fork .children)) ≡ (passes es (trained F D i) k && not (goesAt (fork .cut) i)))
-      goes i = through-child P (chooses P) (root F D) (startOf F) s (g .history) (g .stands) k l fork e (element F D i)
+      goes : (i : ℕ) → (passes es (trained F D i) (fork .children) ≡ (passes es (trained F D i) k && goesAt F D (fork .cut) i))
+          × (passes es (trained F D i) (suc (fork .children)) ≡ (passes es (trained F D i) k && not (goesAt F D (fork .cut) i)))
+      goes i = through-child (g .history) (g .stands) k l fork e (element F D i)
 
       side : (c : ℕ) (p : ℕ → Bool) → ((i : ℕ) → passes es (trained F D i) c ≡ (passes es (trained F D i) k && p i)) → rowsAt F D es c j ≡ keep p (rowsAt F D es k j)
       side c p same =

@@ -42,7 +42,7 @@ module _ (P : Params) {S : Type 0} (choose : S → NodeRows → Out (Found × S)
   -- a node's search, or none
   record Searched (b : Bool) (k level : ℕ) (rows : NodeRows) (parent : ℕ) (s : S) (r : List Waiting × S) : Type 0 where
     found : Found
-    gave : Gave P choose b (metAs level rows parent found s (r .1))
+    gave : Gave choose b (metAs level rows parent found s (r .1))
     joined : r .0 ≡ joins k level rows found
 
   searchIf-gives : (b : Bool) (k level : ℕ) (rows : NodeRows) (parent : ℕ) (s : S) → Then (searchIf P choose b k level rows s) (Searched b k level rows parent s)
@@ -54,7 +54,7 @@ module _ (P : Params) {S : Type 0} (choose : S → NodeRows → Out (Found × S)
       go (bad n) e = tt
       go (ok x) e = record { found = x .0; gave = e; joined = refl }
 
-  asked-later : (k : ℕ) (m : Met S) → 0 < k → asked P choose k m ≡ searchable P (m .level) (m .rows)
+  asked-later : (k : ℕ) (m : Met S) → 0 < k → asked P k m ≡ searchable P (m .level) (m .rows)
   asked-later zero m h = absurd (omega arith)
   asked-later (suc k) m h = refl
 
@@ -122,7 +122,7 @@ module _ (P : Params) {S : Type 0} (choose : S → NodeRows → Out (Found × S)
 
     -- ---- splits
 
-    child-old : (k c : ℕ) (cut : Cut) (b : Bool → Bool) → k < n → c < n → ChildOf P choose (h .met) k cut b c → ChildOf P choose met k cut b c
+    child-old : (k c : ℕ) (cut : Cut) (b : Bool → Bool) → k < n → c < n → ChildOf (h .met) k cut b c → ChildOf met k cut b c
     child-old k c cut b lk lc q =
         record {
           parent = ap (λ (m : Met S). m .parent) (old c lc) ∙ q .parent;
@@ -130,7 +130,7 @@ module _ (P : Params) {S : Type 0} (choose : S → NodeRows → Out (Found × S)
           rows = ap (λ (m : Met S). m .rows) (old c lc) ∙ q .rows ∙ ap (λ m. child b (waitingAt k m cut)) (sym (old k lk));
         }
 
-    split-old : (k : ℕ) (cut : Cut) → k < n → k ≢ w .number → SplitAt P choose (s .nodes) (h .met) k cut → SplitAt P choose nodes met k cut
+    split-old : (k : ℕ) (cut : Cut) → k < n → k ≢ w .number → SplitAt (s .nodes) (h .met) k cut → SplitAt nodes met k cut
     split-old k cut l d q =
         record {
           children = q .children;
@@ -141,7 +141,7 @@ module _ (P : Params) {S : Type 0} (choose : S → NodeRows → Out (Found × S)
           falseChild = child-old k (suc (q .children)) cut onFalse l (q .inside) (q .falseChild);
         }
 
-    child-new : (b : Bool → Bool) (c : ℕ) (m : Met S) → met c ≡ m → m .parent ≡ w .number → m .level ≡ suc (w .level) → m .rows ≡ child b w → ChildOf P choose met (w .number) (w .cut) b c
+    child-new : (b : Bool → Bool) (c : ℕ) (m : Met S) → met c ≡ m → m .parent ≡ w .number → m .level ≡ suc (w .level) → m .rows ≡ child b w → ChildOf met (w .number) (w .cut) b c
     child-new b c m e parent level rows =
         record {
           parent = ap (λ (x : Met S). x .parent) e ∙ parent;
@@ -149,7 +149,7 @@ module _ (P : Params) {S : Type 0} (choose : S → NodeRows → Out (Found × S)
           rows = ap (λ (x : Met S). x .rows) e ∙ rows ∙ ap (child b) (sym now-same);
         }
 
-    split-now : SplitAt P choose nodes met (w .number) (w .cut)
+    split-now : SplitAt nodes met (w .number) (w .cut)
     split-now =
         record {
           children = n;
@@ -162,7 +162,7 @@ module _ (P : Params) {S : Type 0} (choose : S → NodeRows → Out (Found × S)
 
     -- ---- what is known of each node
 
-    became-old : (k : ℕ) → k < n → k ≢ w .number → (x : Found) → Became P choose (s .nodes) (h .met) (w ∷ ws) k x → Became P choose nodes met joined k x
+    became-old : (k : ℕ) → k < n → k ≢ w .number → (x : Found) → Became (s .nodes) (h .met) (w ∷ ws) k x → Became nodes met joined k x
     became-old k l d noCut q = kind-old k l d ∙ q
     became-old k l d (cutFound c) (inl q) = inl (kind-old k l d ∙ q .0, awaits-behind k (f .0 ++ t .0) ws (awaits-rest k w ws d (q .1)))
     became-old k l d (cutFound c) (inr q) = inr (split-old k c l d q)
@@ -171,28 +171,28 @@ module _ (P : Params) {S : Type 0} (choose : S → NodeRows → Out (Found × S)
     known-old k l =
         record {
           same = as-it-was w (s .nodes) sits k l ∙ h .known k l .same ∙ ap (λ (m : Met S). leafOf (m .rows)) (sym (old k l));
-          gave = subst (λ m. Gave P choose (asked P choose k m) m) (sym (old k l)) (h .known k l .gave);
-          became = subst (λ (m : Met S). Became P choose nodes met joined k (m .found)) (sym (old k l)) (go (ℕ-discrete k (w .number)));
+          gave = subst (λ m. Gave choose (asked P k m) m) (sym (old k l)) (h .known k l .gave);
+          became = subst (λ (m : Met S). Became nodes met joined k (m .found)) (sym (old k l)) (go (ℕ-discrete k (w .number)));
         }
       where
-        go : Dec (k ≡ w .number) → Became P choose nodes met joined k (h .met k .found)
-        go (yes e) = subst (λ j. Became P choose nodes met joined j (h .met j .found)) (sym e) (subst (Became P choose nodes met joined (w .number)) (sym (h .waits .0 .found)) (inr split-now))
+        go : Dec (k ≡ w .number) → Became nodes met joined k (h .met k .found)
+        go (yes e) = subst (λ j. Became nodes met joined j (h .met j .found)) (sym e) (subst (Became nodes met joined (w .number)) (sym (h .waits .0 .found)) (inr split-now))
         go (no d) = became-old k l d (h .met k .found) (h .known k l .became)
 
-    known-new : (k : ℕ) (m : Met S) → met k ≡ m → 0 < k → getD nodes k noNode ≡ leafOf (m .rows) → Gave P choose (searchable P (m .level) (m .rows)) m
+    known-new : (k : ℕ) (m : Met S) → met k ≡ m → 0 < k → getD nodes k noNode ≡ leafOf (m .rows) → Gave choose (searchable P (m .level) (m .rows)) m
         → ((c : Cut) → m .found ≡ cutFound c → Awaits k joined) → Known P choose nodes met joined k
     unfolding leafOf
     known-new k m e some is gave waits =
         record {
           same = ap asLeaf is ∙ ap (λ (x : Met S). leafOf (x .rows)) (sym e);
-          gave = subst (λ x. Gave P choose (asked P choose k x) x) (sym e) (subst (λ b. Gave P choose b m) (sym (asked-later k m some)) gave);
-          became = subst (λ (x : Met S). Became P choose nodes met joined k (x .found)) (sym e) (go (m .found) waits);
+          gave = subst (λ x. Gave choose (asked P k x) x) (sym e) (subst (λ b. Gave choose b m) (sym (asked-later k m some)) gave);
+          became = subst (λ (x : Met S). Became nodes met joined k (x .found)) (sym e) (go (m .found) waits);
         }
       where
         leaf : kindAt nodes k ≡ Leaf
         leaf = ap (λ (x : TreeNode). x .kind) is
 
-        go : (x : Found) → ((c : Cut) → x ≡ cutFound c → Awaits k joined) → Became P choose nodes met joined k x
+        go : (x : Found) → ((c : Cut) → x ≡ cutFound c → Awaits k joined) → Became nodes met joined k x
         go noCut a = leaf
         go (cutFound c) a = inl (leaf, a c refl)
 
@@ -210,7 +210,7 @@ module _ (P : Params) {S : Type 0} (choose : S → NodeRows → Out (Found × S)
         (λ c e. awaits-before (suc n) (f .0 ++ t .0) ws (awaits-before (suc n) (f .0) (t .0) (subst (Awaits (suc n)) (sym (hf .joined)) (joins-awaits (suc n) _ _ (hf .found) c e)))))
         k (subst (λ m. k < m) more l)
 
-    born-old : (k : ℕ) → k < n → 0 < k → Born P choose nodes met k
+    born-old : (k : ℕ) → k < n → 0 < k → Born nodes met k
     born-old k l some =
         let b = h .born k some l in
         let e : met k .parent ≡ h .met k .parent = ap (λ (m : Met S). m .parent) (old k l) in
@@ -223,22 +223,22 @@ module _ (P : Params) {S : Type 0} (choose : S → NodeRows → Out (Found × S)
           which = b .which;
         }
 
-    born-new : (k : ℕ) (m : Met S) → met k ≡ m → m .parent ≡ w .number → w .number < k → (k ≡ n) ⊎ (k ≡ suc n) → Born P choose nodes met k
+    born-new : (k : ℕ) (m : Met S) → met k ≡ m → m .parent ≡ w .number → w .number < k → (k ≡ n) ⊎ (k ≡ suc n) → Born nodes met k
     unfolding splitting
     born-new k m e p l which =
         let q : met k .parent ≡ w .number = ap (λ (x : Met S). x .parent) e ∙ p in
         record { before = subst (λ j. j < k) (sym q) l; fork = splitting w n; split = ap (kindAt nodes) q ∙ kind-now; which = which }
 
-    born-all : (k : ℕ) → 0 < k → k < length nodes → Born P choose nodes met k
+    born-all : (k : ℕ) → 0 < k → k < length nodes → Born nodes met k
     born-all k some l =
-        all-places (λ j. 0 < j → Born P choose nodes met j) n born-old
+        all-places (λ j. 0 < j → Born nodes met j) n born-old
         (λ z. born-new n trueMet first refl inside (inl refl))
         (λ z. born-new (suc n) falseMet second refl (omega (arith, inside)) (inr refl))
         k (subst (λ m. k < m) more l) some
 
     -- ---- those that wait
 
-    waits-old : (v : Waiting) → Waits P choose (s .nodes) (h .met) v × Under w v → Waits P choose nodes met v
+    waits-old : (v : Waiting) → Waits (s .nodes) (h .met) v × Under w v → Waits nodes met v
     waits-old v q =
         record {
           inside = omega (arith, q .0 .inside, more);
@@ -247,18 +247,18 @@ module _ (P : Params) {S : Type 0} (choose : S → NodeRows → Out (Found × S)
           same = ap (λ m. waitingAt (v .number) m (v .cut)) (old (v .number) (q .0 .inside)) ∙ q .0 .same;
         }
 
-    waits-new : (k : ℕ) (m : Met S) → met k ≡ m → k < length nodes → kindAt nodes k ≡ Leaf → (x : Found) → m .found ≡ x → Every (Waits P choose nodes met) (joins k (m .level) (m .rows) x)
+    waits-new : (k : ℕ) (m : Met S) → met k ≡ m → k < length nodes → kindAt nodes k ≡ Leaf → (x : Found) → m .found ≡ x → Every (Waits nodes met) (joins k (m .level) (m .rows) x)
     unfolding joins
     waits-new k m e l leaf noCut q = tt
     waits-new k m e l leaf (cutFound c) q =
         (record { inside = l; leaf = leaf; found = ap (λ (x : Met S). x .found) e ∙ q; same = ap (λ x. waitingAt k x c) e }, tt)
 
-    waits-all : Every (Waits P choose nodes met) joined
+    waits-all : Every (Waits nodes met) joined
     waits-all =
         every-append _ (f .0 ++ t .0) ws
         (every-append _ (f .0) (t .0)
-        (subst (Every (Waits P choose nodes met)) (sym (hf .joined)) (waits-new (suc n) falseMet second (omega (arith, more)) kind-false (hf .found) refl))
-        (subst (Every (Waits P choose nodes met)) (sym (ht .joined)) (waits-new n trueMet first (omega (arith, more)) kind-true (ht .found) refl)))
+        (subst (Every (Waits nodes met)) (sym (hf .joined)) (waits-new (suc n) falseMet second (omega (arith, more)) kind-false (hf .found) refl))
+        (subst (Every (Waits nodes met)) (sym (ht .joined)) (waits-new n trueMet first (omega (arith, more)) kind-true (ht .found) refl)))
         (every-imp _ _ waits-old ws (every-both _ _ ws (h .waits .1) (h .falling .0)))
 
     -- of one that joins under a number above all others
@@ -336,7 +336,7 @@ module _ (P : Params) {S : Type 0} (choose : S → NodeRows → Out (Found × S)
     abbrev one : List TreeNode
     one = leafOf root ∷ []
 
-    root-waits : (x : Found) → Every (Waits P choose one (λ k. rootMet x)) (joins 0 1 root x)
+    root-waits : (x : Found) → Every (Waits one (λ k. rootMet x)) (joins 0 1 root x)
     unfolding joins leafOf
     root-waits noCut = tt
     root-waits (cutFound c) = (record { inside = lit< tt; leaf = refl; found = refl; same = refl }, tt)
@@ -346,12 +346,12 @@ module _ (P : Params) {S : Type 0} (choose : S → NodeRows → Out (Found × S)
     root-falling noCut = tt
     root-falling (cutFound c) = (tt, tt)
 
-    root-became : (x : Found) → Became P choose one (λ k. rootMet x) (joins 0 1 root x) 0 x
+    root-became : (x : Found) → Became one (λ k. rootMet x) (joins 0 1 root x) 0 x
     unfolding joins leafOf
     root-became noCut = refl
     root-became (cutFound c) = inl (refl, inl refl)
 
-    history-starts : (x : Found) → Gave P choose (ltb 0 (root .count) && searchable P 1 root) (rootMet x)
+    history-starts : (x : Found) → Gave choose (ltb 0 (root .count) && searchable P 1 root) (rootMet x)
         → History P choose root s (joins 0 1 root x) (record { nodes = one; depth = 0; left = s′ })
     unfolding leafOf
     history-starts x gave =

@@ -40,57 +40,57 @@ abbrev pub Awaits : ℕ → List Waiting → Type 0
 Awaits k [] = ⊥
 Awaits k (w ∷ ws) = (w .number ≡ k) ⊎ Awaits k ws
 
+-- whether node k is searched; the root only if something is kept
+abbrev pub asked : {S : Type 0} → Params → ℕ → Met S → Bool
+asked P zero m = ltb 0 (m .rows .count) && searchable P (m .level) (m .rows)
+asked P (suc k) m = searchable P (m .level) (m .rows)
+
+-- what its search gave
+abbrev pub Gave : {S : Type 0} → (S → NodeRows → Out (Found × S)) → Bool → Met S → Type 0
+Gave choose false m = (m .found ≡ noCut) × (m .after ≡ m .before)
+Gave choose true m = choose (m .before) (m .rows) ≡ ok (m .found, m .after)
+
+-- node c is the child of node k, on one side of its cut
+pub record ChildOf {S : Type 0} (met : ℕ → Met S) (k : ℕ) (cut : Cut) (b : Bool → Bool) (c : ℕ) : Type 0 where
+  pub parent : met c .parent ≡ k
+  pub level : met c .level ≡ suc (met k .level)
+  pub rows : met c .rows ≡ child b (waitingAt k (met k) cut)
+
+module _ {S : Type 0} (ns : List TreeNode) (met : ℕ → Met S) where
+  -- node k is split at a cut
+  pub record SplitAt (k : ℕ) (cut : Cut) : Type 0 where
+    pub children : ℕ
+    pub kind : kindAt ns k ≡ Split (splitting (waitingAt k (met k) cut) children)
+    pub above : k < children
+    pub inside : suc children < length ns
+    pub trueChild : ChildOf met k cut onTrue children
+    pub falseChild : ChildOf met k cut onFalse (suc children)
+
+  -- what becomes of node k by what its search found: with a cut it waits or is split
+  abbrev pub Became : List Waiting → ℕ → Found → Type 0
+  Became ws k noCut = kindAt ns k ≡ Leaf
+  Became ws k (cutFound c) = ((kindAt ns k ≡ Leaf) × Awaits k ws) ⊎ SplitAt k c
+
+  -- node k is the child of a split before it
+  pub record Born (k : ℕ) : Type 0 where
+    pub before : met k .parent < k
+    pub fork : Fork
+    pub split : kindAt ns (met k .parent) ≡ Split fork
+    pub which : (k ≡ fork .children) ⊎ (k ≡ suc (fork .children))
+
+  -- a node that waits does so with the cut that it found
+  pub record Waits (w : Waiting) : Type 0 where
+    pub inside : w .number < length ns
+    pub leaf : kindAt ns (w .number) ≡ Leaf
+    pub found : met (w .number) .found ≡ cutFound (w .cut)
+    pub same : waitingAt (w .number) (met (w .number)) (w .cut) ≡ w
+
 module _ (P : Params) {S : Type 0} (choose : S → NodeRows → Out (Found × S)) where
-  -- whether node k is searched; the root only if something is kept
-  abbrev pub asked : ℕ → Met S → Bool
-  asked zero m = ltb 0 (m .rows .count) && searchable P (m .level) (m .rows)
-  asked (suc k) m = searchable P (m .level) (m .rows)
-
-  -- what its search gave
-  abbrev pub Gave : Bool → Met S → Type 0
-  Gave false m = (m .found ≡ noCut) × (m .after ≡ m .before)
-  Gave true m = choose (m .before) (m .rows) ≡ ok (m .found, m .after)
-
-  module _ (met : ℕ → Met S) where
-    -- node c is the child of node k, on one side of its cut
-    pub record ChildOf (k : ℕ) (cut : Cut) (b : Bool → Bool) (c : ℕ) : Type 0 where
-      pub parent : met c .parent ≡ k
-      pub level : met c .level ≡ suc (met k .level)
-      pub rows : met c .rows ≡ child b (waitingAt k (met k) cut)
-
-  module _ (ns : List TreeNode) (met : ℕ → Met S) where
-    -- node k is split at a cut
-    pub record SplitAt (k : ℕ) (cut : Cut) : Type 0 where
-      pub children : ℕ
-      pub kind : kindAt ns k ≡ Split (splitting (waitingAt k (met k) cut) children)
-      pub above : k < children
-      pub inside : suc children < length ns
-      pub trueChild : ChildOf met k cut onTrue children
-      pub falseChild : ChildOf met k cut onFalse (suc children)
-
-    -- what becomes of node k by what its search found: with a cut it waits or is split
-    abbrev pub Became : List Waiting → ℕ → Found → Type 0
-    Became ws k noCut = kindAt ns k ≡ Leaf
-    Became ws k (cutFound c) = ((kindAt ns k ≡ Leaf) × Awaits k ws) ⊎ SplitAt k c
-
-    pub record Known (ws : List Waiting) (k : ℕ) : Type 0 where
-      pub same : asLeaf (getD ns k noNode) ≡ leafOf (met k .rows)
-      pub gave : Gave (asked k (met k)) (met k)
-      pub became : Became ws k (met k .found)
-
-    -- node k is the child of a split before it
-    pub record Born (k : ℕ) : Type 0 where
-      pub before : met k .parent < k
-      pub fork : Fork
-      pub split : kindAt ns (met k .parent) ≡ Split fork
-      pub which : (k ≡ fork .children) ⊎ (k ≡ suc (fork .children))
-
-    -- a node that waits does so with the cut that it found
-    pub record Waits (w : Waiting) : Type 0 where
-      pub inside : w .number < length ns
-      pub leaf : kindAt ns (w .number) ≡ Leaf
-      pub found : met (w .number) .found ≡ cutFound (w .cut)
-      pub same : waitingAt (w .number) (met (w .number)) (w .cut) ≡ w
+  -- what is known of node k
+  pub record Known (ns : List TreeNode) (met : ℕ → Met S) (ws : List Waiting) (k : ℕ) : Type 0 where
+    pub same : asLeaf (getD ns k noNode) ≡ leafOf (met k .rows)
+    pub gave : Gave choose (asked P k (met k)) (met k)
+    pub became : Became ns met ws k (met k .found)
 
   -- from a root, with s₀ to choose by
   pub record History (root : NodeRows) (s₀ : S) (ws : List Waiting) (s : State S) : Type 0 where

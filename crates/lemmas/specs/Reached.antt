@@ -32,7 +32,7 @@ use Rattle.lemmas.specs.Passes.{sendsTo, passes, levelIn, sends-child, p
 use Rattle.lemmas.specs.Met.{ChildOf, Born, History}
 use Rattle.lemmas.specs.Settled.{Forked, forked, from-root}
 
-module _ (P : Params) {S : Type 0} (choose : S → NodeRows → Out (Found × S)) (root : NodeRows) (s₀ : S) (s : State S) (h : History P choose root s₀ [] s) (stands : Stands P (s .nodes)) where
+module _ {P : Params} {S : Type 0} {choose : S → NodeRows → Out (Found × S)} {root : NodeRows} {s₀ : S} {s : State S} (h : History P choose root s₀ [] s) (stands : Stands P (s .nodes)) where
   abbrev table : List Entry
   table = entries (s .nodes)
 
@@ -58,7 +58,7 @@ module _ (P : Params) {S : Type 0} (choose : S → NodeRows → Out (Found × S)
   pub split-inner : (k : ℕ) → k < length (s .nodes) → (fork : Fork) → kindAt (s .nodes) k ≡ Split fork → isLeaf (entryOn k) ≡ false
   unfolding isLeaf entryOf
   split-inner k l fork e =
-      ap isLeaf (split-written k l fork e) ∙ ap (λ b. b && eqb (suc (fork .children)) 0) (eqb-no (fork .children) 0 (λ q. omega (arith, q, forked P choose root s₀ s h k l fork e .above)))
+      ap isLeaf (split-written k l fork e) ∙ ap (λ b. b && eqb (suc (fork .children)) 0) (eqb-no (fork .children) 0 (λ q. omega (arith, q, forked h k l fork e .above)))
 
   -- it sends to its two children
   fork-sends : (k : ℕ) → k < length (s .nodes) → (fork : Fork) → kindAt (s .nodes) k ≡ Split fork → (c : ℕ) → (c ≡ fork .children) ⊎ (c ≡ suc (fork .children)) → T (sendsTo c (entryOn k))
@@ -80,8 +80,8 @@ module _ (P : Params) {S : Type 0} (choose : S → NodeRows → Out (Found × S)
       go Leaf e = absurd (true≢false (sym (leaf-written k l e) ∙ sends-child c (entryOn k) t .0))
       go (Split fork) e = child-of (subst (λ (x : Entry). (c ≡ x .trueChild) ⊎ (c ≡ x .falseChild)) (split-written k l fork e) (sends-child c (entryOn k) t .1))
         where
-          f : Forked P choose root s₀ s h k fork
-          f = forked P choose root s₀ s h k l fork e
+          f : Forked h k fork
+          f = forked h k l fork e
 
           child-of : (c ≡ fork .children) ⊎ (c ≡ suc (fork .children)) → h .met c .parent ≡ k
           child-of (inl q) = ap (λ j. h .met j .parent) q ∙ f .trueChild .parent
@@ -134,7 +134,7 @@ module _ (P : Params) {S : Type 0} (choose : S → NodeRows → Out (Found × S)
   )
 
   -- a side of a node whose rows pass through it
-  side-met : (k c : ℕ) (fork : Fork) (b : Bool → Bool) → ChildOf P choose (h .met) k (fork .cut) b c → ((e : Element) → through c e ≡ (through k e && b (goesTrue (fork .cut) e)))
+  side-met : (k c : ℕ) (fork : Fork) (b : Bool → Bool) → ChildOf (h .met) k (fork .cut) b c → ((e : Element) → through c e ≡ (through k e && b (goesTrue (fork .cut) e)))
       → h .met k .rows .columns ≡ map (keep (through k)) (root .columns) → h .met c .rows .columns ≡ map (keep (through c)) (root .columns)
   unfolding child
   side-met k c fork b side goes q =
@@ -142,7 +142,7 @@ module _ (P : Params) {S : Type 0} (choose : S → NodeRows → Out (Found × S)
 
   pub rows-met : (k : ℕ) → k < length (s .nodes) → h .met k .rows .columns ≡ map (keep (through k)) (root .columns)
   rows-met =
-      from-root P choose root s₀ s h (λ k. h .met k .rows .columns ≡ map (keep (through k)) (root .columns))
+      from-root h (λ k. h .met k .rows .columns ≡ map (keep (through k)) (root .columns))
       (ap (λ (r : NodeRows). r .columns) (h .rootRows) ∙ all-kept (through 0) (λ e. passes-root (P .features) table good apart (e .values)) (root .columns))
       (λ k l fork e f q. (
         side-met k (fork .children) fork onTrue (f .trueChild) (λ x. through-child k l fork e x .0) q,
@@ -155,14 +155,14 @@ module _ (P : Params) {S : Type 0} (choose : S → NodeRows → Out (Found × S)
   level-met k l =
       level-is (P .features) table good apart (λ j. h .met j .level) (h .rootLevel) (λ j some b. up j (h .born j some (within j b)) (within j b)) k (beyond k l)
     where
-      up : (j : ℕ) → Born P choose (s .nodes) (h .met) j → j < length (s .nodes) → (p : ℕ) × (p < j) × T (sendsTo j (entryOn p)) × (h .met j .level ≡ suc (h .met p .level))
+      up : (j : ℕ) → Born (s .nodes) (h .met) j → j < length (s .nodes) → (p : ℕ) × (p < j) × T (sendsTo j (entryOn p)) × (h .met j .level ≡ suc (h .met p .level))
       up j o b = (h .met j .parent, o .before, fork-sends (h .met j .parent) inside (o .fork) (o .split) j (o .which), level (o .which))
         where
           inside : h .met j .parent < length (s .nodes)
           inside = omega (arith, o .before, b)
 
-          f : Forked P choose root s₀ s h (h .met j .parent) (o .fork)
-          f = forked P choose root s₀ s h (h .met j .parent) inside (o .fork) (o .split)
+          f : Forked h (h .met j .parent) (o .fork)
+          f = forked h (h .met j .parent) inside (o .fork) (o .split)
 
           level : (j ≡ o .fork .children) ⊎ (j ≡ suc (o .fork .children)) → h .met j .level ≡ suc (h .met (h .met j .parent) .level)
           level (inl q) = ap (λ c. h .met c .level) q ∙ f .trueChild .level

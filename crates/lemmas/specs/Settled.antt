@@ -33,7 +33,7 @@ abbrev Cuts : Found → Type 0
 Cuts noCut = ⊥
 Cuts (cutFound c) = Unit {0}
 
-module _ (P : Params) {S : Type 0} (choose : S → NodeRows → Out (Found × S)) (root : NodeRows) (s₀ : S) (s : State S) (h : History P choose root s₀ [] s) where
+module _ {P : Params} {S : Type 0} {choose : S → NodeRows → Out (Found × S)} {root : NodeRows} {s₀ : S} {s : State S} (h : History P choose root s₀ [] s) where
   abbrev ns : List TreeNode
   ns = s .nodes
 
@@ -45,20 +45,20 @@ module _ (P : Params) {S : Type 0} (choose : S → NodeRows → Out (Found × S)
     pub found : met k .found ≡ cutFound (fork .cut)
     pub above : k < fork .children
     pub inside : suc (fork .children) < length ns
-    pub trueChild : ChildOf P choose met k (fork .cut) onTrue (fork .children)
-    pub falseChild : ChildOf P choose met k (fork .cut) onFalse (suc (fork .children))
+    pub trueChild : ChildOf met k (fork .cut) onTrue (fork .children)
+    pub falseChild : ChildOf met k (fork .cut) onFalse (suc (fork .children))
 
   -- with a cut a node is a split, and without one a leaf
-  pub cut-splits : (k : ℕ) → k < length ns → (c : Cut) → met k .found ≡ cutFound c → SplitAt P choose ns met k c
+  pub cut-splits : (k : ℕ) → k < length ns → (c : Cut) → met k .found ≡ cutFound c → SplitAt ns met k c
   cut-splits k l c e = go (met k .found) (h .known k l .became) e
     where
-      go : (x : Found) → Became P choose ns met [] k x → x ≡ cutFound c → SplitAt P choose ns met k c
+      go : (x : Found) → Became ns met [] k x → x ≡ cutFound c → SplitAt ns met k c
       go noCut b e = absurd (subst Cuts (sym e) tt)
       go (cutFound d) (inl b) e = absurd (b .1)
-      go (cutFound d) (inr b) e = subst (SplitAt P choose ns met k) (ap (cutOr c) e) b
+      go (cutFound d) (inr b) e = subst (SplitAt ns met k) (ap (cutOr c) e) b
 
   pub uncut-leaf : (k : ℕ) → k < length ns → met k .found ≡ noCut → kindAt ns k ≡ Leaf
-  uncut-leaf k l e = subst (Became P choose ns met [] k) e (h .known k l .became)
+  uncut-leaf k l e = subst (Became ns met [] k) e (h .known k l .became)
 
   -- and the other way
   pub forked : (k : ℕ) → k < length ns → (fork : Fork) → kindAt ns k ≡ Split fork → Forked k fork
@@ -79,7 +79,7 @@ module _ (P : Params) {S : Type 0} (choose : S → NodeRows → Out (Found × S)
     up-to (suc f) zero b l = first
     up-to (suc f) (suc k) b l = go (up p inside (o .fork) (o .split) (forked p inside (o .fork) (o .split)) (up-to f p (omega (arith, o .before, b)) inside)) (o .which)
       where
-        o : Born P choose ns met (suc k)
+        o : Born ns met (suc k)
         o = h .born (suc k) (omega arith) l
 
         p : ℕ
@@ -105,9 +105,9 @@ module _ (P : Params) {S : Type 0} (choose : S → NodeRows → Out (Found × S)
   module _ (fine : (t : S) (node : NodeRows) → Good P node → Then (choose t node) (λ r. Suits P node (r .0))) (good : Good P root) where
     -- a split whose rows are good waited ripe
     ripe-from : (k : ℕ) → k < length ns → (fork : Fork) → Forked k fork → Good P (met k .rows) → Ripe P (waitingAt k (met k) (fork .cut))
-    ripe-from k l fork f g = record { good = g; fine = subst (Suits P (met k .rows)) (f .found) (go (asked P choose k (met k)) (h .known k l .gave)) }
+    ripe-from k l fork f g = record { good = g; fine = subst (Suits P (met k .rows)) (f .found) (go (asked P k (met k)) (h .known k l .gave)) }
       where
-        go : (b : Bool) → Gave P choose b (met k) → Suits P (met k .rows) (met k .found)
+        go : (b : Bool) → Gave choose b (met k) → Suits P (met k .rows) (met k .found)
         go false q = subst (Suits P (met k .rows)) (sym (q .0)) tt
         go true q = then-of (λ r. Suits P (met k .rows) (r .0)) (choose (met k .before) (met k .rows)) _ q (fine (met k .before) (met k .rows) g)
 
