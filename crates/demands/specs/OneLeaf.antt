@@ -22,7 +22,7 @@ use Rattle.lemmas.specs.Once.{sum-out, sum-alone}
 use Rattle.lemmas.specs.Root.{Listed}
 use Rattle.lemmas.specs.Tables.{stands-good}
 use Rattle.lemmas.specs.Passes.{passes, walk-passes, one-leaf}
-use Rattle.lemmas.specs.FitHistory.{Grown, trained}
+use Rattle.lemmas.specs.FitHistory.{Grown, trained, stands-at}
 use Rattle.demands.specs.Walks.{walk-ends}
 use Rattle.demands.specs.Support.{keptCount}
 use Rattle.demands.specs.TreesLeft.{Left, OfEveryTree, leftOf, of-every-tree}
@@ -113,7 +113,7 @@ module _ (F : OneTree) (D : Data) (l : Listed F D) (some : 0 < F .params .featur
   left = leftOf F D s
 
   ends-at : (i : ℕ) → OneLeaf (left .entries) (trained F D i) (endOf (left .entries) (trained F D i))
-  ends-at i = leaf-of (F .params .features) (left .entries) (stands-good (F .params) (s .nodes) (g .stands)) (trained F D i)
+  ends-at i = leaf-of (F .params .features) (left .entries) (stands-good (F .params) (s .nodes) (stands-at l g)) (trained F D i)
 
   grown-ends : EndsInOne F D left
   unfolding keptRows

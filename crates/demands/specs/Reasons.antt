@@ -33,7 +33,7 @@ use Rattle.lemmas.specs.Passes.{levelIn}
 use Rattle.lemmas.specs.Met.{Met, asked, Gave}
 use Rattle.lemmas.specs.Settled.{cut-splits, uncut-leaf, count-met}
 use Rattle.lemmas.specs.Reached.{leaf-written, split-inner, level-met}
-use Rattle.lemmas.specs.FitHistory.{chooses, Grown, rowsAt, good-at, least-at, column-rows}
+use Rattle.lemmas.specs.FitHistory.{chooses, Grown, rowsAt, stands-at, good-at, least-at, column-rows}
 use Rattle.demands.specs.TreesLeft.{Left, OfEveryTree, leftOf, of-every-tree}
 
 -- ---- the statements
@@ -157,7 +157,7 @@ module _ (F : OneTree) (D : Data) (l : Listed F D) (some : 0 < F .params .featur
   left = leftOf F D s
 
   abbrev met : ℕ → Met Tapes
-  met = g .history .met
+  met = g .met
 
   count-is : (k : ℕ) → countOf left k ≡ countAt (s .nodes) k
   count-is k = List·getD-map (λ (n : TreeNode). n .count) (s .nodes) k noNode
@@ -172,10 +172,10 @@ module _ (F : OneTree) (D : Data) (l : Listed F D) (some : 0 < F .params .featur
   asked-is k h = go k refl
     where
       counted : met k .rows .count ≡ countOf left k
-      counted = sym (count-is k ∙ count-met (g .history) k h)
+      counted = sym (count-is k ∙ count-met g k h)
 
       same : searchable P (met k .level) (met k .rows) ≡ (ltb (levelIn (left .entries) k) (P .limit) && leb (P .split) (countOf left k))
-      same = λ i. ltb (sym (level-met (g .history) (g .stands) k h) i) (P .limit) && leb (P .split) (counted i)
+      same = λ i. ltb (sym (level-met g (stands-at l g) k h) i) (P .limit) && leb (P .split) (counted i)
 
       go : (m : ℕ) → k ≡ m → asked P m (met k) ≡ (ltb 0 (countOf left k) && (ltb (levelIn (left .entries) k) (P .limit) && leb (P .split) (countOf left k)))
       go zero q = λ i. ltb 0 (counted i) && same i
@@ -191,7 +191,7 @@ module _ (F : OneTree) (D : Data) (l : Listed F D) (some : 0 < F .params .featur
   module _ (k : ℕ) (h : k < length (s .nodes)) where
     -- its search, if it has one
     gave : Gave (chooses P) (isSearched F left k) (met k)
-    gave = subst (λ b. Gave (chooses P) b (met k)) (asked-is k h) (g .history .known k h .gave)
+    gave = subst (λ b. Gave (chooses P) b (met k)) (asked-is k h) (g .known k h .gave)
 
     searched : isSearched F left k ≡ true → Searched P (met k .rows) (met k .before) (met k .found) (met k .after)
     searched q =
@@ -253,7 +253,7 @@ module _ (F : OneTree) (D : Data) (l : Listed F D) (some : 0 < F .params .featur
   ledger : (k : ℕ) → k < length (s .nodes) → Ledger k (met k .before)
   unfolding keep from total
   ledger zero h =
-      let e = g .history .start in
+      let e = g .start in
       record {
         words = ap (λ (d : Tapes). d .words) e ∙ ap (λ m. drop m (F .words)) (sym (zero-mul (P .features)));
         thresholds = ap (λ (d : Tapes). d .thresholds) e;
@@ -262,7 +262,7 @@ module _ (F : OneTree) (D : Data) (l : Listed F D) (some : 0 < F .params .featur
       }
   ledger (suc k) h =
       let b : k < length (s .nodes) = omega (arith, h) in
-      subst (Ledger (suc k)) (sym (g .history .next k h)) (ledger-after k b (ledger k b))
+      subst (Ledger (suc k)) (sym (g .next k h)) (ledger-after k b (ledger k b))
 
   -- ---- leaves and reasons
 
@@ -271,8 +271,8 @@ module _ (F : OneTree) (D : Data) (l : Listed F D) (some : 0 < F .params .featur
   leaf-is k h = go (met k .found) refl
     where
       go : (x : Found) → met k .found ≡ x → isLeaf (getD (left .entries) k noEntry) ≡ not (isCut x)
-      go noCut q = leaf-written (g .history) (g .stands) k h (uncut-leaf (g .history) k h q)
-      go (cutFound c) q = split-inner (g .history) (g .stands) k h _ (cut-splits (g .history) k h c q .kind)
+      go noCut q = leaf-written g (stands-at l g) k h (uncut-leaf g k h q)
+      go (cutFound c) q = split-inner g (stands-at l g) k h _ (cut-splits g k h c q .kind)
 
   -- one that is searched found what was offered
   found-is : (k : ℕ) → k < length (s .nodes) → isCut (met k .found) ≡ (isSearched F left k && isOffered F D left k)
@@ -307,13 +307,13 @@ module _ (F : OneTree) (D : Data) (l : Listed F D) (some : 0 < F .params .featur
 
   -- after the last node
   ledger-end : Ledger (length (s .nodes)) (s .left)
-  ledger-end = go (length (s .nodes)) refl (g .history .some)
+  ledger-end = go (length (s .nodes)) refl (g .some)
     where
       go : (n : ℕ) → length (s .nodes) ≡ n → 0 < n → Ledger (length (s .nodes)) (s .left)
       go zero e h = absurd (omega (arith, h))
       go (suc m) e h =
           let b : m < length (s .nodes) = omega (arith, e) in
-          subst (λ n. Ledger n (s .left)) (sym e) (subst (Ledger (suc m)) (g .history .last m (sym e)) (ledger-after m b (ledger m b)))
+          subst (λ n. Ledger n (s .left)) (sym e) (subst (Ledger (suc m)) (g .last m (sym e)) (ledger-after m b (ledger m b)))
 
   grown-told : DrawsTold F D left
   unfolding treeOf

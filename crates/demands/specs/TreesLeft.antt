@@ -56,7 +56,7 @@ module _ (X : OneTree → Data → Left → Type 0) (each : (F : OneTree) (D : D
       → X F D (record { entries = entries (t .nodes); counts = map (λ (n : TreeNode). n .count) (t .nodes); report = t .report })
   unfolding treeOf
   grown-left F D l some t e =
-      let (s, is, g) = then-of (λ u. (s : State Tapes) × (treeOf F (root F D) s ≡ u) × Grown F D s) (fit F D) t e (fit-grown F D l) in
+      let (s, is, g) = then-of (λ u. (s : State Tapes) × (treeOf F (root F D) s ≡ u) × Grown F D s) (fit F D) t e (fit-grown F D) in
       subst (λ (u : Tree). X F D (record { entries = entries (u .nodes); counts = map (λ (n : TreeNode). n .count) (u .nodes); report = u .report })) is (each F D l some s g)
 
   pub of-every-tree : OfEveryTree X

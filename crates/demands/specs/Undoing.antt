@@ -23,23 +23,23 @@ use Rattle.rules.specs.Totals.{valueOf}
 use Rattle.rules.specs.Lent.{Data, OneTree, Entry, WaitingForm, TreeRooms, ForestRooms, cell, countIn}
 use Rattle.rules.specs.Checks.{checked}
 use Rattle.rules.specs.Draws.{Out, ok, bind, Tapes, tape}
-use Rattle.rules.specs.Search.{Column, at, tally, NodeRows, goesTrue, onTrue, onFalse, trueSide, falseSide, Found}
-use Rattle.rules.specs.Growth.{TreeNode, Waiting, State, leafOf, searchable, runs, searchIf, expand, grow, growAll, fromRoot}
+use Rattle.rules.specs.Search.{Column, at, tally, NodeRows, goesTrue, onTrue, onFalse, trueSide, falseSide, Found, noCut, cutFound}
+use Rattle.rules.specs.Growth.{TreeNode, Waiting, State, leafOf, joins, searchable, runs, searchIf, expand, grow, growAll, fromRoot}
 use Rattle.rules.specs.Fit.{elementIn, element, listing, root, Tree, treeOf, growFrom, fit, entryOf, TreeCall, oneTreeOf, grownTree, treeTests, treeEnds, fitTree}
 use Rattle.rules.specs.Forest.{ForestCall, oneTreeAt, eachTree, Forest, grownAll, nextTree, growTrees, grownForest, forestTests, forestEnds, fitForest}
 use Rattle.rules.specs.Table.{isLeaf}
 use Rattle.rules.specs.Reading.{noEntry}
 use Rattle.lemmas.specs.Lists.{is-true, ltb-no, Every, every-all, every-imp, every-map, keep-all, keep-none, Ordered, ordered-keep}
-use Rattle.lemmas.specs.Outs.{Then, bind-same}
+use Rattle.lemmas.specs.Outs.{Then, then-after, bind-same}
 use Rattle.lemmas.specs.WaitingOrder.{runs-same, searchIf-joins, expand-joins}
 use Rattle.lemmas.specs.Nodes.{noNode, kindAt, countAt}
 use Rattle.lemmas.specs.Cuts.{Good, Suits, Ripe, search-fine, tape-fair, side-good}
-use Rattle.lemmas.specs.Splits.{Divides, joins-ripe}
+use Rattle.lemmas.specs.Splits.{Divides}
 use Rattle.lemmas.specs.Root.{Before, Listed, root-good}
 use Rattle.lemmas.specs.Passed.{forest-passed, forest-framed, Binary64, listed-right}
 use Rattle.lemmas.specs.Tables.{length-entries}
 use Rattle.lemmas.specs.Reached.{leaf-written, split-written}
-use Rattle.lemmas.specs.FitHistory.{chooses, startOf, Grown, rowsAt, count-along, goesAt, least-at, rows-child}
+use Rattle.lemmas.specs.FitHistory.{chooses, startOf, Grown, rowsAt, count-along, goesAt, stands-at, least-at, rows-child}
 use Rattle.lemmas.specs.Answered.{tree-listed}
 use Rattle.demands.specs.TreesLeft.{Left, OfEveryTree, leftOf, of-every-tree}
 
@@ -147,7 +147,7 @@ module _ (F : OneTree) (D : Data) (l : Listed F D) (some : 0 < F .params .featur
     j = fork .cut .feature
 
     d : Divides (F .params) (s .nodes) k fork
-    d = g .stands .splits k fork e
+    d = stands-at l g .splits k fork e
 
     along : (upTo (goesAt F D (fork .cut)) (rowsAt F D (left .entries) k j) ≡ keep (goesAt F D (fork .cut)) (rowsAt F D (left .entries) k j))
         × (fromOn (goesAt F D (fork .cut)) (rowsAt F D (left .entries) k j) ≡ keep (λ i. not (goesAt F D (fork .cut) i)) (rowsAt F D (left .entries) k j))
@@ -180,8 +180,8 @@ module _ (F : OneTree) (D : Data) (l : Listed F D) (some : 0 < F .params .featur
       h = subst (λ n. k < n) (length-entries (s .nodes)) b
 
       go : (z : Kind) → kindAt (s .nodes) k ≡ z → Stays F D left k (getD (left .entries) k noEntry)
-      go Leaf e = absurd (true≢false (sym (leaf-written (g .history) (g .stands) k h e) ∙ inner))
-      go (Split fork) e = subst (Stays F D left k) (sym (split-written (g .history) (g .stands) k h fork e)) (kept-at k h fork e)
+      go Leaf e = absurd (true≢false (sym (leaf-written g (stands-at l g) k h e) ∙ inner))
+      go (Split fork) e = subst (Stays F D left k) (sym (split-written g (stands-at l g) k h fork e)) (kept-at k h fork e)
 
 pub never-undone : OfEveryTree NeverUndone
 never-undone = of-every-tree NeverUndone grown-kept
@@ -189,6 +189,15 @@ never-undone = of-every-tree NeverUndone grown-kept
 -- ---- of every growth
 
 module _ (P : Params) {S : Type 0} (choose : S → NodeRows → Out (Found × S)) (fine : (s : S) (node : NodeRows) → Good P node → Then (choose s node) (λ r. Suits P node (r .0))) where
+  -- whoever joins is ripe
+  joins-ripe : (n level : ℕ) (node : NodeRows) (t : S) → Good P node → Then (choose t node) (λ r. Every (Ripe P) (joins n level node (r .0)))
+  unfolding joins
+  joins-ripe n level node t g = then-after (choose t node) _ _ (fine t node g) (λ r f. go (r .0) f)
+    where
+      go : (f : Found) → Suits P node f → Every (Ripe P) (joins n level node f)
+      go noCut s = tt
+      go (cutFound x) s = (record { good = g; fine = s }, tt)
+
   -- a ripe node is not taken back
   ripe-stays : (w : Waiting) → Ripe P w → takenBack P w ≡ false
   unfolding goesTrue
@@ -212,13 +221,13 @@ module _ (P : Params) {S : Type 0} (choose : S → NodeRows → Out (Found × S)
   grow-same (suc k) w s h =
       ap (λ b. bind (cond b (ok ([], s)) (expand P choose w s)) (λ r. runs (λ w′ s′. growOrNot P choose k w′ s′) (r .0) (r .1))) (ripe-stays w h)
       ∙ bind-same (expand P choose w s) _ _ _
-      (expand-joins P choose (Ripe P) w s (λ t a. joins-ripe P choose fine _ _ _ t (side-good P onTrue w h)) (λ t a. joins-ripe P choose fine _ _ _ t (side-good P onFalse w h)))
+      (expand-joins P choose (Ripe P) w s (λ t a. joins-ripe _ _ _ t (side-good P onTrue w h)) (λ t a. joins-ripe _ _ _ t (side-good P onFalse w h)))
       (λ r q. runs-same _ _ (r .0) (r .1) (every-imp _ _ (λ v g t. grow-same k v t g) (r .0) q))
 
   from-root-same : (root : NodeRows) (s : S) → Good P root → fromRootOrNot P choose root s ≡ fromRoot P choose root s
   unfolding fromRootOrNot fromRoot growAll
   from-root-same root s g =
-      bind-same (searchIf P choose (ltb 0 (root .count) && searchable P 1 root) 0 1 root s) _ _ _ (searchIf-joins P choose (Ripe P) _ 0 1 root s (λ t. joins-ripe P choose fine 0 1 root s g))
+      bind-same (searchIf P choose (ltb 0 (root .count) && searchable P 1 root) 0 1 root s) _ _ _ (searchIf-joins P choose (Ripe P) _ 0 1 root s (λ t. joins-ripe 0 1 root s g))
       (λ r q. runs-same _ _ (r .0) _ (every-imp _ _ (λ v h t. grow-same (P .limit - v .level) v t h) (r .0) q))
 
 fit-same : (F : OneTree) (D : Data) → Listed F D → fitOrNot F D ≡ fit F D

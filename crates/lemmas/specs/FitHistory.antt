@@ -18,15 +18,15 @@ use Rattle.rules.specs.Growth.{State, fromRoot}
 use Rattle.rules.specs.Fit.{elementIn, element, listing, column, root, treeOf, growFrom, fit, entries}
 use Rattle.lemmas.specs.Lists.{every-all, keep-same, keep-map, keep-keep, getD-keep, total-map}
 use Rattle.lemmas.specs.Once.{once-keep}
-use Rattle.lemmas.specs.Outs.{Then, then-then, then-both}
+use Rattle.lemmas.specs.Outs.{Then, then-then}
 use Rattle.lemmas.specs.Nodes.{kindAt, countAt}
 use Rattle.lemmas.specs.Cuts.{Good, Suits, search-fine, tape-fair}
-use Rattle.lemmas.specs.Splits.{Stands, growth-stands}
+use Rattle.lemmas.specs.Splits.{Stands}
 use Rattle.lemmas.specs.Root.{Listed, column-at, root-good}
 use Rattle.lemmas.specs.Passes.{passes}
 use Rattle.lemmas.specs.Met.{Met, History}
 use Rattle.lemmas.specs.History.{growth-history}
-use Rattle.lemmas.specs.Settled.{count-met, good-met, least-met}
+use Rattle.lemmas.specs.Settled.{count-met, good-met, stands-met, least-met}
 use Rattle.lemmas.specs.Reached.{rows-met, through-child}
 
 -- what a fit chooses by, and what it starts with
@@ -36,22 +36,15 @@ chooses P d node = search (tape (P .features)) P d node
 abbrev pub startOf : OneTree → Tapes
 startOf F = record { words = F .words; thresholds = F .thresholds; searches = 0 }
 
--- how a growth came to its end
-pub record Grown (F : OneTree) (D : Data) (s : State Tapes) : Type 0 where
-  pub history : History (F .params) (chooses (F .params)) (root F D) (startOf F) [] s
-  pub stands : Stands (F .params) (s .nodes)
+-- the history of a fit's growth that has ended
+abbrev pub Grown : OneTree → Data → State Tapes → Type 0
+Grown F D s = History (F .params) (chooses (F .params)) (root F D) (startOf F) [] s
 
 -- a fit's tree is that of such an end
-pub fit-grown : (F : OneTree) (D : Data) → Listed F D → Then (fit F D) (λ t. (s : State Tapes) × (treeOf F (root F D) s ≡ t) × Grown F D s)
+pub fit-grown : (F : OneTree) (D : Data) → Then (fit F D) (λ t. (s : State Tapes) × (treeOf F (root F D) s ≡ t) × Grown F D s)
 unfolding fit growFrom
-fit-grown F D ok =
-    then-then (fromRoot P (chooses P) (root F D) (startOf F)) _ _ _
-    (then-both (fromRoot P (chooses P) (root F D) (startOf F)) _ _ (growth-history P (chooses P) (root F D) (startOf F))
-    (growth-stands P (chooses P) (search-fine P (tape (P .features)) (tape-fair P)) (root F D) (startOf F) (root-good F D ok)))
-    (λ s q. (s, refl, record { history = q .0; stands = q .1 }))
-  where
-    P : Params
-    P = F .params
+fit-grown F D =
+    then-then (fromRoot (F .params) (chooses (F .params)) (root F D) (startOf F)) _ _ _ (growth-history (F .params) (chooses (F .params)) (root F D) (startOf F)) (λ s h. (s, refl, h))
 
 -- row i's values, as it is trained on
 abbrev pub trained : OneTree → Data → ℕ → List Float
@@ -74,23 +67,26 @@ module _ {F : OneTree} {D : Data} (ok : Listed F D) {s : State Tapes} (g : Grown
 
   -- a node as it was met
   abbrev pub metAt : ℕ → Met Tapes
-  metAt = g .history .met
+  metAt = g .met
 
   fines : (d : Tapes) (node : NodeRows) → Good P node → Then (chooses P d node) (λ r. Suits P node (r .0))
   fines = search-fine P (tape (P .features)) (tape-fair P)
 
+  pub stands-at : Stands P (s .nodes)
+  stands-at = stands-met g fines (root-good F D ok)
+
   pub good-at : (k : ℕ) → k < length (s .nodes) → Good P (metAt k .rows)
-  good-at = good-met (g .history) fines (root-good F D ok)
+  good-at = good-met g fines (root-good F D ok)
 
   -- every node but the root has a count, and the least leaf
   pub least-at : (k : ℕ) → k < length (s .nodes) → 0 < k → (1 ≤ countAt (s .nodes) k) × (P .leaf ≤ countAt (s .nodes) k)
-  least-at = least-met (g .history) fines (root-good F D ok)
+  least-at = least-met g fines (root-good F D ok)
 
   -- its columns are listings
   pub column-rows : (k : ℕ) → k < length (s .nodes) → (j : ℕ) → j < P .features → getD (metAt k .rows .columns) j [] ≡ map (element F D) (rowsAt F D es k j)
   unfolding column element elementIn
   column-rows k l j h =
-      ap (λ cs. getD cs j []) (rows-met (g .history) (g .stands) k l)
+      ap (λ cs. getD cs j []) (rows-met g stands-at k l)
       ∙ getD-keep (λ (e : Element). passes es (e .values) k) (root F D .columns) j
       ∙ ap (keep (λ (e : Element). passes es (e .values) k)) (column-at F D ok j h)
       ∙ keep-map (λ (e : Element). passes es (e .values) k) (element F D) (keep (kept F) (listing F D j))
@@ -106,7 +102,7 @@ module _ {F : OneTree} {D : Data} (ok : Listed F D) {s : State Tapes} (g : Grown
   pub count-along : (k : ℕ) → k < length (s .nodes) → (j : ℕ) → j < P .features → countAt (s .nodes) k ≡ total (countIn (F .counts)) (rowsAt F D es k j)
   unfolding element elementIn
   count-along k l j h =
-      count-met (g .history) k l ∙ good-at k l .sound j h .counted ∙ ap tally (column-rows k l j h)
+      count-met g k l ∙ good-at k l .sound j h .counted ∙ ap tally (column-rows k l j h)
       ∙ total-map (λ (e : Element). e .count) (element F D) (rowsAt F D es k j)
 
   pub count-through : 0 < P .features → (k : ℕ) → k < length (s .nodes) → countAt (s .nodes) k ≡ total (countIn (F .counts)) (keep (λ i. passes es (trained F D i) k) (keptRows F))
@@ -122,7 +118,7 @@ module _ {F : OneTree} {D : Data} (ok : Listed F D) {s : State Tapes} (g : Grown
     where
       goes : (i : ℕ) → (passes es (trained F D i) (fork .children) ≡ (passes es (trained F D i) k && goesAt F D (fork .cut) i))
           × (passes es (trained F D i) (suc (fork .children)) ≡ (passes es (trained F D i) k && not (goesAt F D (fork .cut) i)))
-      goes i = through-child (g .history) (g .stands) k l fork e (element F D i)
+      goes i = through-child g stands-at k l fork e (element F D i)
 
       side : (c : ℕ) (p : ℕ → Bool) → ((i : ℕ) → passes es (trained F D i) c ≡ (passes es (trained F D i) k && p i)) → rowsAt F D es c j ≡ keep p (rowsAt F D es k j)
       side c p same =

@@ -30,9 +30,9 @@ pub mod Spent
 -- one growth follows another, over any two sources; and it looks at no more of its tapes than it uses
 pub mod Follows
 pub mod Tapes
--- what each split leaves
+-- what a split leaves
 pub mod Splits
--- the history of a growth: every node as it was met, in the order of their numbers; that every growth has one, and what it says of a growth that has ended
+-- the history of a growth: every node as it was met, in the order of their numbers; that every growth has one, and what it says of every node
 pub mod Met
 pub mod History
 pub mod Settled

@@ -1,5 +1,6 @@
 -- The rows of a node are those whose walk passes through it. Growth parts a node's rows by its cut, column by column; a reader walks a row through the table that was written. That the two
--- agree is shown here, of every growth: a node's columns are the root's, with the rows alone that pass through it, and a node's level is the one that the table gives it. Assumes nothing.
+-- agree is shown here, of every growth and at any time of it: a node's columns are the root's, with the rows alone that pass through it as the nodes stand, and a node's level is the one
+-- that the table gives it. Assumes nothing.
 use Prim.Native.Nat.{ℕ, suc, _<_}
 use native.Mathlib.Omega.{arith}
 use mathlib.Core.Path.{_≡_, refl, sym, ap, _∙_, subst}
@@ -19,7 +20,7 @@ use Rattle.rules.specs.Totals.{valueOf}
 use Rattle.rules.specs.Lent.{Entry}
 use Rattle.rules.specs.Draws.{Out}
 use Rattle.rules.specs.Search.{Element, Column, at, NodeRows, goesTrue, onTrue, onFalse, Found}
-use Rattle.rules.specs.Growth.{State, child}
+use Rattle.rules.specs.Growth.{Waiting, State, child}
 use Rattle.rules.specs.Fit.{entryOf, entries}
 use Rattle.rules.specs.Table.{isLeaf, goodTree}
 use Rattle.rules.specs.Reading.{noEntry, onto}
@@ -32,7 +33,8 @@ use Rattle.lemmas.specs.Passes.{sendsTo, passes, levelIn, sends-child, p
 use Rattle.lemmas.specs.Met.{ChildOf, Born, History}
 use Rattle.lemmas.specs.Settled.{Forked, forked, from-root}
 
-module _ {P : Params} {S : Type 0} {choose : S → NodeRows → Out (Found × S)} {root : NodeRows} {s₀ : S} {s : State S} (h : History P choose root s₀ [] s) (stands : Stands P (s .nodes)) where
+module _ {P : Params} {S : Type 0} {choose : S → NodeRows → Out (Found × S)} {root : NodeRows} {s₀ : S} {ws : List Waiting} {s : State S}
+    (h : History P choose root s₀ ws s) (stands : Stands P (s .nodes)) where
   abbrev table : List Entry
   table = entries (s .nodes)
 

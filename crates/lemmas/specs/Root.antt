@@ -20,11 +20,12 @@ use Rattle.rules.specs.Fit.{listing, elementIn, element, column, root, treeOf, 
 use Rattle.lemmas.specs.Lists.{Every, every-imp, every-keep, every-map, kept-pass, keep-map, keep-keep, total-map, length-total, getD-from, Ordered, ordered-keep, ordered-map}
 use Rattle.lemmas.specs.Once.{once-below, once-keep}
 use Rattle.lemmas.specs.Outs.{Then, then-then, then-any}
-use Rattle.lemmas.specs.Nodes.{First, growth-first}
+use Rattle.lemmas.specs.Nodes.{First}
 use Rattle.lemmas.specs.Values.{Value}
 use Rattle.lemmas.specs.Cuts.{Good, search-fine, tape-fair}
 use Rattle.lemmas.specs.Room.{rowsOf, room-enough}
-use Rattle.lemmas.specs.Splits.{Stands, growth-stands}
+use Rattle.lemmas.specs.Splits.{Stands}
+use Rattle.lemmas.specs.Settled.{growth-first, growth-stands}
 
 -- row a's value of feature j is at most row b's
 abbrev pub Before : OneTree → Data → ℕ → ℕ → ℕ → Type 0
@@ -126,5 +127,5 @@ module _ (F : OneTree) (D : Data) (ok : Listed F D) where
   unfolding fit growFrom treeOf
   fit-stands =
       then-then (fromRoot (F .params) (search (tape (F .params .features)) (F .params)) (root F D) _) _ _ _
-      (growth-stands (F .params) (search (tape (F .params .features)) (F .params)) (search-fine (F .params) (tape (F .params .features)) (tape-fair (F .params))) (root F D) _ root-good)
+      (growth-stands (F .params) (search (tape (F .params .features)) (F .params)) (root F D) _ (search-fine (F .params) (tape (F .params .features)) (tape-fair (F .params))) root-good)
       (λ s h. h)

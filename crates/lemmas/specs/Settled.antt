@@ -1,12 +1,14 @@
--- What its history says of a growth that has ended. Every node but the root is a child of a split below it in number, and of no other: so what holds of the root, and of both children of a
--- split where it holds of the split, holds of every node. From a good root, where choices are fine, every node is good, and every node but the root has the least leaf. Assumes nothing.
+-- What its history says of a growth, at any time of it. Every node but the root is a child of a split below it in number, and of no other: so what holds of the root, and of both children of a
+-- split where it holds of the split, holds of every node. From a good root, where choices are fine, every node is good, every split divides its node, and every node but the root has the
+-- least leaf. Once none waits, a node is a split exactly where its search found a cut. Over any way to choose cuts. Assumes nothing.
 use Prim.Native.Nat.{ℕ, zero, suc, _<_, _≤_}
+use native.Mathlib.Decide.{decLt}
 use native.Mathlib.Omega.{arith}
 use mathlib.Core.Path.{_≡_, refl, sym, ap, _∙_, subst}
 use mathlib.Core.Logic.{_⊎_, inl, inr}
 use mathlib.Core.Bool.{Bool, true, false}
 use mathlib.Core.List.{List, []}
-use lib.ListN.{length}
+use lib.ListN.{length, List·getD-eq-default}
 use Rattle.rules.specs.declared.Params.{Params}
 use Rattle.rules.specs.declared.Cut.{Cut}
 use Rattle.rules.specs.declared.Fork.{Fork}
@@ -14,12 +16,13 @@ use Rattle.rules.specs.declared.Kind.{Kind}
 use Rattle.rules.specs.declared.Kind.the-variants.{Leaf, Split}
 use Rattle.rules.specs.Draws.{Out}
 use Rattle.rules.specs.Search.{NodeRows, onTrue, onFalse, Found, noCut, cutFound}
-use Rattle.rules.specs.Growth.{TreeNode, State, leafOf, splitting}
-use Rattle.lemmas.specs.Outs.{Then, then-of}
-use Rattle.lemmas.specs.Nodes.{kindAt, countAt}
+use Rattle.rules.specs.Growth.{TreeNode, Waiting, State, child, leafOf, splitting, fromRoot}
+use Rattle.lemmas.specs.Outs.{Then, then-after, then-of}
+use Rattle.lemmas.specs.Nodes.{noNode, kindAt, countAt, First}
 use Rattle.lemmas.specs.Cuts.{Good, Suits, Ripe, side-good}
-use Rattle.lemmas.specs.Splits.{leaf≢split, counts}
+use Rattle.lemmas.specs.Splits.{Counts, counts, Divides, Stands, leaf≢split}
 use Rattle.lemmas.specs.Met.{Met, waitingAt, asked, Gave, ChildOf, SplitAt, Became, Born, History}
+use Rattle.lemmas.specs.History.{growth-history}
 
 abbrev forkOr : Fork → Kind → Fork
 forkOr d Leaf = d
@@ -33,12 +36,15 @@ abbrev Cuts : Found → Type 0
 Cuts noCut = ⊥
 Cuts (cutFound c) = Unit {0}
 
-module _ {P : Params} {S : Type 0} {choose : S → NodeRows → Out (Found × S)} {root : NodeRows} {s₀ : S} {s : State S} (h : History P choose root s₀ [] s) where
+module _ {P : Params} {S : Type 0} {choose : S → NodeRows → Out (Found × S)} {root : NodeRows} {s₀ : S} {ws : List Waiting} {s : State S} (h : History P choose root s₀ ws s) where
   abbrev ns : List TreeNode
   ns = s .nodes
 
   abbrev met : ℕ → Met S
   met = h .met
+
+  pub uncut-leaf : (k : ℕ) → k < length ns → met k .found ≡ noCut → kindAt ns k ≡ Leaf
+  uncut-leaf k l e = subst (Became ns met ws k) e (h .known k l .became)
 
   -- a split found its cut, and its children are the two sides
   pub record Forked (k : ℕ) (fork : Fork) : Type 0 where
@@ -48,27 +54,14 @@ module _ {P : Params} {S : Type 0} {choose : S → NodeRows → Out (Found × S)
     pub trueChild : ChildOf met k (fork .cut) onTrue (fork .children)
     pub falseChild : ChildOf met k (fork .cut) onFalse (suc (fork .children))
 
-  -- with a cut a node is a split, and without one a leaf
-  pub cut-splits : (k : ℕ) → k < length ns → (c : Cut) → met k .found ≡ cutFound c → SplitAt ns met k c
-  cut-splits k l c e = go (met k .found) (h .known k l .became) e
-    where
-      go : (x : Found) → Became ns met [] k x → x ≡ cutFound c → SplitAt ns met k c
-      go noCut b e = absurd (subst Cuts (sym e) tt)
-      go (cutFound d) (inl b) e = absurd (b .1)
-      go (cutFound d) (inr b) e = subst (SplitAt ns met k) (ap (cutOr c) e) b
-
-  pub uncut-leaf : (k : ℕ) → k < length ns → met k .found ≡ noCut → kindAt ns k ≡ Leaf
-  uncut-leaf k l e = subst (Became ns met [] k) e (h .known k l .became)
-
-  -- and the other way
   pub forked : (k : ℕ) → k < length ns → (fork : Fork) → kindAt ns k ≡ Split fork → Forked k fork
   unfolding splitting
-  forked k l fork e = go (met k .found) refl
+  forked k l fork e = go (met k .found) refl (h .known k l .became)
     where
-      go : (x : Found) → met k .found ≡ x → Forked k fork
-      go noCut q = absurd (leaf≢split fork (sym (uncut-leaf k l q) ∙ e))
-      go (cutFound c) q =
-          let b = cut-splits k l c q in
+      go : (x : Found) → met k .found ≡ x → Became ns met ws k x → Forked k fork
+      go noCut q b = absurd (leaf≢split fork (sym b ∙ e))
+      go (cutFound c) q (inl b) = absurd (leaf≢split fork (sym (b .0) ∙ e))
+      go (cutFound c) q (inr b) =
           subst (Forked k) (ap (forkOr fork) (sym (b .kind) ∙ e)) (record { found = q; above = b .above; inside = b .inside; trueChild = b .trueChild; falseChild = b .falseChild })
 
   -- ---- from the root up
@@ -116,15 +109,68 @@ module _ {P : Params} {S : Type 0} {choose : S → NodeRows → Out (Found × S)
         from-root (λ k. Good P (met k .rows)) (subst (Good P) (sym (h .rootRows)) good)
         (λ k l fork e f g. let r = ripe-from k l fork f g in (subst (Good P) (sym (f .trueChild .rows)) (side-good P onTrue _ r), subst (Good P) (sym (f .falseChild .rows)) (side-good P onFalse _ r)))
 
-    pub ripe-met : (k : ℕ) → k < length ns → (fork : Fork) → kindAt ns k ≡ Split fork → Ripe P (waitingAt k (met k) (fork .cut))
-    ripe-met k l fork e = ripe-from k l fork (forked k l fork e) (good-met k l)
+    divides-met : (k : ℕ) → k < length ns → (fork : Fork) → kindAt ns k ≡ Split fork → Divides P ns k fork
+    divides-met k l fork e =
+        record {
+          known = r .fine .known;
+          above = f .above;
+          inside = f .inside;
+          someTrue = omega (arith, t, c .someTrue);
+          someFalse = omega (arith, u, c .someFalse);
+          leafTrue = omega (arith, t, c .leafTrue);
+          leafFalse = omega (arith, u, c .leafFalse);
+          whole = omega (arith, t, u, c .whole, count-met k l);
+        }
+      where
+        f : Forked k fork
+        f = forked k l fork e
+
+        r : Ripe P (waitingAt k (met k) (fork .cut))
+        r = ripe-from k l fork f (good-met k l)
+
+        c : Counts P (waitingAt k (met k) (fork .cut)) r
+        c = counts P (waitingAt k (met k) (fork .cut)) r
+
+        t : countAt ns (fork .children) ≡ child onTrue (waitingAt k (met k) (fork .cut)) .count
+        t = count-met (fork .children) (omega (arith, f .inside)) ∙ ap (λ (x : NodeRows). x .count) (f .trueChild .rows)
+
+        u : countAt ns (suc (fork .children)) ≡ child onFalse (waitingAt k (met k) (fork .cut)) .count
+        u = count-met (suc (fork .children)) (f .inside) ∙ ap (λ (x : NodeRows). x .count) (f .falseChild .rows)
+
+    pub stands-met : Stands P ns
+    stands-met = record { some = h .some; splits = λ k fork e. divides-met k (inside k fork e (decLt k (length ns))) fork e }
+      where
+        -- what is behind the last node is no split
+        inside : (k : ℕ) (fork : Fork) → kindAt ns k ≡ Split fork → Dec (k < length ns) → k < length ns
+        inside k fork e (yes l) = l
+        inside k fork e (no l) = absurd (leaf≢split fork (sym (ap (λ (n : TreeNode). n .kind) (List·getD-eq-default ns noNode {n = k} (omega (arith, l)))) ∙ e))
 
     -- every node but the root has something, and the least leaf
     pub least-met : (k : ℕ) → k < length ns → 0 < k → (1 ≤ countAt ns k) × (P .leaf ≤ countAt ns k)
     least-met =
         from-root (λ k. 0 < k → (1 ≤ countAt ns k) × (P .leaf ≤ countAt ns k)) (λ z. absurd (omega (arith, z)))
-        (λ k l fork e f q.
-        let c = counts P _ (ripe-met k l fork e) in (
-          (λ z. let n = count-met (fork .children) (omega (arith, f .inside)) ∙ ap (λ (x : NodeRows). x .count) (f .trueChild .rows) in (omega (arith, n, c .someTrue), omega (arith, n, c .leafTrue))),
-          (λ z. let n = count-met (suc (fork .children)) (f .inside) ∙ ap (λ (x : NodeRows). x .count) (f .falseChild .rows) in (omega (arith, n, c .someFalse), omega (arith, n, c .leafFalse))),
-        ))
+        (λ k l fork e f q. let d = divides-met k l fork e in ((λ z. (d .someTrue, d .leafTrue)), (λ z. (d .someFalse, d .leafFalse))))
+
+-- ---- once none waits
+
+module _ {P : Params} {S : Type 0} {choose : S → NodeRows → Out (Found × S)} {root : NodeRows} {s₀ : S} {s : State S} (h : History P choose root s₀ [] s) where
+  pub cut-splits : (k : ℕ) → k < length (s .nodes) → (c : Cut) → h .met k .found ≡ cutFound c → SplitAt (s .nodes) (h .met) k c
+  cut-splits k l c e = go (h .met k .found) (h .known k l .became) e
+    where
+      go : (x : Found) → Became (s .nodes) (h .met) [] k x → x ≡ cutFound c → SplitAt (s .nodes) (h .met) k c
+      go noCut b e = absurd (subst Cuts (sym e) tt)
+      go (cutFound d) (inl b) e = absurd (b .1)
+      go (cutFound d) (inr b) e = subst (SplitAt (s .nodes) (h .met) k) (ap (cutOr c) e) b
+
+-- ---- of every growth
+
+module _ (P : Params) {S : Type 0} (choose : S → NodeRows → Out (Found × S)) (root : NodeRows) (s : S) where
+  -- the first node is the root
+  pub growth-first : Then (fromRoot P choose root s) (λ s′. First root (s′ .nodes))
+  growth-first =
+      then-after (fromRoot P choose root s) _ _ (growth-history P choose root s)
+      (λ s′ h. record { some = h .some; same = h .known 0 (h .some) .same ∙ ap leafOf (h .rootRows) })
+
+  -- every split divides its node
+  pub growth-stands : ((t : S) (node : NodeRows) → Good P node → Then (choose t node) (λ r. Suits P node (r .0))) → Good P root → Then (fromRoot P choose root s) (λ s′. Stands P (s′ .nodes))
+  growth-stands fine g = then-after (fromRoot P choose root s) _ _ (growth-history P choose root s) (λ s′ h. stands-met h fine g)
