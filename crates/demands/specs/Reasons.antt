@@ -1,38 +1,43 @@
 -- Why a node is a leaf. A node of a tree that a fit leaves is a leaf exactly where growth had a reason to stop there: nothing is kept, the depth limit stopped it, its count is below the
 -- least split, or no feature that its search tried offered a cut that leaves the least leaf on both sides. For the best splitter a cut is a place of the feature's column where the value
--- differs from the one before; for the random splitter it is the threshold drawn for that feature. So a leaf is there for one of these reasons only, and where none holds there is a split.
--- That nothing is kept is the reason of the root alone. All of it is said by what a caller has: the table that is left with its counts, and what was passed in; for nodes are searched in the
--- order of their numbers, each search with the choice words and thresholds that follow those of the one before. As many searches and thresholds are reported as these come to. It holds of
--- every tree of every fit that answers, under both splitters and at both heights, because once a search holds a candidate it goes on holding one. Assumes nothing.
+-- differs from the one before; for the random splitter it is the threshold drawn for that feature. So a leaf is there for one of these reasons only, and where none holds there is a split,
+-- at a feature that its search tried. That nothing is kept is the reason of the root alone. All of it is said by what a caller has: the table that is left with its counts, and what was
+-- passed in; for nodes are searched in the order of their numbers, each search with the choice words and thresholds that follow those of the one before. As many searches and thresholds are
+-- reported as these come to. It holds of every tree of every fit that answers, under both splitters and at both heights, because once a search holds a candidate it goes on holding one.
+-- Assumes nothing.
 use Prim.Native.Nat.{ℕ, zero, suc, _+_, _-_, _*_, _<_, _≤_, min}
 use native.Mathlib.Nat.{add-zero, zero-add, zero-mul, suc-mul}
 use native.Mathlib.Numerals.{add-one}
 use native.Mathlib.Omega.{arith}
 use mathlib.Core.Path.{_≡_, refl, sym, ap, _∙_, subst}
-use mathlib.Core.Bool.{Bool, true, false, not, _&&_, cond, false≢true}
+use mathlib.Core.Bool.{Bool, true, false, not, _&&_, cond, true≢false, false≢true}
 use mathlib.Core.List.{List, [], _∷_, _++_, map}
 use lib.ListN.{length, getD, take, drop, length-append, length-drop, List·getD-map}
 use lib.Seq.{drop-drop}
-use lib.Dec.{ltb, leb, lt→ltb}
+use lib.Dec.{T, ltb, leb, lt→ltb}
 use Rattle.rules.specs.declared.Params.{Params}
-use Rattle.rules.specs.Words.{from, putIf, keep, total, stretch}
-use Rattle.rules.specs.Lent.{Data, OneTree, cell, countIn}
+use Rattle.rules.specs.declared.Cut.{Cut}
+use Rattle.rules.specs.declared.Kind.{Kind}
+use Rattle.rules.specs.declared.Kind.the-variants.{Leaf, Split}
+use Rattle.rules.specs.Words.{from, putIf, keep, total, member, stretch}
+use Rattle.rules.specs.Lent.{Data, OneTree, Entry, cell, countIn}
 use Rattle.rules.specs.Draws.{Tapes}
 use Rattle.rules.specs.Search.{Element, at, Found, noCut, cutFound}
 use Rattle.rules.specs.Growth.{TreeNode, State, searchable}
-use Rattle.rules.specs.Fit.{elementIn, element, treeOf}
+use Rattle.rules.specs.Fit.{elementIn, element, treeOf, entryOf}
 use Rattle.rules.specs.Table.{isLeaf}
 use Rattle.rules.specs.Reading.{noEntry}
 use Rattle.lemmas.specs.Lists.{is-true, Every, every-imp, keep-append, total-append, from-more}
-use Rattle.lemmas.specs.Nodes.{noNode, countAt}
+use Rattle.lemmas.specs.Nodes.{noNode, kindAt, countAt}
+use Rattle.lemmas.specs.Cuts.{FoundIs}
 use Rattle.lemmas.specs.Offers.{Offers, offersOf, offered, drawsOf, triedOf, nodeOffers, isCut, Searched, search-offers}
 use Rattle.lemmas.specs.OffersAlike.{offers-map, draws-map}
 use Rattle.lemmas.specs.Root.{Listed}
 use Rattle.lemmas.specs.Tables.{length-entries}
 use Rattle.lemmas.specs.Passes.{levelIn}
 use Rattle.lemmas.specs.Met.{Met, asked, Gave}
-use Rattle.lemmas.specs.Settled.{cut-splits, uncut-leaf, count-met}
-use Rattle.lemmas.specs.Reached.{leaf-written, split-inner, level-met}
+use Rattle.lemmas.specs.Settled.{uncut-leaf, forked, count-met, cut-splits}
+use Rattle.lemmas.specs.Reached.{leaf-written, split-written, split-inner, level-met}
 use Rattle.lemmas.specs.FitHistory.{chooses, Grown, rowsAt, stands-at, good-at, least-at, column-rows}
 use Rattle.demands.specs.TreesLeft.{Left, OfEveryTree, leftOf, of-every-tree}
 
@@ -81,9 +86,11 @@ pub data Reason : Type 0 where
 abbrev pub reasonBy : Bool → Bool → Bool → Bool → Reason
 reasonBy some low many offers = cond some (cond low (cond many (cond offers cutOffered noCutOffered) belowLeastSplit) atTheLimit) nothingKept
 
+-- of node k
 unfoldable pub reasonAt : OneTree → Data → Left → ℕ → Reason
 reasonAt F D L k = reasonBy (ltb 0 (countOf L k)) (ltb (levelIn (L .entries) k) (F .params .limit)) (leb (F .params .split) (countOf L k)) (isOffered F D L k)
 
+-- each but the last makes a leaf
 abbrev pub stops : Reason → Bool
 stops nothingKept = true
 stops atTheLimit = true
@@ -94,6 +101,10 @@ stops cutOffered = false
 -- a leaf has a reason, a split has none; and that nothing is kept is the root's alone
 abbrev pub LeafByReason : OneTree → Data → Left → Type 0
 LeafByReason F D L = (k : ℕ) → k < length (L .entries) → (isLeaf (getD (L .entries) k noEntry) ≡ stops (reasonAt F D L k)) × (reasonAt F D L k ≡ nothingKept → k ≡ 0)
+
+-- a split is at a feature that its search tried
+abbrev pub SplitAtTried : OneTree → Data → Left → Type 0
+SplitAtTried F D L = (k : ℕ) → k < length (L .entries) → isLeaf (getD (L .entries) k noEntry) ≡ false → member (getD (L .entries) k noEntry .feature) (triedAt F L k) ≡ true
 
 -- the searches and the thresholds that are reported
 pub record DrawsTold (F : OneTree) (D : Data) (L : Left) : Type 0 where
@@ -123,6 +134,11 @@ something true true true false t e = subst Something e tt
 something true true false offers t e = subst Something e tt
 something true false many offers t e = subst Something e tt
 something false low many offers t e = false≢true t
+
+-- a found cut is not none
+abbrev IsNone : Found → Type 0
+IsNone noCut = Unit {0}
+IsNone (cutFound c) = ⊥
 
 -- ---- one node more
 
@@ -305,6 +321,26 @@ module _ (F : OneTree) (D : Data) (l : Listed F D) (some : 0 < F .params .featur
       only zero e q = e
       only (suc m) e q = absurd (something keeps low many offers (filled k h (omega (arith, e))) q)
 
+  grown-tried : SplitAtTried F D left
+  unfolding entryOf
+  grown-tried k b inner = go (kindAt (s .nodes) k) refl
+    where
+      h : k < length (s .nodes)
+      h = subst (λ n. k < n) (length-entries (s .nodes)) b
+
+      -- a node that found a cut was searched
+      among : (x : Bool) → isSearched F left k ≡ x → (c : Cut) → met k .found ≡ cutFound c → T (member (c .feature) (triedAt F left k))
+      among false q c e = absurd (subst IsNone (sym (subst (λ x. Gave (chooses P) x (met k)) q (gave k h) .0) ∙ e) tt)
+      among true q c e =
+          subst (λ js. T (member (c .feature) js)) (tried-is k h (ledger k h))
+          (subst (FoundIs (λ d. T (member (d .feature) (triedOf P (met k .before .words))))) e (searched k h q .among))
+
+      go : (z : Kind) → kindAt (s .nodes) k ≡ z → member (getD (left .entries) k noEntry .feature) (triedAt F left k) ≡ true
+      go Leaf e = absurd (true≢false (sym (leaf-written g (stands-at l g) k h e) ∙ inner))
+      go (Split fork) e =
+          ap (λ (x : Entry). member (x .feature) (triedAt F left k)) (split-written g (stands-at l g) k h fork e)
+          ∙ is-true _ (among (isSearched F left k) refl (fork .cut) (forked g k h fork e .found))
+
   -- after the last node
   ledger-end : Ledger (length (s .nodes)) (s .left)
   ledger-end = go (length (s .nodes)) refl (g .some)
@@ -327,6 +363,9 @@ module _ (F : OneTree) (D : Data) (l : Listed F D) (some : 0 < F .params .featur
 
 pub leaf-by-reason : OfEveryTree LeafByReason
 leaf-by-reason = of-every-tree LeafByReason grown-reason
+
+pub split-at-tried : OfEveryTree SplitAtTried
+split-at-tried = of-every-tree SplitAtTried grown-tried
 
 pub draws-told : OfEveryTree DrawsTold
 draws-told = of-every-tree DrawsTold grown-told

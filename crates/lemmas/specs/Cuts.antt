@@ -63,6 +63,10 @@ abbrev pub FoundIs : (Cut → Type 0) → Found → Type 0
 FoundIs Q noCut = Unit {0}
 FoundIs Q (cutFound c) = Q c
 
+pub found-is : (Q : Cut → Type 0) (h : Held) → HeldIs Q h → FoundIs Q (found h)
+found-is Q Nothing g = tt
+found-is Q (Holds c q) g = g
+
 abbrev pub Suits : Params → NodeRows → Found → Type 0
 Suits P node f = FoundIs (Fine P node) f
 
@@ -253,24 +257,22 @@ module _ (P : Params) {S : Type 0} (src : Source S) (fair : Fair P src) where
   try-fine Best node j r s g = best-fine P node j (s .known) (s .counted) (r .best) (s .values) (s .rising) g
   try-fine Random node j r s g = random-fine node j r s g
 
-  -- what each feature tried keeps of the cut held holds of the cut found
-  module _ (Q : Cut → Type 0) (node : NodeRows)
-      (one : (j : ℕ) → j < P .features → (r : Tries S) → HeldIs Q (r .best) → Then (tryOne src (P .splitter) P node j r) (λ r′. HeldIs Q (r′ .best))) where
-    tries-held : (js : List ℕ) (r : Tries S) → Every (λ j. j < P .features) js → HeldIs Q (r .best) → Then (tryAll src P node js r) (λ r′. HeldIs Q (r′ .best))
+  -- what each feature tried keeps of the cut held holds of the cut found; K is what is known of the features
+  module _ (K : ℕ → Type 0) (Q : Cut → Type 0) (node : NodeRows)
+      (one : (j : ℕ) → K j → (r : Tries S) → HeldIs Q (r .best) → Then (tryOne src (P .splitter) P node j r) (λ r′. HeldIs Q (r′ .best))) where
+    pub tries-held : (js : List ℕ) (r : Tries S) → Every K js → HeldIs Q (r .best) → Then (tryAll src P node js r) (λ r′. HeldIs Q (r′ .best))
     unfolding tryAll
     tries-held [] r b g = g
     tries-held (j ∷ js) r b g = then-then (tryOne src (P .splitter) P node j r) _ _ _ (one j (b .0) r g) (λ r′ g′. tries-held js r′ (b .1) g′)
 
-    found-is : (h : Held) → HeldIs Q h → FoundIs Q (found h)
-    found-is Nothing g = tt
-    found-is (Holds c q) g = g
-
+  module _ (Q : Cut → Type 0) (node : NodeRows)
+      (one : (j : ℕ) → j < P .features → (r : Tries S) → HeldIs Q (r .best) → Then (tryOne src (P .splitter) P node j r) (λ r′. HeldIs Q (r′ .best))) where
     search-held : (s : S) → Then (search src P s node) (λ r. FoundIs Q (r .0))
     unfolding search
     search-held s =
         then-then (src .shuffle s) _ _ _ (fair .order s)
-        (λ o h. then-then (tryAll src P node (take (min (P .tried) (P .features)) (o .0)) (record { best = Nothing; left = o .1 })) _ _ _ (tries-held _ _ h tt)
-        (λ r q. found-is (r .best) q))
+        (λ o h. then-then (tryAll src P node (take (min (P .tried) (P .features)) (o .0)) (record { best = Nothing; left = o .1 })) _ _ _ (tries-held (λ j. j < P .features) Q node one _ _ h tt)
+        (λ r q. found-is Q (r .best) q))
 
   pub search-fine : (s : S) (node : NodeRows) → Good P node → Then (search src P s node) (λ r. Suits P node (r .0))
   search-fine s node g = search-held (Fine P node) node (λ j h r q. try-fine (P .splitter) node j r (g .sound j h) q) s

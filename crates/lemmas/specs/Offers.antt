@@ -1,6 +1,6 @@
 -- A search finds a cut exactly where a feature that it tries offers one: for the best splitter a place of its column, for the random splitter the threshold drawn for it, that leaves
--- the least leaf on both sides. And what a search takes from the tapes: its choice words, and a threshold for each feature tried whose lowest value is below its highest.
--- Over both heights at once: where a cut stands between two values does not matter here. Assumes nothing.
+-- the least leaf on both sides; and the cut is at one of the features tried. Also what a search takes from the tapes: its choice words, and a threshold for each feature tried whose lowest
+-- value is below its highest. Over both heights at once: where a cut stands between two values does not matter here. Assumes nothing.
 use Prim.Native.Nat.{ℕ, suc, _+_, _-_, _<_, _≤_, min}
 use native.Mathlib.Nat.{zero-add}
 use native.Mathlib.Omega.{arith}
@@ -21,16 +21,17 @@ use Rattle.rules.specs.declared.Cut.{Cut}
 use Rattle.rules.specs.declared.Held.{Held}
 use Rattle.rules.specs.declared.Held.the-variants.{Nothing, Holds}
 use Rattle.rules.specs.declared.Sweep.{Sweep}
-use Rattle.rules.specs.Words.{putIf, keep, total, eachOnce}
+use Rattle.rules.specs.Words.{putIf, keep, total, member, eachOnce}
 use Rattle.rules.specs.Totals.{empty, less, proxy}
 use Rattle.rules.specs.Draws.{Out, ok, bind, Tapes, takeWords, takeThreshold, nextThreshold, tape}
 use Rattle.rules.specs.Search.{Element, Column, at, tally, NodeRows, goesTrue, better, judge, candidateAt, step, sweep, bestIn}
 use Rattle.rules.specs.Search.{final, drawn, Tries, drawIn, randomIn, tryOne, tryAll, Found, noCut, cutFound, found, search}
-use Rattle.lemmas.specs.Lists.{is-true, Every, every-imp, every-take, total-sides}
-use Rattle.lemmas.specs.Once.{once-below}
-use Rattle.lemmas.specs.Outs.{Then, then-then, then-after, then-of}
+use Rattle.lemmas.specs.Lists.{is-true, Every, every-imp, every-both, every-take, total-sides}
+use Rattle.lemmas.specs.Once.{members, once-below}
+use Rattle.lemmas.specs.Outs.{Then, then-then, then-any, then-both, then-after, then-of}
 use Rattle.lemmas.specs.Values.{Value, eq-refl}
-use Rattle.lemmas.specs.Cuts.{Sound}
+use Rattle.lemmas.specs.Heights.{HeldIs, judge-held, best-held}
+use Rattle.lemmas.specs.Cuts.{Sound, FoundIs, found-is, tries-held, tape-fair}
 
 -- ---- what a feature offers
 
@@ -109,6 +110,7 @@ pub record Searched (P : Params) (node : NodeRows) (d : Tapes) (f : Found) (d′
   pub searches : d′ .searches ≡ suc (d .searches)
   pub enough : drawsOf (nodeOffers P node) (P .splitter) (triedOf P (d .words)) ≤ length (d .thresholds)
   pub known : Every (λ j. j < P .features) (triedOf P (d .words))
+  pub among : FoundIs (λ c. T (member (c .feature) (triedOf P (d .words)))) f
 
 -- ---- one candidate
 
@@ -118,7 +120,7 @@ counts e = e .count
 abbrev isHeld : Held → Bool
 isHeld h = isCut (found h)
 
--- what is held is not let go
+-- once a candidate is held, one stays held
 better-holds : (h : Held) (c : Cut) (q : Float) → isHeld (better h c q) ≡ true
 unfolding better
 better-holds Nothing c q = refl
@@ -324,6 +326,22 @@ module _ (P : Params) (node : NodeRows) where
             enough = omega (arith, sum, h .enough, k .enough, ap length (h .thresholds) ∙ length-drop (drawsOf (nodeOffers P node) (P .splitter) (j ∷ [])) (r .left .thresholds));
           }
 
+  -- what holds of every cut at a feature tried holds of the cut held
+  one-held : (Q : Cut → Type 0) (b : Splitter) (j : ℕ) → Sound P node j × ((t : Float) → Q (record { feature = j; threshold = t })) → (r : Tries Tapes) → HeldIs Q (r .best)
+      → Then (tryOne (tape (P .features)) b P node j r) (λ r′. HeldIs Q (r′ .best))
+  unfolding tryOne randomIn drawIn drawn
+  one-held Q Best j s r g = best-held P Q node j (λ earlier low run high after p l₁ l₂. s .1 _) (r .best) (s .0 .values) (s .0 .rising) g
+  one-held Q Random j s r g = start (getD (node .columns) j [])
+    where
+      drawing : (b : Bool) (e : Element) (es : Column) → Then (drawIn (tape (P .features)) b P node j r e es) (λ r′. HeldIs Q (r′ .best))
+      drawing false e es = g
+      drawing true e es =
+          then-any (tape (P .features) .threshold (r .left) (at j e) (at j (final e es))) _ _ (λ m. judge-held P Q node (r .best) _ _ _ g (λ l₁ l₂. s .1 (m .0)))
+
+      start : (col : Column) → Then (randomIn (tape (P .features)) P node j r col) (λ r′. HeldIs Q (r′ .best))
+      start [] = g
+      start (e ∷ es) = drawing (lt (at j e) (at j (final e es))) e es
+
 -- ---- a search
 
 pub search-offers : (P : Params) (node : NodeRows) → ((j : ℕ) → j < P .features → Sound P node j) → (d : Tapes) (f : Found) (d′ : Tapes)
@@ -332,6 +350,9 @@ unfolding search tape takeWords bind
 search-offers P node sound d f d′ e =
     then-of (λ m. Searched P node d (m .0) (m .1)) (search (tape (P .features)) P d node) (f, d′) e (go (eachOnce (P .features) (take (P .features) (d .words))) (λ t. t))
   where
+    Among : Cut → Type 0
+    Among c = T (member (c .feature) (triedOf P (d .words)))
+
     tries : List ℕ × Tapes → Out (Found × Tapes)
     tries o =
         bind (tryAll (tape (P .features)) P node (take (min (P .tried) (P .features)) (o .0)) (record { best = Nothing; left = o .1 }))
@@ -341,5 +362,17 @@ search-offers P node sound d f d′ e =
     go false h = tt
     go true h =
         let known : Every (λ j. j < P .features) (triedOf P (d .words)) = every-take _ (min (P .tried) (P .features)) _ (once-below (P .features) _ (h tt)) in
-        then-then (tryAll (tape (P .features)) P node (triedOf P (d .words)) _) _ _ _ (all-tried P node (triedOf P (d .words)) _ (every-imp _ _ sound (triedOf P (d .words)) known))
-        (λ r k. record { found = k .best; words = k .words; thresholds = k .thresholds; searches = ap suc (k .searches); enough = k .enough; known = known })
+        let sounds : Every (Sound P node) (triedOf P (d .words)) = every-imp _ _ sound (triedOf P (d .words)) known in
+        then-then (tryAll (tape (P .features)) P node (triedOf P (d .words)) _) _ _ _
+        (then-both (tryAll (tape (P .features)) P node (triedOf P (d .words)) _) _ _ (all-tried P node (triedOf P (d .words)) _ sounds)
+        (tries-held P (tape (P .features)) (tape-fair P) (λ j. Sound P node j × ((t : Float) → T (member j (triedOf P (d .words))))) Among node (one-held P node Among (P .splitter))
+        (triedOf P (d .words)) _ (every-both _ _ (triedOf P (d .words)) sounds (every-imp _ _ (λ j m t. m) (triedOf P (d .words)) (members (triedOf P (d .words))))) tt))
+        (λ r k. record {
+          found = k .0 .best;
+          words = k .0 .words;
+          thresholds = k .0 .thresholds;
+          searches = ap suc (k .0 .searches);
+          enough = k .0 .enough;
+          known = known;
+          among = found-is Among (r .best) (k .1);
+        })

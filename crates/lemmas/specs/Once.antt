@@ -10,8 +10,9 @@ use mathlib.Core.List.{List, [], _∷_}
 use lib.ListN.{length}
 use lib.Dec.{T, eqb, ltb, eqb→eq, eqb-refl, ltb→lt}
 use lib.Ieee.Fits.{and-l, and-r}
+use Rattle.floats.specs.Order.{or-l, or-r}
 use Rattle.rules.specs.Words.{from, keep, total, member, fresh, eachOnce}
-use Rattle.lemmas.specs.Lists.{is-true, is-false, Every, every-all, total-same, total-none, total-keep, length-total, length-from}
+use Rattle.lemmas.specs.Lists.{is-true, is-false, Every, every-all, every-imp, total-same, total-none, total-keep, length-total, length-from}
 
 pub eqb-yes : (a b : ℕ) → a ≡ b → eqb a b ≡ true
 eqb-yes a b q = is-true (eqb a b) (subst (λ k. T (eqb a k)) q (eqb-refl a))
@@ -22,6 +23,12 @@ eqb-no a b d = go (eqb a b) (λ t. d (eqb→eq a b t))
     go : (x : Bool) → (T x → ⊥) → x ≡ false
     go true f = absurd (f tt)
     go false f = refl
+
+-- every entry is a member
+pub members : (l : List ℕ) → Every (λ k. T (member k l)) l
+unfolding member
+members [] = tt
+members (x ∷ l) = (or-l (eqb x x) (member x l) (eqb-refl x), every-imp _ _ (λ k h. or-r (eqb k x) (member k l) h) l (members l))
 
 -- past x, to leave x out changes nothing
 sum-past : (h : ℕ → ℕ) (x i n : ℕ) → x < i → total (λ k. cond (eqb k x) 0 (h k)) (from i n) ≡ total h (from i n)
