@@ -10,7 +10,7 @@ use mathlib.Core.Logic.{_≢_}
 use mathlib.Core.Bool.{Bool, true, false, _&&_, _||_, cond}
 use mathlib.Core.List.{List, [], _∷_, _++_, map, map-map, append-nil}
 use lib.ListN.{length, getD, take, drop}
-use lib.Dec.{T, leb, eqb, eqb-refl, le→leb}
+use lib.Dec.{T, leb, eqb, le→leb}
 use lib.Ieee.{nan}
 use lib.Ieee.Fits.{and-l, and-i}
 use Rattle.rules.specs.declared.Checked.{Checked}
@@ -26,6 +26,7 @@ use Rattle.rules.specs.Fit.{Tree, fit, entries, paramsOf, TreeCall, oneTreeOf, 
 use Rattle.rules.specs.Table.{treeAt, treesOf}
 use Rattle.rules.specs.Forest.{ForestCall, triedOf, part, oneTreeAt, eachTree, tapesGood, forestTests, fitForest}
 use Rattle.lemmas.specs.Lists.{is-true, each, all-pass, every-take, every-drop, drop-take, total-from, getD-from}
+use Rattle.lemmas.specs.Once.{eqb-yes}
 use Rattle.lemmas.specs.Outs.{then-of}
 use Rattle.lemmas.specs.Nodes.{behindEach}
 use Rattle.lemmas.specs.Root.{fit-reported}
@@ -134,17 +135,14 @@ last-check : (n : ℕ) (b : Bool) → checked (test n b ∷ []) ≡ cond b Check
 unfolding checked
 last-check n b = refl
 
-eq-test : (a b : ℕ) → a ≡ b → eqb a b ≡ true
-eq-test a b q = is-true (eqb a b) (subst (λ n. T (eqb a n)) q (eqb-refl a))
-
 lengths-own : (C : ForestCall) (t : ℕ) → t < C .trees → length (C .given .counts) ≡ C .trees * C .shape .rows
     → T (lengths (C .shape) (C .trees) (C .given) && tapesGood C) → T (lengths (C .shape) 1 (treeCallAt C t .given))
 unfolding lengths oneTreeOf
 lengths-own C t h long g =
     subst (λ b. T (valuesLong (C .shape) (C .given .inputs .values) && (eqb (length (C .given .inputs .targets)) (C .shape .rows)
     && ((unweighted (C .given .weights) || eqb (length (C .given .weights)) (C .shape .rows)) && (b && listingsLong (C .shape) (C .given .inputs .listings))))))
-    (eq-test (length (C .given .counts)) (C .trees * C .shape .rows) long
-    ∙ sym (eq-test (length (treeCallAt C t .given .counts)) (1 * C .shape .rows)
+    (eqb-yes (length (C .given .counts)) (C .trees * C .shape .rows) long
+    ∙ sym (eqb-yes (length (treeCallAt C t .given .counts)) (1 * C .shape .rows)
     (ap (λ (F : OneTree). length (F .counts)) (frame-same C t) ∙ tree-parts C g .counts .sizes t h ∙ sym (one-mul (C .shape .rows)))))
     (and-l (lengths (C .shape) (C .trees) (C .given)) (tapesGood C) g)
 

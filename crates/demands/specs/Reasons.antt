@@ -10,7 +10,7 @@ use native.Mathlib.Nat.{add-zero, zero-add, zero-mul, suc-mul}
 use native.Mathlib.Numerals.{add-one}
 use native.Mathlib.Omega.{arith}
 use mathlib.Core.Path.{_≡_, refl, sym, ap, _∙_, subst}
-use mathlib.Core.Bool.{Bool, true, false, not, _&&_, cond, true≢false, false≢true}
+use mathlib.Core.Bool.{Bool, true, false, not, _&&_, cond, true≢false}
 use mathlib.Core.List.{List, [], _∷_, _++_, map}
 use lib.ListN.{length, getD, take, drop, length-append, length-drop, List·getD-map}
 use lib.Seq.{drop-drop}
@@ -120,25 +120,13 @@ stops-by true true false offers = refl
 stops-by true false many offers = refl
 stops-by false low many offers = refl
 
-abbrev Something : Reason → Type 0
-Something nothingKept = ⊥
-Something atTheLimit = Unit {0}
-Something belowLeastSplit = Unit {0}
-Something noCutOffered = Unit {0}
-Something cutOffered = Unit {0}
-
 -- where something is kept, that is not the reason
-something : (some low many offers : Bool) → some ≡ true → reasonBy some low many offers ≡ nothingKept → ⊥
-something true true true true t e = subst Something e tt
-something true true true false t e = subst Something e tt
-something true true false offers t e = subst Something e tt
-something true false many offers t e = subst Something e tt
-something false low many offers t e = false≢true t
-
--- a found cut is not none
-abbrev IsNone : Found → Type 0
-IsNone noCut = Unit {0}
-IsNone (cutFound c) = ⊥
+something : (some low many offers : Bool) → some ≡ true → reasonBy some low many offers ≡ nothingKept → _≡_ {A = ℕ} 0 1
+something true true true true t e = cc
+something true true true false t e = cc
+something true true false offers t e = cc
+something true false many offers t e = cc
+something false low many offers t e = cc
 
 -- ---- one node more
 
@@ -319,7 +307,7 @@ module _ (F : OneTree) (D : Data) (l : Listed F D) (some : 0 < F .params .featur
 
       only : (m : ℕ) → k ≡ m → reasonBy keeps low many offers ≡ nothingKept → k ≡ 0
       only zero e q = e
-      only (suc m) e q = absurd (something keeps low many offers (filled k h (omega (arith, e))) q)
+      only (suc m) e q = absurd (omega (arith, something keeps low many offers (filled k h (omega (arith, e))) q))
 
   grown-tried : SplitAtTried F D left
   unfolding entryOf
@@ -330,7 +318,7 @@ module _ (F : OneTree) (D : Data) (l : Listed F D) (some : 0 < F .params .featur
 
       -- a node that found a cut was searched
       among : (x : Bool) → isSearched F left k ≡ x → (c : Cut) → met k .found ≡ cutFound c → T (member (c .feature) (triedAt F left k))
-      among false q c e = absurd (subst IsNone (sym (subst (λ x. Gave (chooses P) x (met k)) q (gave k h) .0) ∙ e) tt)
+      among false q c e = let none : met k .found ≡ noCut = subst (λ x. Gave (chooses P) x (met k)) q (gave k h) .0 in let z : _≡_ {A = ℕ} 0 1 = cc in absurd (omega arith)
       among true q c e =
           subst (λ js. T (member (c .feature) js)) (tried-is k h (ledger k h))
           (subst (FoundIs (λ d. T (member (d .feature) (triedOf P (met k .before .words))))) e (searched k h q .among))

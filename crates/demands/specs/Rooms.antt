@@ -8,7 +8,7 @@ use mathlib.Core.Path.{_≡_, sym, _∙_, subst}
 use mathlib.Core.Logic.{_≢_}
 use mathlib.Core.Bool.{Bool, true, not, _&&_}
 use lib.ListN.{length}
-use lib.Dec.{T, leb, eqb, leb→le, le→leb, eqb→eq, eqb-refl}
+use lib.Dec.{T, leb, eqb, leb→le, le→leb, eqb→eq}
 use Rattle.rules.specs.declared.Shape.{Shape}
 use Rattle.rules.specs.declared.Refusal.{Refusal}
 use Rattle.rules.specs.declared.TreeAnswer.{TreeAnswer}
@@ -19,6 +19,7 @@ use Rattle.rules.specs.Checks.{roomFor, workEnough, reportsExact}
 use Rattle.rules.specs.Fit.{TreeCall, oneTreeOf, treeTests, fitTree}
 use Rattle.rules.specs.Forest.{ForestCall, oneTreeAt, eachTree, roomsGood, forestTests, fitForest}
 use Rattle.lemmas.specs.Lists.{is-true, total-map}
+use Rattle.lemmas.specs.Once.{eqb-yes}
 use Rattle.lemmas.specs.Passed.{and2, tree-passed, forest-passed}
 use Rattle.demands.specs.Refusals.{Unrefused, ForestUnrefused, tree-refused, forest-refused, tree-passes, forest-passes}
 use Rattle.demands.specs.Refused.{tree-number, forest-number}
@@ -96,7 +97,7 @@ same : {m n : ℕ} → eqb m n ≡ true → m ≡ n
 same {m} {n} h = eqb→eq m n (subst T (sym h) tt)
 
 exact : {m n : ℕ} → m ≡ n → eqb m n ≡ true
-exact {m} {n} h = is-true (eqb m n) (subst (λ k. T (eqb m k)) h (eqb-refl m))
+exact {m} {n} h = eqb-yes m n h
 
 -- the shorter of the two
 abbrev shorter : Behind → ℕ

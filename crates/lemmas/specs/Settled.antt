@@ -12,7 +12,6 @@ use lib.ListN.{length, List·getD-eq-default}
 use Rattle.rules.specs.declared.Params.{Params}
 use Rattle.rules.specs.declared.Cut.{Cut}
 use Rattle.rules.specs.declared.Fork.{Fork}
-use Rattle.rules.specs.declared.Kind.{Kind}
 use Rattle.rules.specs.declared.Kind.the-variants.{Leaf, Split}
 use Rattle.rules.specs.Draws.{Out}
 use Rattle.rules.specs.Search.{NodeRows, onTrue, onFalse, Found, noCut, cutFound}
@@ -23,18 +22,6 @@ use Rattle.lemmas.specs.Cuts.{Good, Suits, Ripe, side-good}
 use Rattle.lemmas.specs.Splits.{Counts, counts, Divides, Stands, leaf≢split}
 use Rattle.lemmas.specs.Met.{Met, waitingAt, asked, Gave, ChildOf, SplitAt, Became, Born, History}
 use Rattle.lemmas.specs.History.{growth-history}
-
-abbrev forkOr : Fork → Kind → Fork
-forkOr d Leaf = d
-forkOr d (Split s) = s
-
-abbrev cutOr : Cut → Found → Cut
-cutOr d noCut = d
-cutOr d (cutFound c) = c
-
-abbrev Cuts : Found → Type 0
-Cuts noCut = ⊥
-Cuts (cutFound c) = Unit {0}
 
 module _ {P : Params} {S : Type 0} {choose : S → NodeRows → Out (Found × S)} {root : NodeRows} {s₀ : S} {ws : List Waiting} {s : State S} (h : History P choose root s₀ ws s) where
   abbrev ns : List TreeNode
@@ -58,11 +45,14 @@ module _ {P : Params} {S : Type 0} {choose : S → NodeRows → Out (Found × S)
   unfolding splitting
   forked k l fork e = go (met k .found) refl (h .known k l .became)
     where
+      same : (other : Fork) → kindAt ns k ≡ Split other → other ≡ fork
+      same other q = cc
+
       go : (x : Found) → met k .found ≡ x → Became ns met ws k x → Forked k fork
       go noCut q b = absurd (leaf≢split fork (sym b ∙ e))
       go (cutFound c) q (inl b) = absurd (leaf≢split fork (sym (b .0) ∙ e))
       go (cutFound c) q (inr b) =
-          subst (Forked k) (ap (forkOr fork) (sym (b .kind) ∙ e)) (record { found = q; above = b .above; inside = b .inside; trueChild = b .trueChild; falseChild = b .falseChild })
+          subst (Forked k) (same _ (b .kind)) (record { found = q; above = b .above; inside = b .inside; trueChild = b .trueChild; falseChild = b .falseChild })
 
   -- ---- from the root up
 
@@ -158,9 +148,9 @@ module _ {P : Params} {S : Type 0} {choose : S → NodeRows → Out (Found × S)
   cut-splits k l c e = go (h .met k .found) (h .known k l .became) e
     where
       go : (x : Found) → Became (s .nodes) (h .met) [] k x → x ≡ cutFound c → SplitAt (s .nodes) (h .met) k c
-      go noCut b e = absurd (subst Cuts (sym e) tt)
+      go noCut b e = let z : _≡_ {A = ℕ} 0 1 = cc in absurd (omega arith)
       go (cutFound d) (inl b) e = absurd (b .1)
-      go (cutFound d) (inr b) e = subst (SplitAt (s .nodes) (h .met) k) (ap (cutOr c) e) b
+      go (cutFound d) (inr b) e = let q : d ≡ c = cc in subst (SplitAt (s .nodes) (h .met) k) q b
 
 -- ---- of every growth
 
