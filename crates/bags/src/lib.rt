@@ -1,4 +1,6 @@
 // In which trees' bags a row is, by the counts. No counts at all is an empty slice.
+#![tactic(auto)]
+
 ghost use Rattle.std.specs.Prelude.{◌≡◌, cond};
 ghost use Rattle.bags.specs.Bags.{is_out, Numberable, OutNumbered};
 

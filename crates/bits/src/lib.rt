@@ -1,4 +1,6 @@
 // Numbers and floats as bytes, the least byte first. A NaN is written as one pattern, and no other NaN's is read.
+#![tactic(auto)]
+
 ghost use Rattle.std.specs.Prelude.{◌≡◌, ◌+◌, ◌≤◌, length};
 ghost use Rattle.rules.specs.Words.{stretch};
 ghost use Rattle.rules.specs.Bytes.{bytes_of, number_in, float_bytes, good_pattern, float_of};

@@ -1,4 +1,6 @@
 // What plain numbers say, and answers as plain numbers, in the forms that C has.
+#![tactic(auto)]
+
 ghost use Rattle.std.specs.Prelude.{◌≡◌, ◌<◌};
 ghost use Rattle.rules.specs.Checks.{numbered};
 ghost use Rattle.rules.specs.Answers.{tree_told, forest_told, check_told, reply_told, error_told, node_told, size_told, model_told};

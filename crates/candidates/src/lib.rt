@@ -1,4 +1,6 @@
 // The small choices of a growth: which node is searched, which threshold counts, which value a run of equals has, and which candidate is held.
+#![tactic(auto)]
+
 ghost use Rattle.std.specs.Prelude.{◌≡◌, cond, ◌&&◌, ◌||◌, ℕ};
 ghost use Rattle.std.specs.Float.Ieee.{le, lt, eq};
 ghost use Rattle.rules.specs.Search.{better};
@@ -10,7 +12,7 @@ use rules::{Cut, Held, Params};
 
 // What is held, by what decides: whether there is a cut, its proxy, and its place: 0 if it is an earlier column's, else one more than the place of the first row past it.
 // A place is chosen without a branch, which the values beside it could not be; they are read again after the column.
-#[derive(Drop)]
+#[derive(Clone, Copy)]
 pub struct Spot {
     pub held: bool,
     pub proxy: f64,
@@ -18,7 +20,7 @@ pub struct Spot {
 }
 
 // The candidate that a search holds, if any, and how many rows of its column are on the true side.
-#[derive(Drop)]
+#[derive(Clone, Copy)]
 pub struct Candidate {
     pub held: Held,
     pub rows: usize,

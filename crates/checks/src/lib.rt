@@ -1,4 +1,6 @@
 // The checks of all calls. They read shared slices and lengths alone, so that a refusal leaves all that was lent as it was.
+#![tactic(auto)]
+
 ghost use Rattle.std.specs.Prelude.{◌≡◌, true};
 ghost use Rattle.rules.specs.Checks.{numbered, replies, within, rows_in, features_in, trees_in, shape_in, values_long, listings_long};
 
@@ -11,7 +13,7 @@ pub mod rooms;
 pub mod tree;
 
 // How long the rooms of a fit are: node room as the shortest of its eight columns, the waiting list as the shorter of its two.
-#[derive(Drop)]
+#[derive(Clone, Copy)]
 pub struct Lengths {
     pub nodes: usize,
     pub order: usize,
@@ -21,7 +23,7 @@ pub struct Lengths {
 }
 
 // How long a forest's report columns are.
-#[derive(Drop)]
+#[derive(Clone, Copy)]
 pub struct ReportLengths {
     pub nodes: usize,
     pub depth: usize,

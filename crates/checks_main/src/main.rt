@@ -1,4 +1,6 @@
 // Runs the checks on a few small inputs and writes what each tells, a line each: 0 is no refusal.
+#![tactic(auto)]
+
 use checks::Lengths;
 use rules::{Checked, NodeReply, Reply, Shape};
 

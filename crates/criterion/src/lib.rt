@@ -1,4 +1,6 @@
 // Totals and scores, the threshold between two values, and the numbers that they are made of (criterion.rs).
+#![tactic(auto)]
+
 ghost use Rattle.std.specs.Prelude.{◌≡◌, [], ◌+◌, ◌<◌, ◌≤◌};
 ghost use Rattle.std.specs.Float.Ieee.Scale.{finite};
 ghost use Rattle.rules.specs.Lent.{mass_in, kept_in};
@@ -12,7 +14,7 @@ ghost use Rattle.criterion.specs.Sides.{side_on, joined};
 use rules::{Height, Totals, Tried};
 
 // The rows of a node, or of one side of a cut: their totals, and the sum of their counts.
-#[derive(Drop)]
+#[derive(Clone, Copy)]
 pub struct Side {
     pub totals: Totals,
     pub count: u32,

@@ -1,4 +1,6 @@
 // Totals and scores, thresholds and features tried on small vectors. Written out and compared with the file `stdout`.
+#![tactic(auto)]
+
 use rules::{Height, Totals, Tried};
 
 fn tell(name: &[u8], holds: bool) {

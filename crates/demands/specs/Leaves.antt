@@ -5,7 +5,7 @@ use Rattle.std.proofs.Common.{sym, ◌∙◌}
 use Rattle.std.proofs.Math.Path.{ap}
 use Rattle.std.proofs.lemmas.List.{length-map}
 use Rattle.std.proofs.Math.ListN.{get_or-map}
-use Rattle.std.specs.Float.Ieee.{binary64, div}
+use Rattle.std.specs.Float.Ieee.{binary64, add, div}
 use Rattle.rules.specs.declared.Shape.{Shape}
 use Rattle.rules.specs.declared.Scale.{Scale}
 use Rattle.rules.specs.Words.{nought, float, from, every, put_if}
@@ -13,7 +13,7 @@ use Rattle.rules.specs.Lent.{Columns, Entry, leaf_entry, values_at}
 use Rattle.rules.specs.Checks.{test, first_failed, shape_in, features_in, trees_in, values_long}
 use Rattle.rules.specs.Table.{is_leaf, good_entry, good_from, good_tree, tree_in, ForestTable, starts_good, trees_of, good_forest, starts_enough}
 use Rattle.rules.specs.Reading.{no_entry, onto, walked, leaf_value, reads, predict_tests, predict_tree, add_trees, mean_of, mean_tests, forest_means}
-use Rattle.rules.specs.Reading.{scored, add_scores, scores_of, normalised, scaled, tree_importance_tests, tree_importances, add_importances, forest_importance_tests, forest_importances}
+use Rattle.rules.specs.Reading.{scored, add_scores, add_each, scores_of, normalised, scaled, tree_importance_tests, tree_importances, add_importances, forest_importance_tests, forest_importances}
 use Rattle.rules.specs.OutOfBag.{out_trees, out_of_bag_mean, out_tests, out_of_bag_means}
 use Rattle.lemmas.specs.Seen.{seen}
 use Rattle.lemmas.specs.Lists.{put_map}
@@ -102,7 +102,7 @@ score-same v e = seen_same (λ r. scored (not (is_leaf r)) r v) e (λ q. rw q re
 scores-same : (v : List Float) (es : List Entry) → add_scores v es ≡ add_scores v (map seen es)
 unfolding add_scores
 scores-same v [] = refl
-scores-same v (e ∷ es) = rw (score-same v e) (scores-same _ es)
+scores-same v (e ∷ es) = rw (score-same v e) (scores-same (scored (not (is_leaf (seen e))) (seen e) v) es)
 
 -- ---- one tree
 
@@ -130,7 +130,7 @@ leaves-of-trees c d q = (
 sum_same : (s : Float) (ts : List (List Entry)) (xs : List Float) → add_trees s ts xs ≡ add_trees s (seen_all ts) xs
 unfolding add_trees
 sum_same s [] xs = refl
-sum_same s (t ∷ ts) xs = rw (leaf-same t xs) (sum_same _ ts xs)
+sum_same s (t ∷ ts) xs = rw (leaf-same t xs) (sum_same (add binary64 s (leaf_value (map seen t) xs)) ts xs)
 
 mean-same : (ts : List (List Entry)) (xs : List Float) → mean_of ts xs ≡ mean_of (seen_all ts) xs
 unfolding mean_of
@@ -151,7 +151,7 @@ all-good features (t ∷ ts) = λ i. tree-good features t i && all-good features
 importances-same : (features : ℕ) (v : List Float) (ts : List (List Entry)) → add_importances features v ts ≡ add_importances features v (seen_all ts)
 unfolding add_importances scores_of
 importances-same features v [] = refl
-importances-same features v (t ∷ ts) = rw (scores-same (replicate features nought) t) (importances-same features _ ts)
+importances-same features v (t ∷ ts) = rw (scores-same (replicate features nought) t) (importances-same features (add_each v (normalised (add_scores (replicate features nought) (map seen t)))) ts)
 
 module _ (F G : ForestTable) (a : ForestsAgree F G) where
   forest-good : (features : ℕ) → good_forest features F ≡ good_forest features G

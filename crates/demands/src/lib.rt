@@ -1,1 +1,2 @@
 // The user's demands, as theorems over the rules: specs/ holds them, and there is no code.
+#![tactic(auto)]

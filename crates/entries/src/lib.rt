@@ -1,4 +1,6 @@
 // One node of a table, by what its columns say: whether it is a leaf, whether it is good, what it is read out as, and where it sends a value.
+#![tactic(auto)]
+
 ghost use Rattle.std.specs.Prelude.{◌≡◌, cond, suc};
 ghost use Rattle.std.specs.Float.Ieee.{le};
 ghost use Rattle.rules.specs.Table.{good_entry, node_of};

@@ -1,4 +1,6 @@
 // A model file field by field: a number, the header, a node. Each answers what the field says and where the next one is, or by which refusal it is misread.
+#![tactic(auto)]
+
 ghost use Rattle.std.specs.Prelude.{◌≡◌, Bool, ℕ, ◌≤◌, ◌<◌};
 ghost use Rattle.rules.specs.Lent.{leaf_entry};
 ghost use Rattle.rules.specs.Model.{field, float_at, child_good, header_in, node_at};
@@ -7,25 +9,25 @@ ghost use Rattle.fields.specs.Fields.{wrong_at, taken, ranged, number_field, hea
 use node_entries::NodeEntry;
 use rules::Misread;
 
-#[derive(Drop)]
+#[derive(Clone, Copy)]
 pub enum NumberField {
     Misread(Misread),
     Says(u64, usize),
 }
 
-#[derive(Drop)]
+#[derive(Clone, Copy)]
 pub struct Header {
     pub features: u32,
     pub trees: u32,
 }
 
-#[derive(Drop)]
+#[derive(Clone, Copy)]
 pub enum HeaderField {
     Misread(Misread),
     Says(Header, usize),
 }
 
-#[derive(Drop)]
+#[derive(Clone, Copy)]
 pub enum NodeField {
     Misread(Misread),
     Says(NodeEntry, usize),

@@ -1,4 +1,6 @@
 // The trees of a forest, one after another: each with its own counts and its own part of both tapes, its nodes behind those of the one before.
+#![tactic(auto)]
+
 ghost use Rattle.std.specs.Prelude.{length};
 ghost use Rattle.node_entries.specs.Entries.{node_room_of};
 ghost use Rattle.tree_build.specs.Plant.{data_in};
@@ -10,14 +12,14 @@ use rules::{Params, Place, Report};
 use tree_report::Planted;
 
 // All trees are grown, or where a bad draw was met.
-#[derive(Drop)]
+#[derive(Clone, Copy)]
 pub enum Grove {
     Stopped(Place),
     Grown,
 }
 
 // How the growth of all trees ended; of the trees that are grown, the reports and the places where they end.
-#[derive(Drop)]
+#[derive(Clone, Copy)]
 pub struct Told {
     pub end: Grove,
     pub reports: [Report; 1024],

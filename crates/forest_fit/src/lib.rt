@@ -1,4 +1,6 @@
 // The fit of a forest: checks, its trees one after another, and what is told of them.
+#![tactic(auto)]
+
 ghost use Rattle.std.specs.Prelude.{◌≡◌};
 ghost use Rattle.rules.specs.Lent.{waiting_room, given_of, columns_of, behind_of, reports_of, work_of, forest_rooms_of, outcome_of};
 ghost use Rattle.rules.specs.Forest.{fit_forest, forest_call};

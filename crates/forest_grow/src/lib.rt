@@ -1,4 +1,6 @@
 // The trees of a forest in the node room; the work room is left zero, and the node room too at a bad draw.
+#![tactic(auto)]
+
 ghost use Rattle.std.specs.Prelude.{◌≡◌};
 ghost use Rattle.rules.specs.Lent.{work_of};
 ghost use Rattle.node_entries.specs.Entries.{node_room_of};

@@ -1,9 +1,11 @@
 // Which part of the counts and of both tapes a tree of a forest is grown from, and where its nodes end.
+#![tactic(auto)]
+
 ghost use Rattle.std.specs.Prelude.{◌≡◌, ◌+◌, ◌<◌};
 ghost use Rattle.forest_parts.specs.Parts.{PartsAsk, parts_at};
 
 // From where to where a tree has the counts, the words and the thresholds.
-#[derive(Drop)]
+#[derive(Clone, Copy)]
 pub struct Parts {
     pub count: usize,
     pub countend: usize,

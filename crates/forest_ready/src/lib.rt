@@ -1,4 +1,6 @@
 // The checks of a forest's fit, and what its trees grow by once they have passed.
+#![tactic(auto)]
+
 ghost use Rattle.std.specs.Prelude.{◌≡◌};
 ghost use Rattle.rules.specs.Lent.{ForestRooms, WaitingRoom, given_of};
 ghost use Rattle.rules.specs.Forest.{ForestCall};
@@ -9,14 +11,14 @@ use checks::{Lengths, ReportLengths};
 use rules::{Checked, Params, Refusal, Settings, Shape, Tried};
 
 // How much of the order the trees are lent, and what they grow by.
-#[derive(Drop)]
+#[derive(Clone, Copy)]
 pub struct Growing {
     pub size: usize,
     pub params: Params,
 }
 
 // A refusal, or what is to be grown.
-#[derive(Drop)]
+#[derive(Clone, Copy)]
 pub enum Plan {
     Refused(Refusal),
     Grow(Growing),

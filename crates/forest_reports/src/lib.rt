@@ -1,4 +1,6 @@
 // What a forest tells of its trees: the start table and the report columns.
+#![tactic(auto)]
+
 ghost use Rattle.std.specs.Prelude.{◌≡◌, ◌+◌, set, take, ◌∷◌};
 ghost use Rattle.rules.specs.Words.{front};
 ghost use Rattle.rules.specs.Lent.{reports_of, write_reports};

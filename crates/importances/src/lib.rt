@@ -1,4 +1,6 @@
 // Importances: how much of the scores of a tree's splits, or of a forest's, falls to each feature.
+#![tactic(auto)]
+
 ghost use Rattle.std.specs.Prelude.{◌≡◌, List, length, Float};
 ghost use Rattle.rules.specs.declared.Reply.{Reply};
 ghost use Rattle.rules.specs.Lent.{outcome_of, entries_at, columns_of};

@@ -31,6 +31,7 @@ awaits-behind k [] ws h = h
 awaits-behind k (x ∷ xs) ws h = inr (awaits-behind k xs ws h)
 
 awaits-before : (k : ℕ) (xs ws : List Waiting) → Awaits k xs → Awaits k (xs ++ ws)
+awaits-before k [] ws h = elim h [ ]
 awaits-before k (x ∷ xs) ws (inl e) = inl e
 awaits-before k (x ∷ xs) ws (inr h) = inr (awaits-before k xs ws h)
 

@@ -310,16 +310,16 @@ module _ (P : Params) (g : Height) (M : Element → Type 0) (values : (j : ℕ) 
         → (ws ws' : List Waiting) (s s' : State S) → Pairs Waits ws ws' → StateBoth s s' → Both StateBoth (runs f ws s) (runs f' ws' s')
     unfolding runs
     runs-both f f' each [] [] s s' ks h = h
-    runs-both f f' each [] (w' ∷ ws') s s' ks h = absurd ks
+    runs-both f f' each [] (x' ∷ ws') s s' ks h = absurd ks
     runs-both f f' each (w ∷ ws) [] s s' ks h = absurd ks
-    runs-both f f' each (w ∷ ws) (w' ∷ ws') s s' ks h =
-        both-then StateBoth StateBoth (f w s) (f' w' s') _ _ (each w w' s s' ks.0 h) (λ u u' h'. runs-both f f' each ws ws' u u' ks.1 h')
+    runs-both f f' each (w ∷ ws) (x' ∷ ws') s s' ks h =
+        both-then StateBoth StateBoth (f w s) (f' x' s') _ _ (each w x' s s' ks.0 h) (λ u u' h'. runs-both f f' each ws ws' u u' ks.1 h')
 
-    grow-both : (n : ℕ) (w w' : Waiting) (s s' : State S) → Waits w w' → StateBoth s s' → Both StateBoth (grow P choose n w s) (grow (reheight g P) choose' n w' s')
+    grow-both : (n : ℕ) (w x' : Waiting) (s s' : State S) → Waits w x' → StateBoth s s' → Both StateBoth (grow P choose n w s) (grow (reheight g P) choose' n x' s')
     unfolding grow
-    grow-both zero w w' s s' k h = h
-    grow-both (suc n) w w' s s' k h =
-        both-then SplitBoth StateBoth (expand P choose w s) (expand (reheight g P) choose' w' s') _ _ (expand-both w w' s s' k h)
+    grow-both zero w x' s s' k h = h
+    grow-both (suc n) w x' s s' k h =
+        both-then SplitBoth StateBoth (expand P choose w s) (expand (reheight g P) choose' x' s') _ _ (expand-both w x' s s' k h)
         (λ r r' q. runs-both _ _ (λ v v' u u' kv hu. grow-both n v v' u u' kv hu) r.0 r'.0 r.1 r'.1 q.0 q.1)
 
     -- from one root, the two end alike

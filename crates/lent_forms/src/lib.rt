@@ -1,4 +1,6 @@
 // Two forms whose proofs are walks by hand: totals that are lent and changed where they stand, and a lent list of waiting nodes.
+#![tactic(auto)]
+
 ghost use Rattle.std.specs.Prelude.{◌≡◌};
 ghost use Rattle.rules.specs.Totals.{take_in};
 ghost use Rattle.rules.specs.Lent.{outcome_of};
@@ -14,7 +16,7 @@ pub fn add_to(t: &mut Totals, y: f64, m: f64)
 }
 
 // A node that waits: its number, where its rows lie, its level, how many of them are on the true side of the cut that its search found, the cut's feature, the node's totals, and the cut's threshold.
-#[derive(Drop)]
+#[derive(Clone, Copy)]
 pub struct Waiting {
     pub node: u32,
     pub start: u32,
@@ -27,7 +29,7 @@ pub struct Waiting {
 }
 
 // What was taken off: nothing where none waits.
-#[derive(Drop)]
+#[derive(Clone, Copy)]
 pub enum Popped {
     Nothing,
     Top(Waiting),

@@ -1,4 +1,6 @@
 // Where a listing is damaged first. A scan of a column stops at the first place that fails a test.
+#![tactic(auto)]
+
 ghost use Rattle.std.specs.Prelude.{◌≡◌, false, cond, ◌||◌, List, [], ℕ, ◌≤◌, ◌<◌, length, get_or, eqb};
 ghost use Rattle.std.specs.Float.Ieee.{lt};
 ghost use Rattle.rules.specs.Words.{member};

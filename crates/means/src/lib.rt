@@ -1,4 +1,6 @@
 // The calls that take means of a forest: their checks, then the means.
+#![tactic(auto)]
+
 ghost use Rattle.std.specs.Prelude.{◌≡◌, ◌&&◌, List, suc, ◌≤◌, length, leb, eqb, Float};
 ghost use Rattle.rules.specs.Lent.{outcome_of, columns_of};
 ghost use Rattle.rules.specs.Checks.{first_failed};

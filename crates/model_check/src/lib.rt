@@ -1,4 +1,6 @@
 // A model file gone through once, to check it: nothing is written.
+#![tactic(auto)]
+
 ghost use Rattle.std.specs.Prelude.{◌≡◌, ◌≤◌};
 ghost use Rattle.rules.specs.Model.{nodes_at, trees_at, model_in};
 ghost use Rattle.model_check.specs.Seen.{one_tree, nodes_seen, tree_seen, trees_seen, model_seen};
@@ -7,20 +9,20 @@ use fields::{HeaderField, NodeField, NumberField};
 use rules::{Misread, Sizes};
 
 // Nodes that are all good end at some place.
-#[derive(Drop)]
+#[derive(Clone, Copy)]
 pub enum NodesSeen {
     Misread(Misread),
     Ends(usize),
 }
 
 // So do trees, which have so many nodes.
-#[derive(Drop)]
+#[derive(Clone, Copy)]
 pub enum TreesSeen {
     Misread(Misread),
     Ends(u64, usize),
 }
 
-#[derive(Drop)]
+#[derive(Clone, Copy)]
 pub enum ModelSeen {
     Misread(Misread),
     Good(Sizes),

@@ -1,4 +1,6 @@
 // A model file read into rooms: gone through once to check it, and once more to write what it says.
+#![tactic(auto)]
+
 ghost use Rattle.std.specs.Prelude.{◌≡◌, List, ℕ, ◌≤◌};
 ghost use Rattle.rules.specs.Words.{joined, front};
 ghost use Rattle.rules.specs.Lent.{Entry, outcome_of, columns_of, write_entries};
@@ -12,7 +14,7 @@ use node_entries::NodeEntry;
 use rules::{Misread, ModelReply};
 
 // What a node says, and where the next field is.
-#[derive(Drop)]
+#[derive(Clone, Copy)]
 pub struct NodeRead {
     pub entry: NodeEntry,
     pub next: usize,

@@ -1,4 +1,6 @@
 // A forest's table as a file: how many bytes it takes, and the file written.
+#![tactic(auto)]
+
 ghost use Rattle.std.specs.Prelude.{◌≡◌, ◌+◌, ◌-◌, ◌≤◌, length};
 ghost use Rattle.rules.specs.Words.{front, joined};
 ghost use Rattle.rules.specs.Lent.{outcome_of, entries_at, columns_of};

@@ -1,4 +1,6 @@
 // What stands at one place of the rooms of a growth: a waiting node in two slices of arrays, and a node in eight columns: its entry in six, its count and its mass in two.
+#![tactic(auto)]
+
 ghost use Rattle.std.specs.Prelude.{◌≡◌, ◌+◌, ◌<◌, length, set};
 ghost use Rattle.rules.specs.Lent.{columns_of};
 ghost use Rattle.node_entries.specs.Entries.{wholes_of, reals_of, waiting_at, LongAll, put_entry, node_room_of, LongRoom, put_node, put_leaf, split_for, wrote_split};
@@ -7,7 +9,7 @@ use criterion::Side;
 use rules::Totals;
 
 // A node that waits: its number, where its rows lie, its level, its totals, and the cut that its search found, with how many rows are on the true side.
-#[derive(Drop)]
+#[derive(Clone, Copy)]
 pub struct WaitingNode {
     pub node: u32,
     pub start: u32,
@@ -21,7 +23,7 @@ pub struct WaitingNode {
 }
 
 // A node as it stands in the six columns.
-#[derive(Drop)]
+#[derive(Clone, Copy)]
 pub struct NodeEntry {
     pub value: f64,
     pub feature: u32,

@@ -1,4 +1,6 @@
 // A node of a tree that grows: the waiting list in two slices of arrays, eight node columns, and work columns that are split in place.
+#![tactic(auto)]
+
 ghost use Rattle.std.specs.Prelude.{◌≡◌, ◌+◌, ◌<◌, length};
 ghost use Rattle.rules.specs.Fit.{element_in};
 ghost use Rattle.work_columns.specs.Split.{SplitAsks, SplitDone};
@@ -13,14 +15,14 @@ use search::{Drawn, Search};
 use work_columns::Sides;
 
 // How many wait, and how far the tapes are used.
-#[derive(Drop)]
+#[derive(Clone, Copy)]
 pub struct Stand {
     pub waiting: usize,
     pub drawn: Drawn,
 }
 
 // A bad draw at a search, or how it stands.
-#[derive(Drop)]
+#[derive(Clone, Copy)]
 pub enum Step {
     Refused(usize),
     Goes(Stand),
@@ -29,7 +31,7 @@ pub enum Step {
 // Two nodes whose rows lie side by side, the first from `from` to `mid`, the second from there to `to`; `node` is the first one's number. The first `sides` of them are
 // still to be searched: of the root and the empty side beside it at most the root, of a split node's children both or neither. An empty side's count would not tell,
 // since the least split may be 0.
-#[derive(Drop)]
+#[derive(Clone, Copy)]
 pub struct Pair {
     pub node: u32,
     pub level: u32,
@@ -42,7 +44,7 @@ pub struct Pair {
 }
 
 // One of them: where its rows lie, its totals and count.
-#[derive(Drop)]
+#[derive(Clone, Copy)]
 pub struct Stretch {
     pub from: u32,
     pub to: u32,

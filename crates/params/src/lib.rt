@@ -1,4 +1,6 @@
 // What a tree grows by, from the settings of a call.
+#![tactic(auto)]
+
 ghost use Rattle.std.specs.Prelude.{◌≡◌, ◌<◌, ◌≤◌};
 ghost use Rattle.rules.specs.Fit.{limit_of};
 ghost use Rattle.params.specs.Params.{ParamsMade};

@@ -1,4 +1,6 @@
 // A stretch of a column partitioned: its flagged rows first, then the others, each in their order. The flagged rows at its front stay where they are.
+#![tactic(auto)]
+
 ghost use Rattle.std.specs.Prelude.{◌≡◌, ◌≤◌, ◌<◌, length, get_or};
 ghost use Rattle.lemmas.specs.Lists.{Every};
 ghost use Rattle.sweeps.specs.Swept.{flagged, Parted, PartAsks};

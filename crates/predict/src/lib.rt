@@ -1,4 +1,6 @@
 // The predictions of one tree.
+#![tactic(auto)]
+
 ghost use Rattle.std.specs.Prelude.{◌≡◌, List, map, ◌+◌, ◌≤◌, length, get_or, Float};
 ghost use Rattle.std.specs.Float.{nan};
 ghost use Rattle.rules.specs.Words.{from};

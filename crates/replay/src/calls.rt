@@ -137,7 +137,7 @@ pub fn after_words(call: &[usize], at: usize) -> usize {
 // ---- the six columns of a tree, or of a forest
 
 // The places of the columns, and the last one's end.
-#[derive(Drop)]
+#[derive(Clone, Copy)]
 pub struct Columns {
     pub value: usize,
     pub feature: usize,
@@ -169,7 +169,7 @@ pub fn columns_at(call: &[usize], at: usize) -> Columns {
 // ---- the lists that a fit of one tree and that of a forest are both lent
 
 // The places of the lists, and the last one's end.
-#[derive(Drop)]
+#[derive(Clone, Copy)]
 pub struct Lists {
     pub values: usize,
     pub targets: usize,

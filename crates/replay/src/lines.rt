@@ -16,7 +16,7 @@ pub fn find(text: &[u8], at: usize, byte: u8) -> usize
     i
 }
 
-#[derive(Drop)]
+#[derive(Clone, Copy)]
 pub enum Number {
     Is(usize),
     Malformed,

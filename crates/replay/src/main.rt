@@ -1,5 +1,7 @@
 // Replays the list of answers (standard input) through the proved calls and compares by bits. What the numbers of a line mean is
 // in oracle/README.md, "The list".
+#![tactic(auto)]
+
 mod calls;
 mod forest_fits;
 mod lines;

@@ -5,7 +5,7 @@ use crate::{calls, rooms};
 use rules::{Reply, Scale, Shape};
 
 // The places of the lists, of the root mass and of the room's length.
-#[derive(Drop)]
+#[derive(Clone, Copy)]
 struct Places {
     values: usize,
     counts: usize,

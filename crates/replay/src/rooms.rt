@@ -7,7 +7,7 @@ use crate::calls;
 use rules::Refusal;
 
 // Numbers and rooms are counted from 1, in the order of the answer.
-#[derive(Drop)]
+#[derive(Clone, Copy)]
 pub enum Verdict {
     Agrees,
     Number(usize),
@@ -97,7 +97,7 @@ pub fn lent_triples<'a>(
 // ---- rooms compared one after another
 
 // Where the next room is written, how many were compared, and the first that differs, or 0.
-#[derive(Drop)]
+#[derive(Clone, Copy)]
 pub struct Check {
     at: usize,
     compared: usize,

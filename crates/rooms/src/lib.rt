@@ -1,4 +1,6 @@
 // Rooms that are lent, filled with zero.
+#![tactic(auto)]
+
 ghost use Rattle.std.specs.Prelude.{◌≡◌};
 ghost use Rattle.rules.specs.Lent.{columns_of, behind_of, reports_of, work_of, waiting_room, zero_columns, zero_behind, zero_reports, zero_work};
 

@@ -1,4 +1,6 @@
 // Scores by feature, one place a feature: a node's added, divided, normalised, and a tree's added to a forest's.
+#![tactic(auto)]
+
 ghost use Rattle.std.specs.Prelude.{◌≡◌, false, not, ◌<◌, length};
 ghost use Rattle.rules.specs.Words.{nought};
 ghost use Rattle.rules.specs.Table.{is_leaf};

@@ -11,7 +11,7 @@ use criterion::{Side, take_in, threshold_of};
 use rules::{Cut, Height, Params, Totals};
 
 // What is carried along a column: the rows before by totals and count, the value of the run of equals, what is held.
-#[derive(Drop)]
+#[derive(Clone, Copy)]
 pub struct Run {
     pub before: Totals,
     pub count: u32,

@@ -1,4 +1,6 @@
 // The search of a node for its cut: choice words, and best or random search over its stretch of each tried column.
+#![tactic(auto)]
+
 ghost use Rattle.std.specs.Prelude.{◌≡◌, false, List, ℕ, ◌+◌, ◌≤◌, ◌<◌, length, get_or, take, drop};
 ghost use Rattle.rules.specs.Words.{each_once};
 ghost use Rattle.rules.specs.Lent.{cell};
@@ -17,7 +19,7 @@ pub mod best;
 pub mod random;
 
 // What a sweep along a feature learns of a row.
-#[derive(Drop)]
+#[derive(Clone, Copy)]
 pub struct Cell {
     pub count: u32,
     pub mass: f64,
@@ -26,14 +28,14 @@ pub struct Cell {
 }
 
 // What trying a feature leaves: the best so far, and how many thresholds were taken from the tape; or a bad draw.
-#[derive(Drop)]
+#[derive(Clone, Copy)]
 pub enum Attempt {
     Refused,
     Goes(Candidate, usize),
 }
 
 // How far the tapes are used, and how many searches were made.
-#[derive(Drop)]
+#[derive(Clone, Copy)]
 pub struct Drawn {
     pub words: usize,
     pub thresholds: usize,
@@ -41,7 +43,7 @@ pub struct Drawn {
 }
 
 // A search's answer: a bad draw; or the candidate held, if any, and how far the tapes are used after it. In one shape, so that what was drawn stands in one place.
-#[derive(Drop)]
+#[derive(Clone, Copy)]
 pub enum Search {
     Refused,
     Goes(Candidate, Drawn),

@@ -11,7 +11,7 @@ use criterion::Side;
 use rules::{Cut, Params};
 
 // The true side of a cut: its totals and count, and how many rows it has.
-#[derive(Drop)]
+#[derive(Clone, Copy)]
 pub struct TrueSide {
     pub side: Side,
     pub rows: usize,

@@ -1,4 +1,6 @@
 // What several crates do with numbers and slices: lengths compared, numbers widened, a value read, rooms filled with zero.
+#![tactic(auto)]
+
 ghost use Rattle.std.specs.Prelude.{◌≡◌, false, min, replicate};
 ghost use Rattle.rules.specs.Words.{nought, float, filled};
 ghost use Rattle.rules.specs.Lent.{cell};

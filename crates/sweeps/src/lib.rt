@@ -1,4 +1,6 @@
 // A stretch of a column swept: its flagged rows go to its front, the others to a scratch and from there behind them.
+#![tactic(auto)]
+
 ghost use Rattle.std.specs.Prelude.{◌≡◌, cond, ◌+◌, ◌≤◌, length};
 ghost use Rattle.std.proofs.Math.Seq.{paste};
 ghost use Rattle.sweeps.specs.Swept.{flagged, bit, SweepAsks, SweepDone, PartDone, TwoDone, FourDone};

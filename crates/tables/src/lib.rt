@@ -1,4 +1,6 @@
 // The table check: refusal 8, the calls that make it alone, and a node read out.
+#![tactic(auto)]
+
 ghost use Rattle.std.specs.Prelude.{◌≡◌, ◌&&◌, ltb};
 ghost use Rattle.rules.specs.Words.{every, along};
 ghost use Rattle.rules.specs.Lent.{Columns, shortest, entries_at, columns_of};

@@ -1,4 +1,6 @@
 // One tree, once the checks have passed: its root is set up in the work columns and grown there.
+#![tactic(auto)]
+
 ghost use Rattle.std.specs.Prelude.{◌≡◌, ◌-◌, ◌*◌, ◌≤◌, max, length};
 ghost use Rattle.node_entries.specs.Entries.{node_room_of};
 ghost use Rattle.tree_build.specs.Plant.{one_tree_in, data_in, SetUpAsks, SetUp, PlantAsks, PlantDone};
@@ -8,7 +10,7 @@ use rules::Params;
 use tree_report::Planted;
 
 // A root: how many rows it keeps, how many nodes may come of it, its totals and count.
-#[derive(Drop)]
+#[derive(Clone, Copy)]
 pub struct Root {
     pub kept: u32,
     pub most: usize,

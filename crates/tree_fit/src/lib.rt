@@ -1,4 +1,6 @@
 // The fit of one tree: checks, set-up, growth, and the rooms as they are left.
+#![tactic(auto)]
+
 ghost use Rattle.std.specs.Prelude.{◌≡◌};
 ghost use Rattle.rules.specs.Lent.{waiting_room, given_of, columns_of, behind_of, work_of, tree_rooms_of, outcome_of};
 ghost use Rattle.rules.specs.Fit.{fit_tree, tree_call};

@@ -1,4 +1,6 @@
 // A tree grown from its root: the last node to wait is split, and its children are searched, until none waits.
+#![tactic(auto)]
+
 ghost use Rattle.std.specs.Prelude.{◌≡◌, ◌≤◌, max, length};
 ghost use Rattle.node_entries.specs.Entries.{node_room_of, LongRoom};
 ghost use Rattle.node_growth.specs.Rooms.{ground_of};
@@ -11,7 +13,7 @@ use rules::Params;
 use search::Drawn;
 
 // A tree that grows: how many nodes it has, its depth so far, how many nodes wait, and how far the tapes are used.
-#[derive(Drop)]
+#[derive(Clone, Copy)]
 pub struct At {
     pub nodes: u32,
     pub depth: u32,
@@ -19,7 +21,7 @@ pub struct At {
     pub drawn: Drawn,
 }
 
-#[derive(Drop)]
+#[derive(Clone, Copy)]
 pub enum Turned {
     Refused(usize),
     Goes(At),

@@ -1,4 +1,6 @@
 // What is told of a tree that was grown, or of its bad draw.
+#![tactic(auto)]
+
 ghost use Rattle.std.specs.Prelude.{◌≡◌};
 ghost use Rattle.tree_report.specs.Report.{ReportAsks, report_at, TellAsks, told, bad_draw};
 
@@ -6,7 +8,7 @@ use rules::{Place, Report, TreeAnswer};
 use tree_growth::{At, Turned};
 
 // A tree that is grown, or the search at which a bad draw was met.
-#[derive(Drop)]
+#[derive(Clone, Copy)]
 pub enum Planted {
     BadDraw(u32),
     Grown(Report),

@@ -1,4 +1,6 @@
 // Rows walked through a tree to their leaves: one at a time, or six side by side.
+#![tactic(auto)]
+
 ghost use Rattle.std.specs.Prelude.{◌≡◌, map, ◌<◌, ◌≤◌, length, get_or};
 ghost use Rattle.rules.specs.Words.{from};
 ghost use Rattle.rules.specs.Lent.{entries_at, columns_of};
@@ -39,7 +41,7 @@ pub fn row_value(
 // ---- six rows side by side
 
 // Where six rows are, each at a node of the tree.
-#[derive(Drop)]
+#[derive(Clone, Copy)]
 pub struct Six {
     pub p: usize,
     pub q: usize,

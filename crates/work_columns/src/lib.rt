@@ -1,4 +1,6 @@
 // What set-up and split do with the work room.
+#![tactic(auto)]
+
 ghost use Rattle.std.specs.Prelude.{◌≡◌, map, length};
 ghost use Rattle.rules.specs.Words.{from, keep, total};
 ghost use Rattle.rules.specs.Lent.{count_in, kept_in};
@@ -14,7 +16,7 @@ use criterion::Side;
 use rules::{Cut, Totals};
 
 // The true side and the false one, the whole node's totals, and how many rows the true side has.
-#[derive(Drop)]
+#[derive(Clone, Copy)]
 pub struct Sides {
     pub trueside: Side,
     pub falseside: Side,
@@ -23,7 +25,7 @@ pub struct Sides {
 }
 
 // A side, and what the whole is with it.
-#[derive(Drop)]
+#[derive(Clone, Copy)]
 pub struct Gathered {
     pub side: Side,
     pub all: Totals,

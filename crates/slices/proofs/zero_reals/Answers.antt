@@ -1,0 +1,17 @@
+-- `slices::zero_reals` meets its contract: after i turns the first i places hold the value. Assumes nothing.
+use Rattle.std.proofs.Common.{arith, ◌-◌, replicate}
+use Rattle.rules.specs.Words.{nought}
+use Rattle.slices.specs.Filling.{fill_start, fill-turn, fill_done}
+use Rattle.slices.proofs.zero_reals.Goals as goal
+
+pub loop-i-init : goal.loop-i-init
+loop-i-init c = fill_start (replicate 3 nought) _
+
+pub loop-i-preserved : goal.loop-i-preserved
+loop-i-preserved c = fill-turn (replicate 3 nought) _ _ _ c.loop-i.invariant (omega arith)
+
+pub shape_of-s : goal.shape_of-s
+shape_of-s c = c.loop-i.invariant.long
+
+pub returns : goal.returns
+returns c = fill_done (replicate 3 nought) _ _ _ c.loop-i.invariant (omega arith)

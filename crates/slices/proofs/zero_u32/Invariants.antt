@@ -1,0 +1,10 @@
+-- `slices::zero_u32` meets its contract: after i turns the first i places hold the value. Assumes nothing.
+use Rattle.std.proofs.Common.{◌-◌, length}
+use Rattle.slices.specs.Filling.{Filling}
+use Rattle.slices.proofs.zero_u32.Given as goal
+
+abbrev pub invariant-loop-i : goal.invariant-loop-i
+invariant-loop-i l = Filling 0 l.initial.s l.s l.i
+
+abbrev pub decreases-loop-i : goal.decreases-loop-i
+decreases-loop-i l = length l.initial.s - l.i
