@@ -1,0 +1,7 @@
+-- `checks::listings_long` meets its contract: in a shape in range, features times rows fits. Assumes nothing.
+use Rattle.std.proofs.Common.{arith}
+use Rattle.lemmas.specs.Tests.{entries-low}
+use Rattle.checks.proofs.listings_long.Goals as goal
+
+pub overflow_mul-cells : goal.overflow_mul-cells
+overflow_mul-cells c = omega (arith, entries-low c.args.shape c.requires)
