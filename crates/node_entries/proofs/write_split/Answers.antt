@@ -26,20 +26,19 @@ overflow_add-place c = omega (arith, c.wide-place.ensures, c.requires.2)
 
 pub put_leaf-requires-2 : goal.put_leaf-requires-2
 put_leaf-requires-2 c =
-    let e = c.put_split.kept in
     let n = c.wide-place.ensures in
     let p = c.requires.0 in
     record {
       nodes = record {
-        value = omega (arith, n, p.nodes.value, e.0, c.put_leaf.auto.value);
-        feature = omega (arith, n, p.nodes.feature, e.1.0, c.put_leaf.auto.feature);
-        threshold = omega (arith, n, p.nodes.threshold, e.1.1.0, c.put_leaf.auto.threshold);
-        score = omega (arith, n, p.nodes.score, e.1.1.1.0, c.put_leaf.auto.score);
-        truechild = omega (arith, n, p.nodes.truechild, e.1.1.1.1.0, c.put_leaf.auto.truechild);
-        falsechild = omega (arith, n, p.nodes.falsechild, e.1.1.1.1.1.0, c.put_leaf.auto.falsechild);
+        value = omega (arith, n, p.nodes.value, c.put_split.auto.value, c.put_leaf.auto.value);
+        feature = omega (arith, n, p.nodes.feature, c.put_split.auto.feature, c.put_leaf.auto.feature);
+        threshold = omega (arith, n, p.nodes.threshold, c.put_split.auto.threshold, c.put_leaf.auto.threshold);
+        score = omega (arith, n, p.nodes.score, c.put_split.auto.score, c.put_leaf.auto.score);
+        truechild = omega (arith, n, p.nodes.truechild, c.put_split.auto.truechild, c.put_leaf.auto.truechild);
+        falsechild = omega (arith, n, p.nodes.falsechild, c.put_split.auto.falsechild, c.put_leaf.auto.falsechild);
       };
-      count = omega (arith, n, p.count, e.1.1.1.1.1.1.0, c.put_leaf.auto.nodecount);
-      mass = omega (arith, n, p.mass, e.1.1.1.1.1.1.1.0, c.put_leaf.auto.nodemass);
+      count = omega (arith, n, p.count, c.put_split.auto.nodecount, c.put_leaf.auto.nodecount);
+      mass = omega (arith, n, p.mass, c.put_split.auto.nodemass, c.put_leaf.auto.nodemass);
     }
 
 pub shape_of-value : goal.shape_of-value

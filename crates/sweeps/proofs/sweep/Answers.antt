@@ -3,6 +3,7 @@ use Rattle.std.proofs.Common.{arith, ◌≡◌, refl, ap, ◌∙◌, subst, Bool
 use Rattle.lemmas.specs.Lists.{Every, every-at}
 use Rattle.sweeps.specs.Swept.{flagged, fails, Begun, SweepDone}
 use Rattle.sweeps.specs.Fronts.{front_kept, front-left, rest_more, head-same}
+use Rattle.sweeps.proofs.sweep.Invariants.{Passed}
 use Rattle.sweeps.proofs.sweep.Goals as goal
 use Rattle.sweeps.proofs.sweep.Goals.{then-t, else-t}
 
@@ -39,15 +40,6 @@ module _ (p : ℕ → Bool) (before col scratch : List ℕ) (i w : ℕ) (b : Beg
         others = ap (λ n. take n scratch') e ∙ front_kept (fails p) before scratch i (i - w) 0 _ same h b.others (omega arith) (ap not t);
         rest = rest_more col before w i _ b.few b.rest;
       }
-
-record Passed (col₀ scratch₀ : List ℕ) (flags : List Bool) (start found : ℕ) (col scratch : List ℕ) (w i : ℕ) : Type 0 where
-  after : start ≤ i
-  within : i ≤ length col₀
-  few : w ≤ i
-  long : length col ≡ length col₀
-  long-s : length scratch ≡ length scratch₀
-  rest : drop i col ≡ drop i col₀
-  going : (before : List ℕ) → Begun (flagged flags) before col₀ scratch₀ start found → Begun (flagged flags) before col scratch i w
 
 module _ (col₀ scratch₀ : List ℕ) (flags : List Bool) (start found : ℕ) (col scratch : List ℕ) (w i : ℕ) (s : Passed col₀ scratch₀ flags start found col scratch w i) where
   more : (v : ℕ) → v ≤ i + 1 → i < length col₀ → length col₀ ≤ length scratch₀
@@ -99,8 +91,8 @@ loop-i-preserved c =
     let h : c.loop-i.i < length c.args.col.now = omega arith in
     let room = c.requires.room in
     elim c.if-t.branch [
-      | then-t u ↦ rw u.1 (more _ _ _ _ _ _ _ _ _ s _ (omega (arith, s.few)) h room (λ before b k l. kept-turn _ before _ _ _ _ b k l u.0.true))
-      | else-t u ↦ rw u.1 (more _ _ _ _ _ _ _ _ _ s _ (omega (arith, s.few)) h room (λ before b k l. left-turn _ before _ _ _ _ b k l u.0.false))
+      | then-t u ↦ rw u.w-is (more _ _ _ _ _ _ _ _ _ s _ (omega (arith, s.few)) h room (λ before b k l. kept-turn _ before _ _ _ _ b k l u.if-t.true))
+      | else-t u ↦ rw u.w-is (more _ _ _ _ _ _ _ _ _ s _ (omega (arith, s.few)) h room (λ before b k l. left-turn _ before _ _ _ _ b k l u.if-t.false))
     ]
 
 pub returns : goal.returns

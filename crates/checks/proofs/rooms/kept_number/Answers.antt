@@ -23,17 +23,17 @@ loop-i-preserved c =
     elim c.if-is_kept.branch [
       | then-is_kept w ↦ (
         omega arith,
-        omega (arith, w.1),
+        omega (arith, w.n-is),
         kept_step (kept_in a.weights.now a.counts.now) a.rows c.loop-i.i
-            (kept-counts (kept_in a.weights.now a.counts.now) a.rows c.loop-i.i c.loop-i.n c.loop-i-test.true c.loop-i.invariant.2 (kept ∙ w.0.true))
-            w.1,
+            (kept-counts (kept_in a.weights.now a.counts.now) a.rows c.loop-i.i c.loop-i.n c.loop-i-test.true c.loop-i.invariant.2 (kept ∙ w.if-is_kept.true))
+            w.n-is,
       )
       | else-is_kept w ↦ (
         omega arith,
-        omega (arith, w.1),
+        omega (arith, w.n-is),
         kept_step (kept_in a.weights.now a.counts.now) a.rows c.loop-i.i
-            (kept-passes (kept_in a.weights.now a.counts.now) a.rows c.loop-i.i c.loop-i.n c.loop-i-test.true c.loop-i.invariant.2 (kept ∙ w.0.false))
-            w.1,
+            (kept-passes (kept_in a.weights.now a.counts.now) a.rows c.loop-i.i c.loop-i.n c.loop-i-test.true c.loop-i.invariant.2 (kept ∙ w.if-is_kept.false))
+            w.n-is,
       )
     ]
 
