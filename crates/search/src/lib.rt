@@ -141,7 +141,7 @@ pub fn try_one(
         × RowsOf features (node_rows_at rows features from to (tables_of values.now targets.now weights.now counts.now) order.now a) h }
     ensures { ((W : List ℕ) (s : ℕ) → meant_tries W thresholds.now s result ≡ try_one (tape p.features) p.splitter p (node_rows_at rows features from to (tables_of values.now targets.now weights.now counts.now) order.now a) j (record {
       best = h.held;
-      left = left W thresholds.entry.now s m;
+      left = left W thresholds.now s m;
     })) × RowsTried features (node_rows_at rows features from to (tables_of values.now targets.now weights.now counts.now) order.now a) result }
 {
     let base = slices::wide(j) * rows;
@@ -237,7 +237,7 @@ pub fn try_all(
 ) -> Attempt
     requires node_asks { NodeAsks rows features from to (tables_of values.now targets.now weights.now counts.now) order.now a.count }
     requires k_in_bounds { (at + k ≤ length words.now) × ((i : ℕ) → i < k → get_or words.now (at + i) 0 < features) }
-    ensures { ((W : List ℕ) (s : ℕ) → meant_tries W thresholds.now s result ≡ try_all (tape p.features) p (node_rows_at rows features from to (tables_of values.entry.now targets.now weights.now counts.now) order.now a) (take k (drop at words.now)) (record {
+    ensures { ((W : List ℕ) (s : ℕ) → meant_tries W thresholds.now s result ≡ try_all (tape p.features) p (node_rows_at rows features from to (tables_of values.now targets.now weights.now counts.now) order.now a) (take k (drop at words.now)) (record {
       best =
           Nothing;
       left = left W thresholds.now s m;

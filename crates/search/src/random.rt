@@ -93,7 +93,7 @@ pub fn draw_in(
     requires rows { Below rows col.now }
     requires shape { Shaped rows features (tables_of values.now targets.now weights.now counts.now) × (j < features) }
     requires room { tally (map (element_of features (tables_of values.now targets.now weights.now counts.now)) col.now) ≤ a.count }
-    ensures { ((W : List ℕ) (s : ℕ) → meant_tries W thresholds.now s result ≡ draw_at p (bare a) j h.held (map (element_of features (tables_of values.now targets.entry.now weights.now counts.now)) col.now) (left W thresholds.now s m) lo hi)
+    ensures { ((W : List ℕ) (s : ℕ) → meant_tries W thresholds.now s result ≡ draw_at p (bare a) j h.held (map (element_of features (tables_of values.now targets.now weights.now counts.now)) col.now) (left W thresholds.now s m) lo hi)
         × TriedBy j (map (element_of features (tables_of values.now targets.now weights.now counts.now)) col.now) h result }
 {
     if thresholds.len() <= m {
@@ -143,8 +143,8 @@ pub fn random_in(
     requires room { tally (map (element_of features (tables_of values.now targets.now weights.now counts.now)) col.now) ≤ a.count }
     ensures { ((W : List ℕ) (s : ℕ) → meant_tries W thresholds.now s result ≡ random_in (tape p.features) p (bare a) j (record {
       best = h.held;
-      left = left W thresholds.entry.now s m;
-    }) (map (element_of features (tables_of values.now targets.now weights.now counts.now)) col.entry.now))
+      left = left W thresholds.now s m;
+    }) (map (element_of features (tables_of values.now targets.now weights.now counts.now)) col.now))
         × TriedBy j (map (element_of features (tables_of values.now targets.now weights.now counts.now)) col.now) h result }
 {
     let n = col.len();

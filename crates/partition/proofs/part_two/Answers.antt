@@ -1,0 +1,15 @@
+-- `partition::part_two` meets its contract: all of the first two stay, or they are swept and the sweep goes on behind them. Assumes nothing.
+use Rattle.std.proofs.Common.{arith}
+use Rattle.sweeps.specs.Swept.{flagged, Begun}
+use Rattle.sweeps.specs.First.{begun-asks, two-begun}
+use Rattle.partition.specs.Stays.{front-none, front-two}
+use Rattle.partition.proofs.part_two.Goals as goal
+
+pub part_behind-requires : goal.part_behind-requires
+part_behind-requires c = (c.requires.0, front-two _ _ 0 (front-none _ _) c.requires.1 c.flag_at-s.ensures c.flag_at-t.ensures c.if-s-t.true)
+
+pub part_from-requires : goal.part_from-requires
+part_from-requires c = begun-asks ((let begun : Begun (flagged c.args.flags.now) c.args.col.now c.sweep_two-w.new.col c.sweep_two-w.new.scratch 2 c.sweep_two-w.result = two-begun _ _ _ c.requires.1 (omega (arith, c.requires.0.room)) c.flag_at-s.ensures c.flag_at-t.ensures c.sweep_two-w.ensures in begun)) c.requires.0 c.sweep_two-w.auto.scratch
+
+pub returns : goal.returns
+returns c = c.part_from.ensures.done _ ((let begun : Begun (flagged c.args.flags.now) c.args.col.now c.sweep_two-w.new.col c.sweep_two-w.new.scratch 2 c.sweep_two-w.result = two-begun _ _ _ c.requires.1 (omega (arith, c.requires.0.room)) c.flag_at-s.ensures c.flag_at-t.ensures c.sweep_two-w.ensures in begun))
