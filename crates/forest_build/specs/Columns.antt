@@ -26,8 +26,8 @@ each f c = columnwise (λ A k l. f A k) c c
 abbrev pub drop_all : ℕ → NodeRoom → NodeRoom
 drop_all n c = each (λ A. drop n) c
 
-abbrev pub take_all : ℕ → NodeRoom → NodeRoom
-take_all n c = each (λ A. take n) c
+abbrev pub take_each : ℕ → NodeRoom → NodeRoom
+take_each n c = each (λ A. take n) c
 
 -- the same of every column that is long enough
 pub columns-same : (f g : (A : Type 0) → List A → List A → List A) (n : ℕ) → ((A : Type 0) (k l : List A) → n ≤ length k → f A k l ≡ g A k l) → (c d : NodeRoom) → LongRoom n c

@@ -16,7 +16,7 @@ use Rattle.tree_build.specs.Plant.{one_tree_in, PlantDone}
 use Rattle.forest_parts.specs.declared.Parts.{Parts}
 use Rattle.forest_parts.specs.Parts.{PartsAsk, parts_at}
 use Rattle.forest_build.specs.Lot.{Lot, Widths, lot_tree, PlantIn}
-use Rattle.forest_build.specs.Columns.{columnwise, each, drop_all, take_all, columns-same}
+use Rattle.forest_build.specs.Columns.{columnwise, each, drop_all, take_each, columns-same}
 
 pub record NextAsks (L : Lot) (t at : ℕ) (c : NodeRoom) (w : Widths) : Type 0 where
   pub plant : PlantIn L (lot_tree L t) (drop_all at c) w
@@ -27,7 +27,7 @@ pub record NextAsks (L : Lot) (t at : ℕ) (c : NodeRoom) (w : Widths) : Type 0 
   pub threshold : PartAt L.threshold_starts (length L.thresholds) t
 
 pub record NextDone (L : Lot) (t at : ℕ) (c c' : NodeRoom) (r : Planted) : Type 0 where
-  pub kept : take_all at c' ≡ take_all at c
+  pub kept : take_each at c' ≡ take_each at c
   pub done : PlantDone (lot_tree L t) L.inputs (drop_all at c) (drop_all at c') r
 
 -- ---- what is lent of each list, and how it comes back
@@ -64,7 +64,7 @@ back_all at c l = columnwise (λ A. back at) c l
 columns-lent : (at : ℕ) (c : NodeRoom) → LongRoom at c → lent_all at c ≡ drop_all at c
 columns-lent at c h = columns-same (λ A k l. take (length k - at) (drop at k)) (λ A k l. drop at k) at (λ A k l b. lent_is at k) c c h
 
-columns-kept : (at : ℕ) (c l : NodeRoom) → LongRoom at c → take_all at (back_all at c l) ≡ take_all at c
+columns-kept : (at : ℕ) (c l : NodeRoom) → LongRoom at c → take_each at (back_all at c l) ≡ take_each at c
 columns-kept at c l h = columns-same (λ A k last. take at (back at k last)) (λ A k last. take at k) at (λ A. back-take at) c l h
 
 columns-back : (at : ℕ) (c l : NodeRoom) → LongRoom at c → drop_all at (back_all at c l) ≡ l

@@ -19,7 +19,7 @@ use Rattle.lemmas.specs.Tables.{length-entries}
 use Rattle.lemmas.specs.Beside.{entries-append, entries-joined}
 use Rattle.node_entries.specs.Entries.{NodeRoom}
 use Rattle.node_entries.specs.Nodes.{write_nodes}
-use Rattle.forest_build.specs.Columns.{drop_all, take_all}
+use Rattle.forest_build.specs.Columns.{drop_all, take_each}
 
 -- ---- forests grown so far, and the rest
 
@@ -87,7 +87,7 @@ column-next f ns ms old now new l p e a b =
     front-more (f ns) (f ms) old new (length ns) l (a ∙ ap (take (length ns)) e) (b ∙ ap (λ z. front (f ms) (drop (length ns) z)) e) ∙ ap (λ z. front z old) (sym p)
 
 -- of all eight
-room_next : (c₀ c c' : NodeRoom) (ns ms : List TreeNode) → c ≡ write_nodes ns c₀ → take_all (length ns) c' ≡ take_all (length ns) c
+room_next : (c₀ c c' : NodeRoom) (ns ms : List TreeNode) → c ≡ write_nodes ns c₀ → take_each (length ns) c' ≡ take_each (length ns) c
     → drop_all (length ns) c' ≡ write_nodes ms (drop_all (length ns) c) → c' ≡ write_nodes (ns ++ ms) c₀
 room_next c₀ c c' ns ms e a b = λ i.
     record {
@@ -198,7 +198,7 @@ module _ (Fs : List OneTree) (D : Data) (c₀ : NodeRoom) (t at : ℕ) (c : Node
           ∙ ap (λ l. l ++ (tree.report ∷ [])) st.reports
           ∙ sym (map-append (λ (x : Tree). x.report) st.trees (tree ∷ []))
 
-      pub standing-next : (c' : NodeRoom) → take_all at c' ≡ take_all at c → drop_all at c' ≡ write_nodes tree.nodes (drop_all at c)
+      pub standing-next : (c' : NodeRoom) → take_each at c' ≡ take_each at c → drop_all at c' ≡ write_nodes tree.nodes (drop_all at c)
           → t < length rs → t < length es → Standing Fs D c₀ (t + 1) at' c' (set rs t tree.report) (set es t at')
       standing-next c' ct cd hr he =
           record {
@@ -207,7 +207,7 @@ module _ (Fs : List OneTree) (D : Data) (c₀ : NodeRoom) (t at : ℕ) (c : Node
             so = so-next;
             end = ap length (nodes-next st.trees tree) ∙ length-append (forest_nodes st.trees) tree.nodes ∙ ap (λ n. n + length tree.nodes) st.end ∙ sym ea;
             nodes =
-                room_next c₀ c c' (forest_nodes st.trees) tree.nodes st.nodes (subst (λ k. take_all k c' ≡ take_all k c) (sym st.end) ct)
+                room_next c₀ c c' (forest_nodes st.trees) tree.nodes st.nodes (subst (λ k. take_each k c' ≡ take_each k c) (sym st.end) ct)
                 (subst (λ k. drop_all k c' ≡ write_nodes tree.nodes (drop_all k c)) (sym st.end) cd)
                 ∙ ap (λ l. write_nodes l c₀) (sym (nodes-next st.trees tree));
             reports = reports-more hr;
