@@ -8,8 +8,7 @@ ghost use Rattle.rules.specs.Plain.{node_numbers};
 
 use rules::{NodeTold, Refusal, Shape};
 
-#[unsafe(no_mangle)]
-pub extern "C" fn tailboardy_check_listings(
+pub fn tailboardy_check_listings(
     rows: usize,
     features: usize,
     values: &[f64],
@@ -21,8 +20,7 @@ pub extern "C" fn tailboardy_check_listings(
     c_types::check_told_of(answer)
 }
 
-#[unsafe(no_mangle)]
-pub extern "C" fn tailboardy_check_tree(
+pub fn tailboardy_check_tree(
     features: usize,
     value: &[f64],
     feature: &[u32],
@@ -40,8 +38,7 @@ pub extern "C" fn tailboardy_check_tree(
     c_types::number_of(reply)
 }
 
-#[unsafe(no_mangle)]
-pub extern "C" fn tailboardy_check_forest(
+pub fn tailboardy_check_forest(
     features: usize,
     trees: usize,
     starts: &[u32],
@@ -61,8 +58,7 @@ pub extern "C" fn tailboardy_check_forest(
     c_types::number_of(reply)
 }
 
-#[unsafe(no_mangle)]
-pub extern "C" fn tailboardy_read_node(
+pub fn tailboardy_read_node(
     features: usize,
     value: &[f64],
     feature: &[u32],

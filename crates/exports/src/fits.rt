@@ -8,8 +8,7 @@ ghost use Rattle.rules.specs.Plain.{tree_settings_of, forest_settings_of, tried_
 
 use rules::{ForestSettings, Refusal, Shape, TreeSettings, TreeTold};
 
-#[unsafe(no_mangle)]
-pub extern "C" fn tailboardy_fit_tree(
+pub fn tailboardy_fit_tree(
     value: &mut [f64],
     feature: &mut [u32],
     threshold: &mut [f64],
@@ -75,8 +74,7 @@ pub extern "C" fn tailboardy_fit_tree(
     c_types::tree_told_of(answer)
 }
 
-#[unsafe(no_mangle)]
-pub extern "C" fn tailboardy_fit_forest(
+pub fn tailboardy_fit_forest(
     value: &mut [f64],
     feature: &mut [u32],
     threshold: &mut [f64],

@@ -1,4 +1,4 @@
-// The public calls for Rust and C to link: plain numbers in and out, and what is lent. No work of its own.
+// The public calls: plain numbers in and out, and what is lent. No work of its own. What Rust and C link is exports_c, over these.
 #![tactic(auto)]
 
 pub mod checkers;

@@ -7,8 +7,7 @@ ghost use Rattle.rules.specs.Answers.{size_told, model_told, told};
 
 use rules::{ModelTold, SizeTold};
 
-#[unsafe(no_mangle)]
-pub extern "C" fn tailboardy_model_size(
+pub fn tailboardy_model_size(
     features: usize,
     trees: usize,
     starts: &[u32],
@@ -28,8 +27,7 @@ pub extern "C" fn tailboardy_model_size(
     c_types::size_told_of(reply)
 }
 
-#[unsafe(no_mangle)]
-pub extern "C" fn tailboardy_write_model(
+pub fn tailboardy_write_model(
     features: usize,
     trees: usize,
     starts: &[u32],
@@ -51,8 +49,7 @@ pub extern "C" fn tailboardy_write_model(
     c_types::size_told_of(reply)
 }
 
-#[unsafe(no_mangle)]
-pub extern "C" fn tailboardy_read_model(
+pub fn tailboardy_read_model(
     value: &mut [f64],
     feature: &mut [u32],
     threshold: &mut [f64],

@@ -9,8 +9,7 @@ ghost use Rattle.rules.specs.Plain.{scale_of, error_numbers};
 
 use rules::{ErrorTold, Shape};
 
-#[unsafe(no_mangle)]
-pub extern "C" fn tailboardy_predict_tree(
+pub fn tailboardy_predict_tree(
     rows: usize,
     features: usize,
     values: &[f64],
@@ -40,8 +39,7 @@ pub extern "C" fn tailboardy_predict_tree(
     c_types::number_of(reply)
 }
 
-#[unsafe(no_mangle)]
-pub extern "C" fn tailboardy_forest_means(
+pub fn tailboardy_forest_means(
     rows: usize,
     features: usize,
     trees: usize,
@@ -75,8 +73,7 @@ pub extern "C" fn tailboardy_forest_means(
     c_types::number_of(reply)
 }
 
-#[unsafe(no_mangle)]
-pub extern "C" fn tailboardy_out_of_bag_means(
+pub fn tailboardy_out_of_bag_means(
     rows: usize,
     features: usize,
     trees: usize,
@@ -112,20 +109,14 @@ pub extern "C" fn tailboardy_out_of_bag_means(
     c_types::number_of(reply)
 }
 
-#[unsafe(no_mangle)]
-pub extern "C" fn tailboardy_out_of_bag_error(
-    rows: usize,
-    targets: &[f64],
-    means: &[f64],
-) -> ErrorTold
+pub fn tailboardy_out_of_bag_error(rows: usize, targets: &[f64], means: &[f64]) -> ErrorTold
     ensures { error_numbers result ≡ error_told (out_of_bag_error rows targets.now means.now) }
 {
     let reply = errors::out_of_bag_error(rows, targets, means);
     c_types::error_told_of(reply)
 }
 
-#[unsafe(no_mangle)]
-pub extern "C" fn tailboardy_tree_importances(
+pub fn tailboardy_tree_importances(
     features: usize,
     bymass: bool,
     mass: f64,
@@ -148,8 +139,7 @@ pub extern "C" fn tailboardy_tree_importances(
     c_types::number_of(reply)
 }
 
-#[unsafe(no_mangle)]
-pub extern "C" fn tailboardy_forest_importances(
+pub fn tailboardy_forest_importances(
     features: usize,
     trees: usize,
     starts: &[u32],
