@@ -36,23 +36,28 @@ fn processor() -> Result<(), String> {
     ))
 }
 
-/// The archive that TAILBOARDY_LIB names, or else the one that the kit writes after proving the calls.
+/// The archive that TAILBOARDY_LIB names, or else the one that rust/library leaves once the calls are proved.
 fn archive() -> Result<PathBuf, String> {
     if let Some(named) = env::var_os("TAILBOARDY_LIB") {
         println!("cargo::rerun-if-changed={}", Path::new(&named).display());
         return Ok(named.into());
     }
     let root = Path::new(env!("CARGO_MANIFEST_DIR")).join("../..");
-    println!("cargo::rerun-if-changed={}", root.join("crates").display());
-    println!(
-        "cargo::rerun-if-changed={}",
-        root.join("crates.txt").display()
-    );
-    let proved = Command::new("rt")
-        .args(["staticlib", "exports"])
-        .current_dir(&root)
-        .output();
+    for part in proved_from(&root) {
+        println!("cargo::rerun-if-changed={}", part.display());
+    }
+    let proved = Command::new(root.join("rust/library")).output();
     answered(proved).map(|()| root.join("target/staticlib/libexports.a"))
+}
+
+/// The list of crates, and the folders that each is proved from. What the kit itself makes is beside these, in `out`.
+fn proved_from(root: &Path) -> Vec<PathBuf> {
+    let crates = fs::read_dir(root.join("crates")).into_iter().flatten();
+    let parts = crates
+        .flatten()
+        .flat_map(|it| ["src", "specs", "proofs"].map(|part| it.path().join(part)));
+    let list = [root.join("crates.txt"), root.join("rust/library")];
+    parts.filter(|it| it.is_dir()).chain(list).collect()
 }
 
 fn answered(proved: io::Result<Output>) -> Result<(), String> {
@@ -62,15 +67,17 @@ fn answered(proved: io::Result<Output>) -> Result<(), String> {
             let told = [output.stdout, output.stderr].concat();
             let told = String::from_utf8_lossy(&told);
             let last = told.lines().last().unwrap_or("there was no output");
-            Err(format!("`rt staticlib exports` failed: {last}"))
+            Err(format!(
+                "rust/library, which proves the library, failed: {last}. Or set TAILBOARDY_LIB to the path of a libexports.a"
+            ))
         }
         Err(error) => Err(format!(
-            "`rt`, of the Rattle kit, does not start ({error}): put it on the path, or set TAILBOARDY_LIB to the path of a libexports.a"
+            "rust/library, which proves the library, does not start ({error}): set TAILBOARDY_LIB to the path of a libexports.a"
         )),
     }
 }
 
-/// Copies the archive into the build folder, so that what was linked remains when the kit clears its own folder.
+/// Copies the archive into the build folder, so that what was linked remains when the library is proved anew.
 fn take(archive: &Path) -> Result<PathBuf, String> {
     let folder = PathBuf::from(env::var_os("OUT_DIR").unwrap_or_default());
     match fs::copy(archive, folder.join("libexports.a")) {
