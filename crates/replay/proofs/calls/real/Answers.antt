@@ -1,7 +1,7 @@
 -- `replay::calls::real` meets its contract. A pattern is a NaN's if what its sign leaves is above that of an infinity. Assumes nothing.
-use Rattle.std.proofs.Common.{◌≡◌, refl, sym, ◌∙◌, subst, not, ℕ, ◌%◌, ◌<◌, ◌≤◌, not-le_of_lt, T, ltb→lt, lt→ltb, Float, is_nan}
+use Rattle.std.proofs.Common.{◌≡◌, refl, sym, ◌∙◌, subst, not, ℕ, ◌%◌, ◌<◌, ◌≤◌, not-le_of_lt, T, ltb→lt, lt→ltb, Float}
 use lib.Dec.{not_T}
-use lib.Ieee.{nan, inf, fin, binary64, of_bits, nan_bits, div}
+use lib.Ieee.{nan, inf, fin, is_nan, binary64, of_bits, nan_bits, div}
 use lib.Ieee.Bits.{nan_bits_is, nan_bits_above}
 use Rattle.replay.proofs.calls.real.Goals as goal
 

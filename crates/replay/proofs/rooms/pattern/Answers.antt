@@ -1,6 +1,6 @@
 -- `replay::rooms::pattern` meets its contract. A NaN, and nothing else, differs from itself. Assumes nothing.
-use Rattle.std.proofs.Common.{◌≡◌, refl, sym, ap, ◌∙◌, subst, false, not, true≢false, T, Float, to_bits, is_nan}
-use lib.Ieee.{nan, inf, fin, binary64, ne}
+use Rattle.std.proofs.Common.{◌≡◌, refl, sym, ap, ◌∙◌, subst, false, not, true≢false, T, Float}
+use lib.Ieee.{nan, inf, fin, is_nan, to_bits, binary64, ne}
 use lib.Ieee.Compare.{differs_from_itself, nan_differs}
 use Rattle.replay.proofs.rooms.pattern.Goals as goal
 
