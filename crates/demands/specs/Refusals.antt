@@ -1,7 +1,7 @@
 -- Demand 1: in which order each call makes its checks, and what a refusal leaves. A fit that is refused before growth leaves every lent room as it was, and tells what the
 -- first test that failed tells. One that meets a bad draw leaves every lent slice as long as it was, with 0 at each place. Each reader that is refused, and the writer of model files, leaves its
 -- result room as it was, and tells the first test that failed; a reader, a writer or a check that does not refuse has passed all its tests. Assumes nothing.
-use Rattle.std.specs.Prelude.{ℕ, zero, suc, ◌<◌, ◌≤◌, ◌≡◌, refl, Bool, true, false, cond, List, [], ◌∷◌, ◌++◌, map, length, get_or, T, ltb, Float}
+use Rattle.std.specs.Prelude.{ℕ, zero, suc, ◌<◌, ◌≤◌, ◌≡◌, refl, Bool, true, false, cond, List, [], ◌∷◌, ◌++◌, map, length, get_or, ltb, Float}
 use Rattle.std.proofs.Common.{arith, ap, ◌∙◌, subst}
 use Rattle.std.proofs.lemmas.List.{map-append, length-map}
 use Rattle.rules.specs.declared.Shape.{Shape}

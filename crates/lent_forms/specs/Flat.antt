@@ -1,11 +1,10 @@
 -- The list of waiting nodes and the two flat columns that growth is lent agree. `flat l` has entry by entry what l has, and loses nothing of it (`unflat`).
--- A push on the list is growth's push on the columns (`push-agrees`), with room for it on both or on neither (`room-agrees`); a pop gives the node
--- that growth reads off the columns (`pop-agrees`), and both stand
--- for the same waiting nodes of the definition (`joins-agree`, `taken-agree`). Both have as many places, and are zero together (`places-agree`, `zeroed-agrees`).
+-- A pop gives the node that growth reads off the columns (`pop-agrees`), which is the first of the waiting nodes of the definition (`taken-agree`). Both have as
+-- many places, and are zero together (`places-agree`, `zeroed-agrees`). What a push does to both is in proofs/, Pushes.
 -- Assumes nothing.
-use Rattle.std.specs.Prelude.{ℕ, zero, suc, ◌+◌, ◌-◌, ◌<◌, ◌≤◌, min, ◌≡◌, refl, ◌&&◌, cond, List, [], ◌∷◌, map, length, get_or, set, replicate, ltb, leb, Float}
+use Rattle.std.specs.Prelude.{ℕ, zero, suc, ◌-◌, ◌<◌, ◌≤◌, min, ◌≡◌, refl, ◌&&◌, cond, List, [], ◌∷◌, map, length, get_or, set, replicate, ltb, leb, Float}
 use Rattle.std.proofs.Math.Nat.{min-eq_left}
-use Rattle.std.proofs.Common.{le_refl, sym, ap, ◌∙◌, subst, lt→ltb, le→leb}
+use Rattle.std.proofs.Common.{le_refl, sym, ap, ◌∙◌, lt→ltb, le→leb}
 use Rattle.std.proofs.lemmas.List.{length-map}
 use Rattle.rules.specs.Words.{nought}
 use Rattle.rules.specs.Lent.{WaitingRoom, waiting_room}
@@ -13,10 +12,9 @@ use Rattle.lemmas.specs.Lists.{is_true}
 use Rattle.node_entries.specs.declared.WaitingNode.{WaitingNode}
 use Rattle.node_entries.specs.Entries.{wholes_of, reals_of, waiting_in, waiting_at}
 use Rattle.node_growth.specs.Rooms.{Ground, waiting_of, waiting_list}
-use Rattle.node_growth.specs.Steps.{list-new}
 use Rattle.lent_forms.specs.declared.Waiting.{Waiting}
 use Rattle.lent_forms.specs.declared.Popped.TheVariants.{Nothing, Top}
-use Rattle.lent_forms.specs.WaitingList.{no_entry, pushed, popped, listed}
+use Rattle.lent_forms.specs.WaitingList.{no_entry, popped, listed}
 
 -- ---- the list as columns
 
@@ -85,20 +83,12 @@ pub zeroed-agrees : (l : List Waiting) → waiting_room.zeroed (flat l) ≡ flat
 zeroed-agrees [] = refl
 zeroed-agrees (w ∷ l) = ap (λ (s : WaitingRoom). record { wholes = replicate 6 0 ∷ s.wholes; reals = replicate 3 nought ∷ s.reals }) (zeroed-agrees l)
 
--- ---- a push
+-- ---- a place written
 
-map-set : {A B : Type 0} (f : A → B) (l : List A) (n : ℕ) (x : A) → map f (set l n x) ≡ set (map f l) n (f x)
+pub map-set : {A B : Type 0} (f : A → B) (l : List A) (n : ℕ) (x : A) → map f (set l n x) ≡ set (map f l) n (f x)
 map-set f [] n x = refl
 map-set f (y ∷ l) zero x = refl
 map-set f (y ∷ l) (suc n) x = ap (λ t. f y ∷ t) (map-set f l n x)
-
-pub push-agrees : (l : List Waiting) (n : ℕ) (w : Waiting) → flat (pushed l n w).rooms ≡ pushed_flat (flat l) n (apart w)
-push-agrees l n w =
-    ap (λ ws. record { wholes = ws; reals = reals_in (set l n w) }) (map-set (λ v. wholes_of (apart v)) l n w)
-    ∙ ap (λ rs. record { wholes = set (wholes_in l) n (wholes_of (apart w)); reals = rs }) (map-set (λ v. reals_of (apart v)) l n w)
-
-pub room-agrees : (l : List Waiting) (n : ℕ) (w : Waiting) → (pushed l n w).answer ≡ ltb n (waiting_room.places (flat l))
-room-agrees l n w = ap (ltb n) (sym (places-agree l))
 
 -- ---- a pop
 
@@ -115,13 +105,6 @@ pop-agrees l n g h =
     ∙ ap (λ e. Top (together e)) (sym (read-agrees l (n - 1)))
 
 -- ---- what the list stands for
-
--- a node that joins the list joins the definition's waiting nodes
-pub joins-agree : (g : Ground) (l : List Waiting) (n : ℕ) (w : Waiting) → n < length l
-    → waiting_list g (wholes_in (pushed l n w).rooms) (reals_in (pushed l n w).rooms) (n + 1) ≡ waiting_of g (apart w) ∷ waiting_list g (wholes_in l) (reals_in l) n
-joins-agree g l n w h =
-    ap (λ (s : WaitingRoom). waiting_list g s.wholes s.reals (n + 1)) (push-agrees l n w)
-    ∙ list-new g (wholes_in l) (reals_in l) n (apart w) (subst (λ k. n < k) (sym (length-map l (λ v. wholes_of (apart v)))) h) (subst (λ k. n < k) (sym (length-map l (λ v. reals_of (apart v)))) h)
 
 -- the one that is taken off the list is their first
 pub taken-agree : (g : Ground) (l : List Waiting) (m : ℕ) → waiting_list g (wholes_in l) (reals_in l) (suc m) ≡ waiting_of g (apart (get_or l m no_entry)) ∷ waiting_list g (wholes_in l) (reals_in l) m

@@ -1,4 +1,4 @@
-// Two forms whose proofs are walks by hand: totals that are lent and changed where they stand, and a lent list of waiting nodes.
+// Two forms beside the growth: totals that are lent and changed where they stand, and a lent list of waiting nodes.
 #![tactic(auto)]
 
 ghost use Rattle.std.specs.Prelude.{◌≡◌};

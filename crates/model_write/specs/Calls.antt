@@ -1,5 +1,5 @@
 -- What passed checks say, and how the two calls end. Assumes nothing.
-use Prim.Native.Nat.{ℕ, zero, suc, ◌+◌, ◌<◌, ◌≤◌}
+use Prim.Native.Nat.{ℕ, zero, suc, ◌<◌, ◌≤◌}
 use Rattle.std.proofs.Common.{add-one, arith, sym, ◌∙◌, subst, le-leb}
 use Rattle.std.specs.Prelude.{◌≡◌, ◌&&◌, length, get_or, leb}
 use Rattle.std.proofs.Math.Path.{refl, ap}

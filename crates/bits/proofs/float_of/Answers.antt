@@ -7,4 +7,5 @@ pub float_from_bits-result : goal.float_from_bits-result
 float_from_bits-result c = other-pattern c.args.n c.if-n-gt9218868437227405312.false
 
 pub returns-then-n-gt9218868437227405312 : goal.returns-then-n-gt9218868437227405312
-returns-then-n-gt9218868437227405312 c = let n = c.args.n in unfold of_bits div in only_nan (of_bits binary64 n) (nan_pattern n c.if-n-gt9218868437227405312.true)
+returns-then-n-gt9218868437227405312 c =
+    let n = c.args.n in unfold of_bits div in only_nan (of_bits binary64 n) (nan_pattern n c.if-n-gt9218868437227405312.true)

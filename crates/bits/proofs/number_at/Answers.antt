@@ -23,20 +23,28 @@ pub overflow_cast-b : goal.overflow_cast-b
 overflow_cast-b c = omega (arith, c.type_inv.bytes (c.args.at + (c.loop-i.i - 1)))
 
 pub overflow_mul-n : goal.overflow_mul-n
-overflow_mul-n c = omega (arith, (let next : c.loop-i.n * 256 + get_or c.args.bytes.now (c.args.at + (c.loop-i.i - 1)) 0 < 2 ^ (8 * (c.args.k - (c.loop-i.i - 1))) = said-grows c.loop-i.n _ c.loop-i.i c.args.k c.loop-i-test.true c.loop-i.invariant.0 c.loop-i.invariant.1 (omega (arith, c.type_inv.bytes (c.args.at + (c.loop-i.i - 1)))) in next), said_fits (c.loop-i.i - 1) c.args.k c.requires.few)
+overflow_mul-n c =
+    let next : c.loop-i.n * 256 + get_or c.args.bytes.now (c.args.at + (c.loop-i.i - 1)) 0 < 2 ^ (8 * (c.args.k - (c.loop-i.i - 1))) = said-grows c.loop-i.n _ c.loop-i.i c.args.k
+    c.loop-i-test.true c.loop-i.invariant.0 c.loop-i.invariant.1 (omega (arith, c.type_inv.bytes (c.args.at + (c.loop-i.i - 1)))) in
+    omega (arith, next, said_fits (c.loop-i.i - 1) c.args.k c.requires.few)
 
 pub overflow_add-n : goal.overflow_add-n
-overflow_add-n c = omega (arith, (let next : c.loop-i.n * 256 + get_or c.args.bytes.now (c.args.at + (c.loop-i.i - 1)) 0 < 2 ^ (8 * (c.args.k - (c.loop-i.i - 1))) = said-grows c.loop-i.n _ c.loop-i.i c.args.k c.loop-i-test.true c.loop-i.invariant.0 c.loop-i.invariant.1 (omega (arith, c.type_inv.bytes (c.args.at + (c.loop-i.i - 1)))) in next), said_fits (c.loop-i.i - 1) c.args.k c.requires.few)
+overflow_add-n c =
+    let next : c.loop-i.n * 256 + get_or c.args.bytes.now (c.args.at + (c.loop-i.i - 1)) 0 < 2 ^ (8 * (c.args.k - (c.loop-i.i - 1))) = said-grows c.loop-i.n _ c.loop-i.i c.args.k
+    c.loop-i-test.true c.loop-i.invariant.0 c.loop-i.invariant.1 (omega (arith, c.type_inv.bytes (c.args.at + (c.loop-i.i - 1)))) in
+    omega (arith, next, said_fits (c.loop-i.i - 1) c.args.k c.requires.few)
 
 pub loop-i-smaller : goal.loop-i-smaller
 loop-i-smaller c = omega arith
 
 pub loop-i-preserved : goal.loop-i-preserved
 loop-i-preserved c =
+    let next : c.loop-i.n * 256 + get_or c.args.bytes.now (c.args.at + (c.loop-i.i - 1)) 0 < 2 ^ (8 * (c.args.k - (c.loop-i.i - 1))) = said-grows c.loop-i.n _ c.loop-i.i c.args.k
+    c.loop-i-test.true c.loop-i.invariant.0 c.loop-i.invariant.1 (omega (arith, c.type_inv.bytes (c.args.at + (c.loop-i.i - 1)))) in
     let l = c.loop-i in
     let bytes = c.args.bytes.now in (
       omega arith,
-      (let next : c.loop-i.n * 256 + get_or c.args.bytes.now (c.args.at + (c.loop-i.i - 1)) 0 < 2 ^ (8 * (c.args.k - (c.loop-i.i - 1))) = said-grows c.loop-i.n _ c.loop-i.i c.args.k c.loop-i-test.true c.loop-i.invariant.0 c.loop-i.invariant.1 (omega (arith, c.type_inv.bytes (c.args.at + (c.loop-i.i - 1)))) in next),
+      next,
       ap (λ n. n * 256 + get_or bytes (c.args.at + (l.i - 1)) 0) l.invariant.2
           ∙ said-next bytes c.args.at c.args.k l.i c.loop-i-test.true l.invariant.0 c.requires.inside,
     )

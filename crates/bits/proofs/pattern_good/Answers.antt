@@ -7,4 +7,5 @@ pub returns-then-n-gt9218868437227405312 : goal.returns-then-n-gt921886843722740
 returns-then-n-gt9218868437227405312 c = nan-good c.args.n _ c.if-n-gt9218868437227405312.true refl
 
 pub returns-else-n-gt9218868437227405312 : goal.returns-else-n-gt9218868437227405312
-returns-else-n-gt9218868437227405312 c = other-good c.args.n c.if-n-gt9218868437227405312.false
+returns-else-n-gt9218868437227405312 c =
+    other-good c.args.n c.if-n-gt9218868437227405312.false

@@ -9,4 +9,5 @@ pub returns-then-x : goal.returns-then-x
 returns-then-x c = nan-written c.args.x c.if-x.true
 
 pub returns-else-x : goal.returns-else-x
-returns-else-x c = other-written c.args.x c.if-x.false
+returns-else-x c =
+    other-written c.args.x c.if-x.false

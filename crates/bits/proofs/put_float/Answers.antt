@@ -6,4 +6,5 @@ use Rattle.bits.proofs.put_float.Goals as goal
 
 pub returns : goal.returns
 unfolding float_bytes
-returns c = c.put_number.ensures ∙ ap (λ n. spliced c.args.at (bytes_of 8 n) c.args.out.now) c.pattern_of.ensures
+returns c =
+    c.put_number.ensures ∙ ap (λ n. spliced c.args.at (bytes_of 8 n) c.args.out.now) c.pattern_of.ensures

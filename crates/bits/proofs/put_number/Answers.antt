@@ -1,5 +1,5 @@
 -- `bits::put_number` meets its contract: what is left to write, written, is all that is to be written. Assumes nothing.
-use Rattle.std.proofs.Common.{arith, refl, sym, ◌∙◌, ◌+◌, ◌-◌, ◌%◌, length, length-set}
+use Rattle.std.proofs.Common.{arith, refl, sym, ◌∙◌, ◌+◌, ◌%◌, length-set}
 use Rattle.bits.specs.Bits.{put-start, put_next, put-end}
 use Rattle.bits.proofs.put_number.Goals as goal
 

@@ -7,4 +7,5 @@ pub returns-in-Refused : goal.returns-in-Refused
 returns-in-Refused c = sym (ap error_told c.in-Refused.is)
 
 pub returns-in-Error : goal.returns-in-Error
-returns-in-Error c = sym (ap error_told c.in-Error.is)
+returns-in-Error c =
+    sym (ap error_told c.in-Error.is)

@@ -13,4 +13,5 @@ pub returns-in-BadDraw : goal.returns-in-BadDraw
 returns-in-BadDraw c = sym (ap forest_told c.in-BadDraw.is)
 
 pub returns-in-Grown : goal.returns-in-Grown
-returns-in-Grown c = c.no_refusal.ensures ∙ sym (ap forest_told c.in-Grown.is)
+returns-in-Grown c =
+    c.no_refusal.ensures ∙ sym (ap forest_told c.in-Grown.is)

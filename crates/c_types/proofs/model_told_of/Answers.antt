@@ -7,4 +7,5 @@ pub returns-in-Refused : goal.returns-in-Refused
 returns-in-Refused c = sym (ap model_told c.in-Refused.is)
 
 pub returns-in-Read : goal.returns-in-Read
-returns-in-Read c = sym (ap model_told c.in-Read.is)
+returns-in-Read c =
+    sym (ap model_told c.in-Read.is)

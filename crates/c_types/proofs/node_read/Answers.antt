@@ -10,4 +10,5 @@ pub returns-in-Leaf : goal.returns-in-Leaf
 returns-in-Leaf c = leaf-told _ c.in-Leaf.is
 
 pub returns-in-Split : goal.returns-in-Split
-returns-in-Split c = split-told _ _ c.in-Split.is
+returns-in-Split c =
+    split-told _ _ c.in-Split.is

@@ -14,4 +14,5 @@ pub returns-in-Missing : goal.returns-in-Missing
 returns-in-Missing c = c.no_node-in-Missing.ensures ∙ sym (ap node_told c.in-Missing.is)
 
 pub returns-in-Read : goal.returns-in-Read
-returns-in-Read c = c.node_read.ensures ∙ sym (ap node_told c.in-Read.is)
+returns-in-Read c =
+    c.node_read.ensures ∙ sym (ap node_told c.in-Read.is)

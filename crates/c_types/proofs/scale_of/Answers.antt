@@ -3,4 +3,5 @@
 use Rattle.c_types.proofs.scale_of.Goals as goal
 
 pub returns-then-bymass : goal.returns-then-bymass
-returns-then-bymass c = rw c.if-bymass.true
+returns-then-bymass c =
+    rw c.if-bymass.true

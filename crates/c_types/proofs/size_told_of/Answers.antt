@@ -7,4 +7,5 @@ pub returns-in-Refused : goal.returns-in-Refused
 returns-in-Refused c = sym (ap size_told c.in-Refused.is)
 
 pub returns-in-Bytes : goal.returns-in-Bytes
-returns-in-Bytes c = sym (ap size_told c.in-Bytes.is)
+returns-in-Bytes c =
+    sym (ap size_told c.in-Bytes.is)

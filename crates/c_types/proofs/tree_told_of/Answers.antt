@@ -10,4 +10,5 @@ pub returns-in-BadDraw : goal.returns-in-BadDraw
 returns-in-BadDraw c = sym (ap tree_told c.in-BadDraw.is)
 
 pub returns-in-Grown : goal.returns-in-Grown
-returns-in-Grown c = sym (ap tree_told c.in-Grown.is)
+returns-in-Grown c =
+    sym (ap tree_told c.in-Grown.is)

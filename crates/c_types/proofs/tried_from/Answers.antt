@@ -3,4 +3,5 @@
 use Rattle.c_types.proofs.tried_from.Goals as goal
 
 pub returns-then-said : goal.returns-then-said
-returns-then-said c = rw c.if-said.true
+returns-then-said c =
+    rw c.if-said.true

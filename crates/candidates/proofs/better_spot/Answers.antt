@@ -15,4 +15,5 @@ returns-then-s c =
 
 pub returns : goal.returns
 unfolding held_of
-returns c = (inr (refl, refl), better-none c.args.s c.args.place c.args.q c.if-s.false)
+returns c =
+    (inr (refl, refl), better-none c.args.s c.args.place c.args.q c.if-s.false)

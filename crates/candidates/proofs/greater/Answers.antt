@@ -6,4 +6,5 @@ pub returns-then-p-q : goal.returns-then-p-q
 returns-then-p-q c = simp c.if-p-q.true
 
 pub returns : goal.returns
-returns c = simp c.if-p-q.false
+returns c =
+    simp c.if-p-q.false

@@ -7,4 +7,5 @@ pub returns-then-lo-t : goal.returns-then-lo-t
 returns-then-lo-t c = sym (ap (λ b. b && lt c.args.t c.args.hi) c.if-lo-t.true)
 
 pub returns : goal.returns
-returns c = sym (ap (λ b. b && lt c.args.t c.args.hi) c.if-lo-t.false)
+returns c =
+    sym (ap (λ b. b && lt c.args.t c.args.hi) c.if-lo-t.false)

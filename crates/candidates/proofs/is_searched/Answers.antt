@@ -9,4 +9,5 @@ returns-then-level-p c = let a = c.args in sym (ap (λ b. b && leb a.p.split a.a
 
 pub returns : goal.returns
 unfolding searchable
-returns c = let a = c.args in sym (ap (λ b. b && leb a.p.split a.a.count) (le-ltb a.level a.p.limit c.if-level-p.false))
+returns c =
+    let a = c.args in sym (ap (λ b. b && leb a.p.split a.a.count) (le-ltb a.level a.p.limit c.if-level-p.false))

@@ -6,4 +6,5 @@ pub returns-then-e-v : goal.returns-then-e-v
 returns-then-e-v c = simp c.if-e-v.true
 
 pub returns : goal.returns
-returns c = simp c.if-e-v.false
+returns c =
+    simp c.if-e-v.false

@@ -10,4 +10,5 @@ returns-in-Nothing c = (refl, λ k e. sym c.in-Nothing.is)
 
 pub returns-in-Holds : goal.returns-in-Holds
 unfolding held_of
-returns-in-Holds c = (refl, λ k e. spot-held c.in-Holds.is e)
+returns-in-Holds c =
+    (refl, λ k e. spot-held c.in-Holds.is e)

@@ -10,4 +10,5 @@ returns-then-n-ge1 c = sym (ap (λ b. b && leb c.args.n c.args.top) (le-leb 1 c.
 
 pub returns-else-n-ge1 : goal.returns-else-n-ge1
 unfolding within
-returns-else-n-ge1 c = sym (ap (λ b. b && leb c.args.n c.args.top) (lt-leb 1 c.args.n c.if-n-ge1.false))
+returns-else-n-ge1 c =
+    sym (ap (λ b. b && leb c.args.n c.args.top) (lt-leb 1 c.args.n c.if-n-ge1.false))

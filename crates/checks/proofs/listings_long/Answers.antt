@@ -4,4 +4,5 @@ use Rattle.lemmas.specs.Tests.{entries-low}
 use Rattle.checks.proofs.listings_long.Goals as goal
 
 pub overflow_mul-cells : goal.overflow_mul-cells
-overflow_mul-cells c = omega (arith, entries-low c.args.shape c.requires)
+overflow_mul-cells c =
+    omega (arith, entries-low c.args.shape c.requires)

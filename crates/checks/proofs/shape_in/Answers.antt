@@ -7,4 +7,5 @@ pub returns-then-rows_in : goal.returns-then-rows_in
 returns-then-rows_in c = and-on _ _ (sym c.rows_in.ensures ∙ c.if-rows_in.true) c.features_in.ensures
 
 pub returns-else-rows_in : goal.returns-else-rows_in
-returns-else-rows_in c = and-off _ _ (sym c.rows_in.ensures ∙ c.if-rows_in.false)
+returns-else-rows_in c =
+    and-off _ _ (sym c.rows_in.ensures ∙ c.if-rows_in.false)

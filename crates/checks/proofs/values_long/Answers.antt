@@ -4,4 +4,5 @@ use Rattle.lemmas.specs.Tests.{cells_low}
 use Rattle.checks.proofs.values_long.Goals as goal
 
 pub overflow_mul-cells : goal.overflow_mul-cells
-overflow_mul-cells c = omega (arith, cells_low c.args.shape c.requires)
+overflow_mul-cells c =
+    omega (arith, cells_low c.args.shape c.requires)

@@ -5,4 +5,5 @@ use Rattle.criterion.proofs.is_finite.Goals as goal
 
 pub returns : goal.returns
 unfolding of_bits
-returns c = sub_self c.args.x
+returns c =
+    sub_self c.args.x

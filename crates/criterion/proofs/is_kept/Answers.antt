@@ -12,4 +12,5 @@ pub bounds-weights-i : goal.bounds-weights-i
 bounds-weights-i c = c.requires.weighed (some-long c.args.weights.now c.if-weights-eq0.false)
 
 pub returns : goal.returns
-returns c = kept-weighed _ _ _ c.if-counts-i-eq0.false c.if-weights-eq0.false
+returns c =
+    kept-weighed _ _ _ c.if-counts-i-eq0.false c.if-weights-eq0.false

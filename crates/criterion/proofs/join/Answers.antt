@@ -5,4 +5,5 @@ use Rattle.criterion.proofs.join.Goals as goal
 
 pub returns : goal.returns
 unfolding joined
-returns c = λ i. record { totals = c.take_in-more.ensures i; count = c.args.s.count + c.args.k }
+returns c =
+    λ i. record { totals = c.take_in-more.ensures i; count = c.args.s.count + c.args.k }

@@ -5,4 +5,5 @@ use Rattle.criterion.proofs.less_of.Goals as goal
 
 pub returns : goal.returns
 unfolding less
-returns c = refl
+returns c =
+    refl

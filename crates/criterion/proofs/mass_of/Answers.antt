@@ -11,4 +11,5 @@ pub bounds-weights-i : goal.bounds-weights-i
 bounds-weights-i c = c.requires.weighed (some-long c.args.weights.now c.if-weights-eq0.false)
 
 pub returns : goal.returns
-returns c = (λ r. mul binary64 (c.float_of-m.ensures r) (get_or c.args.weights.now c.args.i nan)) ∙ mass-weighed _ _ _ c.if-weights-eq0.false
+returns c =
+    (λ r. mul binary64 (c.float_of-m.ensures r) (get_or c.args.weights.now c.args.i nan)) ∙ mass-weighed _ _ _ c.if-weights-eq0.false

@@ -5,4 +5,5 @@ use Rattle.criterion.proofs.no_side.Goals as goal
 
 pub returns : goal.returns
 unfolding total totals_of
-returns c = λ i. record { totals = c.no_rows-totals.ensures i; count = 0 }
+returns c =
+    λ i. record { totals = c.no_rows-totals.ensures i; count = 0 }

@@ -12,4 +12,5 @@ returns-then-f c = simp (c.if-t.false, c.if-f.true)
 
 pub returns : goal.returns
 unfolding proxy massless gap
-returns c = rw (c.if-t.false, c.if-f.false)
+returns c =
+    rw (c.if-t.false, c.if-f.false)

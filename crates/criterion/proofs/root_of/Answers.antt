@@ -1,5 +1,5 @@
 -- `criterion::root_of` meets its contract: the loop ends at the first number whose next square is above n, and there is one such number. Assumes nothing.
-use Rattle.std.proofs.Common.{ℕ, zero, suc, ◌+◌, ◌*◌, ◌-◌, ◌≤◌, arith}
+use Rattle.std.proofs.Common.{ℕ, zero, suc, ◌+◌, ◌*◌, ◌≤◌, arith}
 use Rattle.lemmas.specs.Tried.{root-only}
 use Rattle.criterion.proofs.root_of.Goals as goal
 
@@ -29,4 +29,5 @@ pub loop-r-preserved : goal.loop-r-preserved
 loop-r-preserved c = omega (arith, c.loop-r-test.true, below-square (c.loop-r.r + 1))
 
 pub returns : goal.returns
-returns c = root-only _ _ (c.loop-r.invariant.0, omega (arith, c.loop-r-test.false))
+returns c =
+    root-only _ _ (c.loop-r.invariant.0, omega (arith, c.loop-r-test.false))

@@ -5,4 +5,5 @@ use Rattle.criterion.proofs.take_in.Goals as goal
 
 pub returns : goal.returns
 unfolding take_in
-returns c = refl
+returns c =
+    refl

@@ -8,4 +8,5 @@ returns-in-Unsaid c = c.root_of.ensures ∙ ap (tried_of c.args.features) (sym c
 
 pub returns-in-Number : goal.returns-in-Number
 unfolding tried_of
-returns-in-Number c = simp c.in-Number.is
+returns-in-Number c =
+    simp c.in-Number.is

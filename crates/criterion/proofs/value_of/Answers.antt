@@ -8,4 +8,5 @@ returns-then-t c = rw c.if-t.true
 
 pub returns-else-t : goal.returns-else-t
 unfolding value_of
-returns-else-t c = rw c.if-t.false
+returns-else-t c =
+    rw c.if-t.false

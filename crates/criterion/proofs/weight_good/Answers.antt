@@ -9,4 +9,5 @@ returns-then-is_finite c = rw (sym c.is_finite.ensures, c.if-is_finite.true)
 
 pub returns-else-is_finite : goal.returns-else-is_finite
 unfolding good_weight
-returns-else-is_finite c = rw (sym c.is_finite.ensures, c.if-is_finite.false)
+returns-else-is_finite c =
+    rw (sym c.is_finite.ensures, c.if-is_finite.false)

@@ -6,4 +6,5 @@ pub returns-then-x-threshold : goal.returns-then-x-threshold
 returns-then-x-threshold c = sym (ap (λ b. cond b c.args.truechild (suc c.args.truechild)) c.if-x-threshold.true)
 
 pub returns-else-x-threshold : goal.returns-else-x-threshold
-returns-else-x-threshold c = add-one c.args.truechild ∙ sym (ap (λ b. cond b c.args.truechild (suc c.args.truechild)) c.if-x-threshold.false)
+returns-else-x-threshold c =
+    add-one c.args.truechild ∙ sym (ap (λ b. cond b c.args.truechild (suc c.args.truechild)) c.if-x-threshold.false)

@@ -7,4 +7,5 @@ pub returns-then-truechild-eq0 : goal.returns-then-truechild-eq0
 returns-then-truechild-eq0 c = and-on _ _ (eq-eqb _ _ c.if-truechild-eq0.true) refl
 
 pub returns-else-truechild-eq0 : goal.returns-else-truechild-eq0
-returns-else-truechild-eq0 c = and-off _ _ (ne_eqb _ _ c.if-truechild-eq0.false)
+returns-else-truechild-eq0 c =
+    and-off _ _ (ne_eqb _ _ c.if-truechild-eq0.false)

@@ -7,4 +7,5 @@ pub returns-then-is_leaf : goal.returns-then-is_leaf
 returns-then-is_leaf c = node-told _ _ _ _ _ _ true (sym c.is_leaf.ensures ∙ c.if-is_leaf.true)
 
 pub returns : goal.returns
-returns c = node-told _ _ _ _ _ _ false (sym c.is_leaf.ensures ∙ c.if-is_leaf.false)
+returns c =
+    node-told _ _ _ _ _ _ false (sym c.is_leaf.ensures ∙ c.if-is_leaf.false)

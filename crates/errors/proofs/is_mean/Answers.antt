@@ -3,4 +3,5 @@ use Rattle.errors.specs.Errors.{eq_self}
 use Rattle.errors.proofs.is_mean.Goals as goal
 
 pub returns : goal.returns
-returns c = eq_self c.args.m
+returns c =
+    eq_self c.args.m

@@ -1,5 +1,5 @@
 -- `errors::rows_with_mean` meets its contract: the rows counted so far, with those from i on, are all. Assumes nothing.
-use Rattle.std.proofs.Common.{arith, sym, ◌∙◌, ◌-◌, true, false}
+use Rattle.std.proofs.Common.{arith, sym, ◌∙◌, true, false}
 use Rattle.errors.specs.Errors.{means-next, means-end}
 use Rattle.errors.proofs.rows_with_mean.Goals as goal
 use Rattle.errors.proofs.rows_with_mean.Goals.{then-is_mean, else-is_mean}
@@ -19,4 +19,5 @@ loop-i-preserved c =
     ]
 
 pub returns : goal.returns
-returns c = means-end c.args.means.now c.loop-i.n c.loop-i.i c.loop-i-test.false c.loop-i.invariant.0
+returns c =
+    means-end c.args.means.now c.loop-i.n c.loop-i.i c.loop-i-test.false c.loop-i.invariant.0

@@ -14,7 +14,7 @@ unfolding scores_at
 returns-in-Misread-g c =
     sym
     (ap node_field
-    (goes_on _ ((is_said _ _ _ (sym c.pattern_in-f.ensures ∙ c.in-Says.is)))
+    (goes_on _ (is_said _ _ _ (sym c.pattern_in-f.ensures ∙ c.in-Says.is))
     ∙ stops_at _ (is-misread _ _ (sym c.pattern_in-g.ensures ∙ c.in-Misread-g.is))))
 
 pub returns-in-Says-g : goal.returns-in-Says-g
@@ -32,4 +32,4 @@ returns-in-Says-g c =
       falsechild = add-one a.child i;
     })
     c.in-Says-g.end)
-    ∙ sym (ap node_field (goes_on _ ((is_said _ _ _ (sym c.pattern_in-f.ensures ∙ c.in-Says.is))) ∙ goes_on _ ((is_said _ _ _ (sym c.pattern_in-g.ensures ∙ c.in-Says-g.is)))))
+    ∙ sym (ap node_field (goes_on _ (is_said _ _ _ (sym c.pattern_in-f.ensures ∙ c.in-Says.is)) ∙ goes_on _ (is_said _ _ _ (sym c.pattern_in-g.ensures ∙ c.in-Says-g.is))))

@@ -1,5 +1,5 @@
 -- `fields::take` meets its contract: the bytes are there if the place is no further than k before the end. Assumes nothing.
-use Rattle.std.proofs.Common.{ℕ, ◌+◌, ◌-◌, ◌≤◌, ◌<◌, arith, ◌≡◌, sym, ap, ◌∙◌, Bool, cond, List, length, le-leb}
+use Rattle.std.proofs.Common.{ℕ, ◌+◌, ◌≤◌, ◌<◌, arith, ◌≡◌, sym, ap, ◌∙◌, Bool, cond, List, length, le-leb}
 use borrow.Author.Tests.{lt-leb}
 use Rattle.rules.specs.Words.{stretch}
 use Rattle.rules.specs.Bytes.{number_in}

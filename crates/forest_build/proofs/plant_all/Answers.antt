@@ -151,4 +151,5 @@ pub shape_of-reals : goal.shape_of-reals
 shape_of-reals c = c.loop-t.invariant.reals
 
 pub returns : goal.returns
-returns c = going_end _ _ _ _ _ _ _ _ _ _ c.loop-t.invariant (omega (arith, c.loop-t-test.false))
+returns c =
+    going_end _ _ _ _ _ _ _ _ _ _ c.loop-t.invariant (omega (arith, c.loop-t-test.false))

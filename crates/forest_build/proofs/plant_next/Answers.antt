@@ -105,57 +105,90 @@ slice_bounds-plant-end-8 c = le_refl (length c.args.nodemass.now)
 
 pub offset_bounds-counts-count : goal.offset_bounds-counts-count
 offset_bounds-counts-count c =
+    let counts-in : Within c.parts_of-part.result.count c.parts_of-part.result.countend (length c.args.counts.now) = let a = c.args in counts-within a.rows a.t
+    (length a.counts.now) a.wordstarts.now a.thresholdstarts.now c.parts_of-part.result c.parts_of-part.ensures c.requires.counted in
     omega (
       arith,
-      ((let counts-in : Within c.parts_of-part.result.count c.parts_of-part.result.countend (length c.args.counts.now) = let a = c.args in counts-within a.rows a.t (length a.counts.now) a.wordstarts.now a.thresholdstarts.now c.parts_of-part.result c.parts_of-part.ensures c.requires.counted in counts-in)).order,
-      ((let counts-in : Within c.parts_of-part.result.count c.parts_of-part.result.countend (length c.args.counts.now) = let a = c.args in counts-within a.rows a.t (length a.counts.now) a.wordstarts.now a.thresholdstarts.now c.parts_of-part.result c.parts_of-part.ensures c.requires.counted in counts-in)).high,
+      counts-in.order,
+      counts-in.high,
       c.well_formed.1.1.1.1.1.1.1.1.1.1.1.1.1.1.1.1.0,
     )
 
 pub slice_bounds-plant-count-9 : goal.slice_bounds-plant-count-9
-slice_bounds-plant-count-9 c = ((let counts-in : Within c.parts_of-part.result.count c.parts_of-part.result.countend (length c.args.counts.now) = let a = c.args in counts-within a.rows a.t (length a.counts.now) a.wordstarts.now a.thresholdstarts.now c.parts_of-part.result c.parts_of-part.ensures c.requires.counted in counts-in)).order
+slice_bounds-plant-count-9 c =
+    let counts-in : Within c.parts_of-part.result.count c.parts_of-part.result.countend (length c.args.counts.now) = let a = c.args in counts-within a.rows a.t
+    (length a.counts.now) a.wordstarts.now a.thresholdstarts.now c.parts_of-part.result c.parts_of-part.ensures c.requires.counted in
+    counts-in.order
 
 pub slice_bounds-plant-start-9 : goal.slice_bounds-plant-start-9
-slice_bounds-plant-start-9 c = ((let counts-in : Within c.parts_of-part.result.count c.parts_of-part.result.countend (length c.args.counts.now) = let a = c.args in counts-within a.rows a.t (length a.counts.now) a.wordstarts.now a.thresholdstarts.now c.parts_of-part.result c.parts_of-part.ensures c.requires.counted in counts-in)).order
+slice_bounds-plant-start-9 c =
+    let counts-in : Within c.parts_of-part.result.count c.parts_of-part.result.countend (length c.args.counts.now) = let a = c.args in counts-within a.rows a.t
+    (length a.counts.now) a.wordstarts.now a.thresholdstarts.now c.parts_of-part.result c.parts_of-part.ensures c.requires.counted in
+    counts-in.order
 
 pub slice_bounds-plant-end-9 : goal.slice_bounds-plant-end-9
-slice_bounds-plant-end-9 c = ((let counts-in : Within c.parts_of-part.result.count c.parts_of-part.result.countend (length c.args.counts.now) = let a = c.args in counts-within a.rows a.t (length a.counts.now) a.wordstarts.now a.thresholdstarts.now c.parts_of-part.result c.parts_of-part.ensures c.requires.counted in counts-in)).high
+slice_bounds-plant-end-9 c =
+    let counts-in : Within c.parts_of-part.result.count c.parts_of-part.result.countend (length c.args.counts.now) = let a = c.args in counts-within a.rows a.t
+    (length a.counts.now) a.wordstarts.now a.thresholdstarts.now c.parts_of-part.result c.parts_of-part.ensures c.requires.counted in
+    counts-in.high
 
 pub offset_bounds-words-word : goal.offset_bounds-words-word
 offset_bounds-words-word c =
+    let words-in : Within c.parts_of-part.result.word c.parts_of-part.result.wordend (length c.args.words.now) = let a = c.args in words-within a.rows a.t (length a.words.now)
+    a.wordstarts.now a.thresholdstarts.now c.parts_of-part.result c.parts_of-part.ensures c.requires.word in
     omega (
       arith,
-      ((let words-in : Within c.parts_of-part.result.word c.parts_of-part.result.wordend (length c.args.words.now) = let a = c.args in words-within a.rows a.t (length a.words.now) a.wordstarts.now a.thresholdstarts.now c.parts_of-part.result c.parts_of-part.ensures c.requires.word in words-in)).order,
-      ((let words-in : Within c.parts_of-part.result.word c.parts_of-part.result.wordend (length c.args.words.now) = let a = c.args in words-within a.rows a.t (length a.words.now) a.wordstarts.now a.thresholdstarts.now c.parts_of-part.result c.parts_of-part.ensures c.requires.word in words-in)).high,
+      words-in.order,
+      words-in.high,
       c.well_formed.1.1.1.1.1.1.1.1.1.1.1.1.1.1.1.1.1.1.0,
     )
 
 pub slice_bounds-plant-count-10 : goal.slice_bounds-plant-count-10
-slice_bounds-plant-count-10 c = ((let words-in : Within c.parts_of-part.result.word c.parts_of-part.result.wordend (length c.args.words.now) = let a = c.args in words-within a.rows a.t (length a.words.now) a.wordstarts.now a.thresholdstarts.now c.parts_of-part.result c.parts_of-part.ensures c.requires.word in words-in)).order
+slice_bounds-plant-count-10 c =
+    let words-in : Within c.parts_of-part.result.word c.parts_of-part.result.wordend (length c.args.words.now) = let a = c.args in words-within a.rows a.t (length a.words.now)
+    a.wordstarts.now a.thresholdstarts.now c.parts_of-part.result c.parts_of-part.ensures c.requires.word in
+    words-in.order
 
 pub slice_bounds-plant-start-10 : goal.slice_bounds-plant-start-10
-slice_bounds-plant-start-10 c = ((let words-in : Within c.parts_of-part.result.word c.parts_of-part.result.wordend (length c.args.words.now) = let a = c.args in words-within a.rows a.t (length a.words.now) a.wordstarts.now a.thresholdstarts.now c.parts_of-part.result c.parts_of-part.ensures c.requires.word in words-in)).order
+slice_bounds-plant-start-10 c =
+    let words-in : Within c.parts_of-part.result.word c.parts_of-part.result.wordend (length c.args.words.now) = let a = c.args in words-within a.rows a.t (length a.words.now)
+    a.wordstarts.now a.thresholdstarts.now c.parts_of-part.result c.parts_of-part.ensures c.requires.word in
+    words-in.order
 
 pub slice_bounds-plant-end-10 : goal.slice_bounds-plant-end-10
-slice_bounds-plant-end-10 c = ((let words-in : Within c.parts_of-part.result.word c.parts_of-part.result.wordend (length c.args.words.now) = let a = c.args in words-within a.rows a.t (length a.words.now) a.wordstarts.now a.thresholdstarts.now c.parts_of-part.result c.parts_of-part.ensures c.requires.word in words-in)).high
+slice_bounds-plant-end-10 c =
+    let words-in : Within c.parts_of-part.result.word c.parts_of-part.result.wordend (length c.args.words.now) = let a = c.args in words-within a.rows a.t (length a.words.now)
+    a.wordstarts.now a.thresholdstarts.now c.parts_of-part.result c.parts_of-part.ensures c.requires.word in
+    words-in.high
 
 pub offset_bounds-thresholds-cut : goal.offset_bounds-thresholds-cut
 offset_bounds-thresholds-cut c =
+    let thresholds-in : Within c.parts_of-part.result.threshold c.parts_of-part.result.thresholdend (length c.args.thresholds.now) = let a = c.args in thresholds-within a.rows a.t
+    (length a.thresholds.now) a.wordstarts.now a.thresholdstarts.now c.parts_of-part.result c.parts_of-part.ensures c.requires.threshold in
     omega (
       arith,
-      ((let thresholds-in : Within c.parts_of-part.result.threshold c.parts_of-part.result.thresholdend (length c.args.thresholds.now) = let a = c.args in thresholds-within a.rows a.t (length a.thresholds.now) a.wordstarts.now a.thresholdstarts.now c.parts_of-part.result c.parts_of-part.ensures c.requires.threshold in thresholds-in)).order,
-      ((let thresholds-in : Within c.parts_of-part.result.threshold c.parts_of-part.result.thresholdend (length c.args.thresholds.now) = let a = c.args in thresholds-within a.rows a.t (length a.thresholds.now) a.wordstarts.now a.thresholdstarts.now c.parts_of-part.result c.parts_of-part.ensures c.requires.threshold in thresholds-in)).high,
+      thresholds-in.order,
+      thresholds-in.high,
       c.well_formed.1.1.1.1.1.1.1.1.1.1.1.1.1.1.1.1.1.1.1.0,
     )
 
 pub slice_bounds-plant-count-11 : goal.slice_bounds-plant-count-11
-slice_bounds-plant-count-11 c = ((let thresholds-in : Within c.parts_of-part.result.threshold c.parts_of-part.result.thresholdend (length c.args.thresholds.now) = let a = c.args in thresholds-within a.rows a.t (length a.thresholds.now) a.wordstarts.now a.thresholdstarts.now c.parts_of-part.result c.parts_of-part.ensures c.requires.threshold in thresholds-in)).order
+slice_bounds-plant-count-11 c =
+    let thresholds-in : Within c.parts_of-part.result.threshold c.parts_of-part.result.thresholdend (length c.args.thresholds.now) = let a = c.args in thresholds-within a.rows a.t
+    (length a.thresholds.now) a.wordstarts.now a.thresholdstarts.now c.parts_of-part.result c.parts_of-part.ensures c.requires.threshold in
+    thresholds-in.order
 
 pub slice_bounds-plant-start-11 : goal.slice_bounds-plant-start-11
-slice_bounds-plant-start-11 c = ((let thresholds-in : Within c.parts_of-part.result.threshold c.parts_of-part.result.thresholdend (length c.args.thresholds.now) = let a = c.args in thresholds-within a.rows a.t (length a.thresholds.now) a.wordstarts.now a.thresholdstarts.now c.parts_of-part.result c.parts_of-part.ensures c.requires.threshold in thresholds-in)).order
+slice_bounds-plant-start-11 c =
+    let thresholds-in : Within c.parts_of-part.result.threshold c.parts_of-part.result.thresholdend (length c.args.thresholds.now) = let a = c.args in thresholds-within a.rows a.t
+    (length a.thresholds.now) a.wordstarts.now a.thresholdstarts.now c.parts_of-part.result c.parts_of-part.ensures c.requires.threshold in
+    thresholds-in.order
 
 pub slice_bounds-plant-end-11 : goal.slice_bounds-plant-end-11
-slice_bounds-plant-end-11 c = ((let thresholds-in : Within c.parts_of-part.result.threshold c.parts_of-part.result.thresholdend (length c.args.thresholds.now) = let a = c.args in thresholds-within a.rows a.t (length a.thresholds.now) a.wordstarts.now a.thresholdstarts.now c.parts_of-part.result c.parts_of-part.ensures c.requires.threshold in thresholds-in)).high
+slice_bounds-plant-end-11 c =
+    let thresholds-in : Within c.parts_of-part.result.threshold c.parts_of-part.result.thresholdend (length c.args.thresholds.now) = let a = c.args in thresholds-within a.rows a.t
+    (length a.thresholds.now) a.wordstarts.now a.thresholdstarts.now c.parts_of-part.result c.parts_of-part.ensures c.requires.threshold in
+    thresholds-in.high
 
 pub plant-requires : goal.plant-requires
 plant-requires c = next-asks _ _ _ _ _ c.requires _ c.parts_of-part.ensures _ _
@@ -216,4 +249,5 @@ pub shape_of-reals : goal.shape_of-reals
 shape_of-reals c = c.plant.auto.reals
 
 pub returns : goal.returns
-returns c = next-done _ _ _ _ _ c.requires _ c.parts_of-part.ensures _ _ c.plant.ensures
+returns c =
+    next-done _ _ _ _ _ c.requires _ c.parts_of-part.ensures _ _ c.plant.ensures

@@ -20,17 +20,135 @@ ready-plan-requires c = tt
 
 pub grow-told-requires : goal.grow-told-requires
 grow-told-requires c =
-    all-asks ((forest_call c.args.shape c.args.trees c.args.settings c.args.tried (given_of c.args.values.now c.args.targets.now c.args.weights.now c.args.counts.now c.args.listings.now) c.args.words.now c.args.thresholds.now c.args.wordstarts.now c.args.thresholdstarts.now)) ((forest_rooms_of (columns_of c.args.value.now c.args.feature.now c.args.threshold.now c.args.score.now c.args.truechild.now c.args.falsechild.now) (behind_of c.args.nodecount.now c.args.nodemass.now) c.args.starts.now (reports_of c.args.nodes.now c.args.depth.now c.args.mass.now c.args.searches.now c.args.wordsused.now c.args.thresholdsused.now) (work_of c.args.order.now c.args.scratch.now c.args.flags.now c.args.wholes.now c.args.reals.now))) ((let grows : Grows ((forest_call c.args.shape c.args.trees c.args.settings c.args.tried (given_of c.args.values.now c.args.targets.now c.args.weights.now c.args.counts.now c.args.listings.now) c.args.words.now c.args.thresholds.now c.args.wordstarts.now c.args.thresholdstarts.now)) ((forest_rooms_of (columns_of c.args.value.now c.args.feature.now c.args.threshold.now c.args.score.now c.args.truechild.now c.args.falsechild.now) (behind_of c.args.nodecount.now c.args.nodemass.now) c.args.starts.now (reports_of c.args.nodes.now c.args.depth.now c.args.mass.now c.args.searches.now c.args.wordsused.now c.args.thresholdsused.now) (work_of c.args.order.now c.args.scratch.now c.args.flags.now c.args.wholes.now c.args.reals.now))) c.in-Grow.growing = subst (Ready ((forest_call c.args.shape c.args.trees c.args.settings c.args.tried (given_of c.args.values.now c.args.targets.now c.args.weights.now c.args.counts.now c.args.listings.now) c.args.words.now c.args.thresholds.now c.args.wordstarts.now c.args.thresholdstarts.now)) ((forest_rooms_of (columns_of c.args.value.now c.args.feature.now c.args.threshold.now c.args.score.now c.args.truechild.now c.args.falsechild.now) (behind_of c.args.nodecount.now c.args.nodemass.now) c.args.starts.now (reports_of c.args.nodes.now c.args.depth.now c.args.mass.now c.args.searches.now c.args.wordsused.now c.args.thresholdsused.now) (work_of c.args.order.now c.args.scratch.now c.args.flags.now c.args.wholes.now c.args.reals.now)))) c.in-Grow.is ((let plan : Ready ((forest_call c.args.shape c.args.trees c.args.settings c.args.tried (given_of c.args.values.now c.args.targets.now c.args.weights.now c.args.counts.now c.args.listings.now) c.args.words.now c.args.thresholds.now c.args.wordstarts.now c.args.thresholdstarts.now)) ((forest_rooms_of (columns_of c.args.value.now c.args.feature.now c.args.threshold.now c.args.score.now c.args.truechild.now c.args.falsechild.now) (behind_of c.args.nodecount.now c.args.nodemass.now) c.args.starts.now (reports_of c.args.nodes.now c.args.depth.now c.args.mass.now c.args.searches.now c.args.wordsused.now c.args.thresholdsused.now) (work_of c.args.order.now c.args.scratch.now c.args.flags.now c.args.wholes.now c.args.reals.now))) c.ready-plan.result = c.ready-plan.ensures ((forest_call c.args.shape c.args.trees c.args.settings c.args.tried (given_of c.args.values.now c.args.targets.now c.args.weights.now c.args.counts.now c.args.listings.now) c.args.words.now c.args.thresholds.now c.args.wordstarts.now c.args.thresholdstarts.now)) ((forest_rooms_of (columns_of c.args.value.now c.args.feature.now c.args.threshold.now c.args.score.now c.args.truechild.now c.args.falsechild.now) (behind_of c.args.nodecount.now c.args.nodemass.now) c.args.starts.now (reports_of c.args.nodes.now c.args.depth.now c.args.mass.now c.args.searches.now c.args.wordsused.now c.args.thresholdsused.now) (work_of c.args.order.now c.args.scratch.now c.args.flags.now c.args.wholes.now c.args.reals.now))) (record { shape = refl; trees = refl; given = refl; words = refl; thresholds = refl; word_starts = refl; threshold_starts = refl; nodes = c.shortest_of_eight-places.ensures; work = record { order = refl; scratch = refl; flags = refl; waiting = sym c.least-waiting.ensures }; starts = refl; reports = record { nodes = refl; depth = refl; mass = refl; searches = refl; words = refl; thresholds = refl } }) refl refl in plan)) in grows)).passed
+    let plan : Ready (forest_call c.args.shape c.args.trees c.args.settings c.args.tried
+    (given_of c.args.values.now c.args.targets.now c.args.weights.now c.args.counts.now c.args.listings.now) c.args.words.now c.args.thresholds.now c.args.wordstarts.now
+    c.args.thresholdstarts.now) (forest_rooms_of (columns_of c.args.value.now c.args.feature.now c.args.threshold.now c.args.score.now c.args.truechild.now c.args.falsechild.now)
+    (behind_of c.args.nodecount.now c.args.nodemass.now) c.args.starts.now
+    (reports_of c.args.nodes.now c.args.depth.now c.args.mass.now c.args.searches.now c.args.wordsused.now c.args.thresholdsused.now)
+    (work_of c.args.order.now c.args.scratch.now c.args.flags.now c.args.wholes.now c.args.reals.now)) c.ready-plan.result = c.ready-plan.ensures
+    (forest_call c.args.shape c.args.trees c.args.settings c.args.tried (given_of c.args.values.now c.args.targets.now c.args.weights.now c.args.counts.now c.args.listings.now)
+    c.args.words.now c.args.thresholds.now c.args.wordstarts.now c.args.thresholdstarts.now)
+    (forest_rooms_of (columns_of c.args.value.now c.args.feature.now c.args.threshold.now c.args.score.now c.args.truechild.now c.args.falsechild.now)
+    (behind_of c.args.nodecount.now c.args.nodemass.now) c.args.starts.now
+    (reports_of c.args.nodes.now c.args.depth.now c.args.mass.now c.args.searches.now c.args.wordsused.now c.args.thresholdsused.now)
+    (work_of c.args.order.now c.args.scratch.now c.args.flags.now c.args.wholes.now c.args.reals.now))
+    (record {
+      shape = refl;
+      trees = refl;
+      given = refl;
+      words = refl;
+      thresholds = refl;
+      word_starts = refl;
+      threshold_starts = refl;
+      nodes = c.shortest_of_eight-places.ensures;
+      work = record { order = refl; scratch = refl; flags = refl; waiting = sym c.least-waiting.ensures };
+      starts = refl;
+      reports = record
+          { nodes = refl; depth = refl; mass = refl; searches = refl; words = refl; thresholds = refl };
+    }) refl refl in
+    let grows : Grows (forest_call c.args.shape c.args.trees c.args.settings c.args.tried
+    (given_of c.args.values.now c.args.targets.now c.args.weights.now c.args.counts.now c.args.listings.now) c.args.words.now c.args.thresholds.now c.args.wordstarts.now
+    c.args.thresholdstarts.now) (forest_rooms_of (columns_of c.args.value.now c.args.feature.now c.args.threshold.now c.args.score.now c.args.truechild.now c.args.falsechild.now)
+    (behind_of c.args.nodecount.now c.args.nodemass.now) c.args.starts.now
+    (reports_of c.args.nodes.now c.args.depth.now c.args.mass.now c.args.searches.now c.args.wordsused.now c.args.thresholdsused.now)
+    (work_of c.args.order.now c.args.scratch.now c.args.flags.now c.args.wholes.now c.args.reals.now)) c.in-Grow.growing = subst
+    (Ready (forest_call c.args.shape c.args.trees c.args.settings c.args.tried
+    (given_of c.args.values.now c.args.targets.now c.args.weights.now c.args.counts.now c.args.listings.now) c.args.words.now c.args.thresholds.now c.args.wordstarts.now
+    c.args.thresholdstarts.now) (forest_rooms_of (columns_of c.args.value.now c.args.feature.now c.args.threshold.now c.args.score.now c.args.truechild.now c.args.falsechild.now)
+    (behind_of c.args.nodecount.now c.args.nodemass.now) c.args.starts.now
+    (reports_of c.args.nodes.now c.args.depth.now c.args.mass.now c.args.searches.now c.args.wordsused.now c.args.thresholdsused.now)
+    (work_of c.args.order.now c.args.scratch.now c.args.flags.now c.args.wholes.now c.args.reals.now))) c.in-Grow.is plan in
+    all-asks (forest_call c.args.shape c.args.trees c.args.settings c.args.tried
+    (given_of c.args.values.now c.args.targets.now c.args.weights.now c.args.counts.now c.args.listings.now) c.args.words.now c.args.thresholds.now c.args.wordstarts.now
+    c.args.thresholdstarts.now) (forest_rooms_of (columns_of c.args.value.now c.args.feature.now c.args.threshold.now c.args.score.now c.args.truechild.now c.args.falsechild.now)
+    (behind_of c.args.nodecount.now c.args.nodemass.now) c.args.starts.now
+    (reports_of c.args.nodes.now c.args.depth.now c.args.mass.now c.args.searches.now c.args.wordsused.now c.args.thresholdsused.now)
+    (work_of c.args.order.now c.args.scratch.now c.args.flags.now c.args.wholes.now c.args.reals.now)) grows.passed
     (every-each (λ x. T (fits binary64 x)) c.args.values.now nan (λ i. c.type_inv.values i))
-    _ ((let grows : Grows ((forest_call c.args.shape c.args.trees c.args.settings c.args.tried (given_of c.args.values.now c.args.targets.now c.args.weights.now c.args.counts.now c.args.listings.now) c.args.words.now c.args.thresholds.now c.args.wordstarts.now c.args.thresholdstarts.now)) ((forest_rooms_of (columns_of c.args.value.now c.args.feature.now c.args.threshold.now c.args.score.now c.args.truechild.now c.args.falsechild.now) (behind_of c.args.nodecount.now c.args.nodemass.now) c.args.starts.now (reports_of c.args.nodes.now c.args.depth.now c.args.mass.now c.args.searches.now c.args.wordsused.now c.args.thresholdsused.now) (work_of c.args.order.now c.args.scratch.now c.args.flags.now c.args.wholes.now c.args.reals.now))) c.in-Grow.growing = subst (Ready ((forest_call c.args.shape c.args.trees c.args.settings c.args.tried (given_of c.args.values.now c.args.targets.now c.args.weights.now c.args.counts.now c.args.listings.now) c.args.words.now c.args.thresholds.now c.args.wordstarts.now c.args.thresholdstarts.now)) ((forest_rooms_of (columns_of c.args.value.now c.args.feature.now c.args.threshold.now c.args.score.now c.args.truechild.now c.args.falsechild.now) (behind_of c.args.nodecount.now c.args.nodemass.now) c.args.starts.now (reports_of c.args.nodes.now c.args.depth.now c.args.mass.now c.args.searches.now c.args.wordsused.now c.args.thresholdsused.now) (work_of c.args.order.now c.args.scratch.now c.args.flags.now c.args.wholes.now c.args.reals.now)))) c.in-Grow.is ((let plan : Ready ((forest_call c.args.shape c.args.trees c.args.settings c.args.tried (given_of c.args.values.now c.args.targets.now c.args.weights.now c.args.counts.now c.args.listings.now) c.args.words.now c.args.thresholds.now c.args.wordstarts.now c.args.thresholdstarts.now)) ((forest_rooms_of (columns_of c.args.value.now c.args.feature.now c.args.threshold.now c.args.score.now c.args.truechild.now c.args.falsechild.now) (behind_of c.args.nodecount.now c.args.nodemass.now) c.args.starts.now (reports_of c.args.nodes.now c.args.depth.now c.args.mass.now c.args.searches.now c.args.wordsused.now c.args.thresholdsused.now) (work_of c.args.order.now c.args.scratch.now c.args.flags.now c.args.wholes.now c.args.reals.now))) c.ready-plan.result = c.ready-plan.ensures ((forest_call c.args.shape c.args.trees c.args.settings c.args.tried (given_of c.args.values.now c.args.targets.now c.args.weights.now c.args.counts.now c.args.listings.now) c.args.words.now c.args.thresholds.now c.args.wordstarts.now c.args.thresholdstarts.now)) ((forest_rooms_of (columns_of c.args.value.now c.args.feature.now c.args.threshold.now c.args.score.now c.args.truechild.now c.args.falsechild.now) (behind_of c.args.nodecount.now c.args.nodemass.now) c.args.starts.now (reports_of c.args.nodes.now c.args.depth.now c.args.mass.now c.args.searches.now c.args.wordsused.now c.args.thresholdsused.now) (work_of c.args.order.now c.args.scratch.now c.args.flags.now c.args.wholes.now c.args.reals.now))) (record { shape = refl; trees = refl; given = refl; words = refl; thresholds = refl; word_starts = refl; threshold_starts = refl; nodes = c.shortest_of_eight-places.ensures; work = record { order = refl; scratch = refl; flags = refl; waiting = sym c.least-waiting.ensures }; starts = refl; reports = record { nodes = refl; depth = refl; mass = refl; searches = refl; words = refl; thresholds = refl } }) refl refl in plan)) in grows)).made _ ((let grows : Grows ((forest_call c.args.shape c.args.trees c.args.settings c.args.tried (given_of c.args.values.now c.args.targets.now c.args.weights.now c.args.counts.now c.args.listings.now) c.args.words.now c.args.thresholds.now c.args.wordstarts.now c.args.thresholdstarts.now)) ((forest_rooms_of (columns_of c.args.value.now c.args.feature.now c.args.threshold.now c.args.score.now c.args.truechild.now c.args.falsechild.now) (behind_of c.args.nodecount.now c.args.nodemass.now) c.args.starts.now (reports_of c.args.nodes.now c.args.depth.now c.args.mass.now c.args.searches.now c.args.wordsused.now c.args.thresholdsused.now) (work_of c.args.order.now c.args.scratch.now c.args.flags.now c.args.wholes.now c.args.reals.now))) c.in-Grow.growing = subst (Ready ((forest_call c.args.shape c.args.trees c.args.settings c.args.tried (given_of c.args.values.now c.args.targets.now c.args.weights.now c.args.counts.now c.args.listings.now) c.args.words.now c.args.thresholds.now c.args.wordstarts.now c.args.thresholdstarts.now)) ((forest_rooms_of (columns_of c.args.value.now c.args.feature.now c.args.threshold.now c.args.score.now c.args.truechild.now c.args.falsechild.now) (behind_of c.args.nodecount.now c.args.nodemass.now) c.args.starts.now (reports_of c.args.nodes.now c.args.depth.now c.args.mass.now c.args.searches.now c.args.wordsused.now c.args.thresholdsused.now) (work_of c.args.order.now c.args.scratch.now c.args.flags.now c.args.wholes.now c.args.reals.now)))) c.in-Grow.is ((let plan : Ready ((forest_call c.args.shape c.args.trees c.args.settings c.args.tried (given_of c.args.values.now c.args.targets.now c.args.weights.now c.args.counts.now c.args.listings.now) c.args.words.now c.args.thresholds.now c.args.wordstarts.now c.args.thresholdstarts.now)) ((forest_rooms_of (columns_of c.args.value.now c.args.feature.now c.args.threshold.now c.args.score.now c.args.truechild.now c.args.falsechild.now) (behind_of c.args.nodecount.now c.args.nodemass.now) c.args.starts.now (reports_of c.args.nodes.now c.args.depth.now c.args.mass.now c.args.searches.now c.args.wordsused.now c.args.thresholdsused.now) (work_of c.args.order.now c.args.scratch.now c.args.flags.now c.args.wholes.now c.args.reals.now))) c.ready-plan.result = c.ready-plan.ensures ((forest_call c.args.shape c.args.trees c.args.settings c.args.tried (given_of c.args.values.now c.args.targets.now c.args.weights.now c.args.counts.now c.args.listings.now) c.args.words.now c.args.thresholds.now c.args.wordstarts.now c.args.thresholdstarts.now)) ((forest_rooms_of (columns_of c.args.value.now c.args.feature.now c.args.threshold.now c.args.score.now c.args.truechild.now c.args.falsechild.now) (behind_of c.args.nodecount.now c.args.nodemass.now) c.args.starts.now (reports_of c.args.nodes.now c.args.depth.now c.args.mass.now c.args.searches.now c.args.wordsused.now c.args.thresholdsused.now) (work_of c.args.order.now c.args.scratch.now c.args.flags.now c.args.wholes.now c.args.reals.now))) (record { shape = refl; trees = refl; given = refl; words = refl; thresholds = refl; word_starts = refl; threshold_starts = refl; nodes = c.shortest_of_eight-places.ensures; work = record { order = refl; scratch = refl; flags = refl; waiting = sym c.least-waiting.ensures }; starts = refl; reports = record { nodes = refl; depth = refl; mass = refl; searches = refl; words = refl; thresholds = refl } }) refl refl in plan)) in grows)).size
+    _ grows.made _ grows.size
 
 pub tell-requires : goal.tell-requires
-tell-requires c = tell-asks ((forest_call c.args.shape c.args.trees c.args.settings c.args.tried (given_of c.args.values.now c.args.targets.now c.args.weights.now c.args.counts.now c.args.listings.now) c.args.words.now c.args.thresholds.now c.args.wordstarts.now c.args.thresholdstarts.now)) ((forest_rooms_of (columns_of c.args.value.now c.args.feature.now c.args.threshold.now c.args.score.now c.args.truechild.now c.args.falsechild.now) (behind_of c.args.nodecount.now c.args.nodemass.now) c.args.starts.now (reports_of c.args.nodes.now c.args.depth.now c.args.mass.now c.args.searches.now c.args.wordsused.now c.args.thresholdsused.now) (work_of c.args.order.now c.args.scratch.now c.args.flags.now c.args.wholes.now c.args.reals.now))) ((let grows : Grows ((forest_call c.args.shape c.args.trees c.args.settings c.args.tried (given_of c.args.values.now c.args.targets.now c.args.weights.now c.args.counts.now c.args.listings.now) c.args.words.now c.args.thresholds.now c.args.wordstarts.now c.args.thresholdstarts.now)) ((forest_rooms_of (columns_of c.args.value.now c.args.feature.now c.args.threshold.now c.args.score.now c.args.truechild.now c.args.falsechild.now) (behind_of c.args.nodecount.now c.args.nodemass.now) c.args.starts.now (reports_of c.args.nodes.now c.args.depth.now c.args.mass.now c.args.searches.now c.args.wordsused.now c.args.thresholdsused.now) (work_of c.args.order.now c.args.scratch.now c.args.flags.now c.args.wholes.now c.args.reals.now))) c.in-Grow.growing = subst (Ready ((forest_call c.args.shape c.args.trees c.args.settings c.args.tried (given_of c.args.values.now c.args.targets.now c.args.weights.now c.args.counts.now c.args.listings.now) c.args.words.now c.args.thresholds.now c.args.wordstarts.now c.args.thresholdstarts.now)) ((forest_rooms_of (columns_of c.args.value.now c.args.feature.now c.args.threshold.now c.args.score.now c.args.truechild.now c.args.falsechild.now) (behind_of c.args.nodecount.now c.args.nodemass.now) c.args.starts.now (reports_of c.args.nodes.now c.args.depth.now c.args.mass.now c.args.searches.now c.args.wordsused.now c.args.thresholdsused.now) (work_of c.args.order.now c.args.scratch.now c.args.flags.now c.args.wholes.now c.args.reals.now)))) c.in-Grow.is ((let plan : Ready ((forest_call c.args.shape c.args.trees c.args.settings c.args.tried (given_of c.args.values.now c.args.targets.now c.args.weights.now c.args.counts.now c.args.listings.now) c.args.words.now c.args.thresholds.now c.args.wordstarts.now c.args.thresholdstarts.now)) ((forest_rooms_of (columns_of c.args.value.now c.args.feature.now c.args.threshold.now c.args.score.now c.args.truechild.now c.args.falsechild.now) (behind_of c.args.nodecount.now c.args.nodemass.now) c.args.starts.now (reports_of c.args.nodes.now c.args.depth.now c.args.mass.now c.args.searches.now c.args.wordsused.now c.args.thresholdsused.now) (work_of c.args.order.now c.args.scratch.now c.args.flags.now c.args.wholes.now c.args.reals.now))) c.ready-plan.result = c.ready-plan.ensures ((forest_call c.args.shape c.args.trees c.args.settings c.args.tried (given_of c.args.values.now c.args.targets.now c.args.weights.now c.args.counts.now c.args.listings.now) c.args.words.now c.args.thresholds.now c.args.wordstarts.now c.args.thresholdstarts.now)) ((forest_rooms_of (columns_of c.args.value.now c.args.feature.now c.args.threshold.now c.args.score.now c.args.truechild.now c.args.falsechild.now) (behind_of c.args.nodecount.now c.args.nodemass.now) c.args.starts.now (reports_of c.args.nodes.now c.args.depth.now c.args.mass.now c.args.searches.now c.args.wordsused.now c.args.thresholdsused.now) (work_of c.args.order.now c.args.scratch.now c.args.flags.now c.args.wholes.now c.args.reals.now))) (record { shape = refl; trees = refl; given = refl; words = refl; thresholds = refl; word_starts = refl; threshold_starts = refl; nodes = c.shortest_of_eight-places.ensures; work = record { order = refl; scratch = refl; flags = refl; waiting = sym c.least-waiting.ensures }; starts = refl; reports = record { nodes = refl; depth = refl; mass = refl; searches = refl; words = refl; thresholds = refl } }) refl refl in plan)) in grows)).passed _ _ c.grow-told.ensures.long
+tell-requires c =
+    let plan : Ready (forest_call c.args.shape c.args.trees c.args.settings c.args.tried
+    (given_of c.args.values.now c.args.targets.now c.args.weights.now c.args.counts.now c.args.listings.now) c.args.words.now c.args.thresholds.now c.args.wordstarts.now
+    c.args.thresholdstarts.now) (forest_rooms_of (columns_of c.args.value.now c.args.feature.now c.args.threshold.now c.args.score.now c.args.truechild.now c.args.falsechild.now)
+    (behind_of c.args.nodecount.now c.args.nodemass.now) c.args.starts.now
+    (reports_of c.args.nodes.now c.args.depth.now c.args.mass.now c.args.searches.now c.args.wordsused.now c.args.thresholdsused.now)
+    (work_of c.args.order.now c.args.scratch.now c.args.flags.now c.args.wholes.now c.args.reals.now)) c.ready-plan.result = c.ready-plan.ensures
+    (forest_call c.args.shape c.args.trees c.args.settings c.args.tried (given_of c.args.values.now c.args.targets.now c.args.weights.now c.args.counts.now c.args.listings.now)
+    c.args.words.now c.args.thresholds.now c.args.wordstarts.now c.args.thresholdstarts.now)
+    (forest_rooms_of (columns_of c.args.value.now c.args.feature.now c.args.threshold.now c.args.score.now c.args.truechild.now c.args.falsechild.now)
+    (behind_of c.args.nodecount.now c.args.nodemass.now) c.args.starts.now
+    (reports_of c.args.nodes.now c.args.depth.now c.args.mass.now c.args.searches.now c.args.wordsused.now c.args.thresholdsused.now)
+    (work_of c.args.order.now c.args.scratch.now c.args.flags.now c.args.wholes.now c.args.reals.now))
+    (record {
+      shape = refl;
+      trees = refl;
+      given = refl;
+      words = refl;
+      thresholds = refl;
+      word_starts = refl;
+      threshold_starts = refl;
+      nodes = c.shortest_of_eight-places.ensures;
+      work = record { order = refl; scratch = refl; flags = refl; waiting = sym c.least-waiting.ensures };
+      starts = refl;
+      reports = record
+          { nodes = refl; depth = refl; mass = refl; searches = refl; words = refl; thresholds = refl };
+    }) refl refl in
+    let grows : Grows (forest_call c.args.shape c.args.trees c.args.settings c.args.tried
+    (given_of c.args.values.now c.args.targets.now c.args.weights.now c.args.counts.now c.args.listings.now) c.args.words.now c.args.thresholds.now c.args.wordstarts.now
+    c.args.thresholdstarts.now) (forest_rooms_of (columns_of c.args.value.now c.args.feature.now c.args.threshold.now c.args.score.now c.args.truechild.now c.args.falsechild.now)
+    (behind_of c.args.nodecount.now c.args.nodemass.now) c.args.starts.now
+    (reports_of c.args.nodes.now c.args.depth.now c.args.mass.now c.args.searches.now c.args.wordsused.now c.args.thresholdsused.now)
+    (work_of c.args.order.now c.args.scratch.now c.args.flags.now c.args.wholes.now c.args.reals.now)) c.in-Grow.growing = subst
+    (Ready (forest_call c.args.shape c.args.trees c.args.settings c.args.tried
+    (given_of c.args.values.now c.args.targets.now c.args.weights.now c.args.counts.now c.args.listings.now) c.args.words.now c.args.thresholds.now c.args.wordstarts.now
+    c.args.thresholdstarts.now) (forest_rooms_of (columns_of c.args.value.now c.args.feature.now c.args.threshold.now c.args.score.now c.args.truechild.now c.args.falsechild.now)
+    (behind_of c.args.nodecount.now c.args.nodemass.now) c.args.starts.now
+    (reports_of c.args.nodes.now c.args.depth.now c.args.mass.now c.args.searches.now c.args.wordsused.now c.args.thresholdsused.now)
+    (work_of c.args.order.now c.args.scratch.now c.args.flags.now c.args.wholes.now c.args.reals.now))) c.in-Grow.is plan in
+    tell-asks (forest_call c.args.shape c.args.trees c.args.settings c.args.tried
+    (given_of c.args.values.now c.args.targets.now c.args.weights.now c.args.counts.now c.args.listings.now) c.args.words.now c.args.thresholds.now c.args.wordstarts.now
+    c.args.thresholdstarts.now) (forest_rooms_of (columns_of c.args.value.now c.args.feature.now c.args.threshold.now c.args.score.now c.args.truechild.now c.args.falsechild.now)
+    (behind_of c.args.nodecount.now c.args.nodemass.now) c.args.starts.now
+    (reports_of c.args.nodes.now c.args.depth.now c.args.mass.now c.args.searches.now c.args.wordsused.now c.args.thresholdsused.now)
+    (work_of c.args.order.now c.args.scratch.now c.args.flags.now c.args.wholes.now c.args.reals.now)) grows.passed _ _ c.grow-told.ensures.long
 
 pub returns-in-Refused : goal.returns-in-Refused
 returns-in-Refused c =
-    fit_refused _ _ _ (subst (Ready ((forest_call c.args.shape c.args.trees c.args.settings c.args.tried (given_of c.args.values.now c.args.targets.now c.args.weights.now c.args.counts.now c.args.listings.now) c.args.words.now c.args.thresholds.now c.args.wordstarts.now c.args.thresholdstarts.now)) ((forest_rooms_of (columns_of c.args.value.now c.args.feature.now c.args.threshold.now c.args.score.now c.args.truechild.now c.args.falsechild.now) (behind_of c.args.nodecount.now c.args.nodemass.now) c.args.starts.now (reports_of c.args.nodes.now c.args.depth.now c.args.mass.now c.args.searches.now c.args.wordsused.now c.args.thresholdsused.now) (work_of c.args.order.now c.args.scratch.now c.args.flags.now c.args.wholes.now c.args.reals.now)))) c.in-Refused.is
-    ((let plan : Ready ((forest_call c.args.shape c.args.trees c.args.settings c.args.tried (given_of c.args.values.now c.args.targets.now c.args.weights.now c.args.counts.now c.args.listings.now) c.args.words.now c.args.thresholds.now c.args.wordstarts.now c.args.thresholdstarts.now)) ((forest_rooms_of (columns_of c.args.value.now c.args.feature.now c.args.threshold.now c.args.score.now c.args.truechild.now c.args.falsechild.now) (behind_of c.args.nodecount.now c.args.nodemass.now) c.args.starts.now (reports_of c.args.nodes.now c.args.depth.now c.args.mass.now c.args.searches.now c.args.wordsused.now c.args.thresholdsused.now) (work_of c.args.order.now c.args.scratch.now c.args.flags.now c.args.wholes.now c.args.reals.now))) c.ready-plan.result = c.ready-plan.ensures ((forest_call c.args.shape c.args.trees c.args.settings c.args.tried (given_of c.args.values.now c.args.targets.now c.args.weights.now c.args.counts.now c.args.listings.now) c.args.words.now c.args.thresholds.now c.args.wordstarts.now c.args.thresholdstarts.now)) ((forest_rooms_of (columns_of c.args.value.now c.args.feature.now c.args.threshold.now c.args.score.now c.args.truechild.now c.args.falsechild.now) (behind_of c.args.nodecount.now c.args.nodemass.now) c.args.starts.now (reports_of c.args.nodes.now c.args.depth.now c.args.mass.now c.args.searches.now c.args.wordsused.now c.args.thresholdsused.now) (work_of c.args.order.now c.args.scratch.now c.args.flags.now c.args.wholes.now c.args.reals.now))) (record { shape = refl; trees = refl; given = refl; words = refl; thresholds = refl; word_starts = refl; threshold_starts = refl; nodes = c.shortest_of_eight-places.ensures; work = record { order = refl; scratch = refl; flags = refl; waiting = sym c.least-waiting.ensures }; starts = refl; reports = record { nodes = refl; depth = refl; mass = refl; searches = refl; words = refl; thresholds = refl } }) refl refl in plan)))
+    let plan : Ready (forest_call c.args.shape c.args.trees c.args.settings c.args.tried
+    (given_of c.args.values.now c.args.targets.now c.args.weights.now c.args.counts.now c.args.listings.now) c.args.words.now c.args.thresholds.now c.args.wordstarts.now
+    c.args.thresholdstarts.now) (forest_rooms_of (columns_of c.args.value.now c.args.feature.now c.args.threshold.now c.args.score.now c.args.truechild.now c.args.falsechild.now)
+    (behind_of c.args.nodecount.now c.args.nodemass.now) c.args.starts.now
+    (reports_of c.args.nodes.now c.args.depth.now c.args.mass.now c.args.searches.now c.args.wordsused.now c.args.thresholdsused.now)
+    (work_of c.args.order.now c.args.scratch.now c.args.flags.now c.args.wholes.now c.args.reals.now)) c.ready-plan.result = c.ready-plan.ensures
+    (forest_call c.args.shape c.args.trees c.args.settings c.args.tried (given_of c.args.values.now c.args.targets.now c.args.weights.now c.args.counts.now c.args.listings.now)
+    c.args.words.now c.args.thresholds.now c.args.wordstarts.now c.args.thresholdstarts.now)
+    (forest_rooms_of (columns_of c.args.value.now c.args.feature.now c.args.threshold.now c.args.score.now c.args.truechild.now c.args.falsechild.now)
+    (behind_of c.args.nodecount.now c.args.nodemass.now) c.args.starts.now
+    (reports_of c.args.nodes.now c.args.depth.now c.args.mass.now c.args.searches.now c.args.wordsused.now c.args.thresholdsused.now)
+    (work_of c.args.order.now c.args.scratch.now c.args.flags.now c.args.wholes.now c.args.reals.now))
+    (record {
+      shape = refl;
+      trees = refl;
+      given = refl;
+      words = refl;
+      thresholds = refl;
+      word_starts = refl;
+      threshold_starts = refl;
+      nodes = c.shortest_of_eight-places.ensures;
+      work = record { order = refl; scratch = refl; flags = refl; waiting = sym c.least-waiting.ensures };
+      starts = refl;
+      reports = record
+          { nodes = refl; depth = refl; mass = refl; searches = refl; words = refl; thresholds = refl };
+    }) refl refl in
+    fit_refused _ _ _ (subst (Ready (forest_call c.args.shape c.args.trees c.args.settings c.args.tried
+    (given_of c.args.values.now c.args.targets.now c.args.weights.now c.args.counts.now c.args.listings.now) c.args.words.now c.args.thresholds.now c.args.wordstarts.now
+    c.args.thresholdstarts.now) (forest_rooms_of (columns_of c.args.value.now c.args.feature.now c.args.threshold.now c.args.score.now c.args.truechild.now c.args.falsechild.now)
+    (behind_of c.args.nodecount.now c.args.nodemass.now) c.args.starts.now
+    (reports_of c.args.nodes.now c.args.depth.now c.args.mass.now c.args.searches.now c.args.wordsused.now c.args.thresholdsused.now)
+    (work_of c.args.order.now c.args.scratch.now c.args.flags.now c.args.wholes.now c.args.reals.now))) c.in-Refused.is
+    plan)
 
 pub shape_of-value : goal.shape_of-value
 shape_of-value c = c.grow-told.auto.value
@@ -94,5 +212,48 @@ shape_of-reals c = c.grow-told.auto.reals
 
 pub returns-in-Grow : goal.returns-in-Grow
 returns-in-Grow c =
-    fit-finished ((forest_call c.args.shape c.args.trees c.args.settings c.args.tried (given_of c.args.values.now c.args.targets.now c.args.weights.now c.args.counts.now c.args.listings.now) c.args.words.now c.args.thresholds.now c.args.wordstarts.now c.args.thresholdstarts.now)) ((forest_rooms_of (columns_of c.args.value.now c.args.feature.now c.args.threshold.now c.args.score.now c.args.truechild.now c.args.falsechild.now) (behind_of c.args.nodecount.now c.args.nodemass.now) c.args.starts.now (reports_of c.args.nodes.now c.args.depth.now c.args.mass.now c.args.searches.now c.args.wordsused.now c.args.thresholdsused.now) (work_of c.args.order.now c.args.scratch.now c.args.flags.now c.args.wholes.now c.args.reals.now))) ((let grows : Grows ((forest_call c.args.shape c.args.trees c.args.settings c.args.tried (given_of c.args.values.now c.args.targets.now c.args.weights.now c.args.counts.now c.args.listings.now) c.args.words.now c.args.thresholds.now c.args.wordstarts.now c.args.thresholdstarts.now)) ((forest_rooms_of (columns_of c.args.value.now c.args.feature.now c.args.threshold.now c.args.score.now c.args.truechild.now c.args.falsechild.now) (behind_of c.args.nodecount.now c.args.nodemass.now) c.args.starts.now (reports_of c.args.nodes.now c.args.depth.now c.args.mass.now c.args.searches.now c.args.wordsused.now c.args.thresholdsused.now) (work_of c.args.order.now c.args.scratch.now c.args.flags.now c.args.wholes.now c.args.reals.now))) c.in-Grow.growing = subst (Ready ((forest_call c.args.shape c.args.trees c.args.settings c.args.tried (given_of c.args.values.now c.args.targets.now c.args.weights.now c.args.counts.now c.args.listings.now) c.args.words.now c.args.thresholds.now c.args.wordstarts.now c.args.thresholdstarts.now)) ((forest_rooms_of (columns_of c.args.value.now c.args.feature.now c.args.threshold.now c.args.score.now c.args.truechild.now c.args.falsechild.now) (behind_of c.args.nodecount.now c.args.nodemass.now) c.args.starts.now (reports_of c.args.nodes.now c.args.depth.now c.args.mass.now c.args.searches.now c.args.wordsused.now c.args.thresholdsused.now) (work_of c.args.order.now c.args.scratch.now c.args.flags.now c.args.wholes.now c.args.reals.now)))) c.in-Grow.is ((let plan : Ready ((forest_call c.args.shape c.args.trees c.args.settings c.args.tried (given_of c.args.values.now c.args.targets.now c.args.weights.now c.args.counts.now c.args.listings.now) c.args.words.now c.args.thresholds.now c.args.wordstarts.now c.args.thresholdstarts.now)) ((forest_rooms_of (columns_of c.args.value.now c.args.feature.now c.args.threshold.now c.args.score.now c.args.truechild.now c.args.falsechild.now) (behind_of c.args.nodecount.now c.args.nodemass.now) c.args.starts.now (reports_of c.args.nodes.now c.args.depth.now c.args.mass.now c.args.searches.now c.args.wordsused.now c.args.thresholdsused.now) (work_of c.args.order.now c.args.scratch.now c.args.flags.now c.args.wholes.now c.args.reals.now))) c.ready-plan.result = c.ready-plan.ensures ((forest_call c.args.shape c.args.trees c.args.settings c.args.tried (given_of c.args.values.now c.args.targets.now c.args.weights.now c.args.counts.now c.args.listings.now) c.args.words.now c.args.thresholds.now c.args.wordstarts.now c.args.thresholdstarts.now)) ((forest_rooms_of (columns_of c.args.value.now c.args.feature.now c.args.threshold.now c.args.score.now c.args.truechild.now c.args.falsechild.now) (behind_of c.args.nodecount.now c.args.nodemass.now) c.args.starts.now (reports_of c.args.nodes.now c.args.depth.now c.args.mass.now c.args.searches.now c.args.wordsused.now c.args.thresholdsused.now) (work_of c.args.order.now c.args.scratch.now c.args.flags.now c.args.wholes.now c.args.reals.now))) (record { shape = refl; trees = refl; given = refl; words = refl; thresholds = refl; word_starts = refl; threshold_starts = refl; nodes = c.shortest_of_eight-places.ensures; work = record { order = refl; scratch = refl; flags = refl; waiting = sym c.least-waiting.ensures }; starts = refl; reports = record { nodes = refl; depth = refl; mass = refl; searches = refl; words = refl; thresholds = refl } }) refl refl in plan)) in grows)).passed _
-    ((let grows : Grows ((forest_call c.args.shape c.args.trees c.args.settings c.args.tried (given_of c.args.values.now c.args.targets.now c.args.weights.now c.args.counts.now c.args.listings.now) c.args.words.now c.args.thresholds.now c.args.wordstarts.now c.args.thresholdstarts.now)) ((forest_rooms_of (columns_of c.args.value.now c.args.feature.now c.args.threshold.now c.args.score.now c.args.truechild.now c.args.falsechild.now) (behind_of c.args.nodecount.now c.args.nodemass.now) c.args.starts.now (reports_of c.args.nodes.now c.args.depth.now c.args.mass.now c.args.searches.now c.args.wordsused.now c.args.thresholdsused.now) (work_of c.args.order.now c.args.scratch.now c.args.flags.now c.args.wholes.now c.args.reals.now))) c.in-Grow.growing = subst (Ready ((forest_call c.args.shape c.args.trees c.args.settings c.args.tried (given_of c.args.values.now c.args.targets.now c.args.weights.now c.args.counts.now c.args.listings.now) c.args.words.now c.args.thresholds.now c.args.wordstarts.now c.args.thresholdstarts.now)) ((forest_rooms_of (columns_of c.args.value.now c.args.feature.now c.args.threshold.now c.args.score.now c.args.truechild.now c.args.falsechild.now) (behind_of c.args.nodecount.now c.args.nodemass.now) c.args.starts.now (reports_of c.args.nodes.now c.args.depth.now c.args.mass.now c.args.searches.now c.args.wordsused.now c.args.thresholdsused.now) (work_of c.args.order.now c.args.scratch.now c.args.flags.now c.args.wholes.now c.args.reals.now)))) c.in-Grow.is ((let plan : Ready ((forest_call c.args.shape c.args.trees c.args.settings c.args.tried (given_of c.args.values.now c.args.targets.now c.args.weights.now c.args.counts.now c.args.listings.now) c.args.words.now c.args.thresholds.now c.args.wordstarts.now c.args.thresholdstarts.now)) ((forest_rooms_of (columns_of c.args.value.now c.args.feature.now c.args.threshold.now c.args.score.now c.args.truechild.now c.args.falsechild.now) (behind_of c.args.nodecount.now c.args.nodemass.now) c.args.starts.now (reports_of c.args.nodes.now c.args.depth.now c.args.mass.now c.args.searches.now c.args.wordsused.now c.args.thresholdsused.now) (work_of c.args.order.now c.args.scratch.now c.args.flags.now c.args.wholes.now c.args.reals.now))) c.ready-plan.result = c.ready-plan.ensures ((forest_call c.args.shape c.args.trees c.args.settings c.args.tried (given_of c.args.values.now c.args.targets.now c.args.weights.now c.args.counts.now c.args.listings.now) c.args.words.now c.args.thresholds.now c.args.wordstarts.now c.args.thresholdstarts.now)) ((forest_rooms_of (columns_of c.args.value.now c.args.feature.now c.args.threshold.now c.args.score.now c.args.truechild.now c.args.falsechild.now) (behind_of c.args.nodecount.now c.args.nodemass.now) c.args.starts.now (reports_of c.args.nodes.now c.args.depth.now c.args.mass.now c.args.searches.now c.args.wordsused.now c.args.thresholdsused.now) (work_of c.args.order.now c.args.scratch.now c.args.flags.now c.args.wholes.now c.args.reals.now))) (record { shape = refl; trees = refl; given = refl; words = refl; thresholds = refl; word_starts = refl; threshold_starts = refl; nodes = c.shortest_of_eight-places.ensures; work = record { order = refl; scratch = refl; flags = refl; waiting = sym c.least-waiting.ensures }; starts = refl; reports = record { nodes = refl; depth = refl; mass = refl; searches = refl; words = refl; thresholds = refl } }) refl refl in plan)) in grows)).made _ _ _ c.grow-told.ensures _ c.tell.ensures
+    let plan : Ready (forest_call c.args.shape c.args.trees c.args.settings c.args.tried
+    (given_of c.args.values.now c.args.targets.now c.args.weights.now c.args.counts.now c.args.listings.now) c.args.words.now c.args.thresholds.now c.args.wordstarts.now
+    c.args.thresholdstarts.now) (forest_rooms_of (columns_of c.args.value.now c.args.feature.now c.args.threshold.now c.args.score.now c.args.truechild.now c.args.falsechild.now)
+    (behind_of c.args.nodecount.now c.args.nodemass.now) c.args.starts.now
+    (reports_of c.args.nodes.now c.args.depth.now c.args.mass.now c.args.searches.now c.args.wordsused.now c.args.thresholdsused.now)
+    (work_of c.args.order.now c.args.scratch.now c.args.flags.now c.args.wholes.now c.args.reals.now)) c.ready-plan.result = c.ready-plan.ensures
+    (forest_call c.args.shape c.args.trees c.args.settings c.args.tried (given_of c.args.values.now c.args.targets.now c.args.weights.now c.args.counts.now c.args.listings.now)
+    c.args.words.now c.args.thresholds.now c.args.wordstarts.now c.args.thresholdstarts.now)
+    (forest_rooms_of (columns_of c.args.value.now c.args.feature.now c.args.threshold.now c.args.score.now c.args.truechild.now c.args.falsechild.now)
+    (behind_of c.args.nodecount.now c.args.nodemass.now) c.args.starts.now
+    (reports_of c.args.nodes.now c.args.depth.now c.args.mass.now c.args.searches.now c.args.wordsused.now c.args.thresholdsused.now)
+    (work_of c.args.order.now c.args.scratch.now c.args.flags.now c.args.wholes.now c.args.reals.now))
+    (record {
+      shape = refl;
+      trees = refl;
+      given = refl;
+      words = refl;
+      thresholds = refl;
+      word_starts = refl;
+      threshold_starts = refl;
+      nodes = c.shortest_of_eight-places.ensures;
+      work = record { order = refl; scratch = refl; flags = refl; waiting = sym c.least-waiting.ensures };
+      starts = refl;
+      reports = record
+          { nodes = refl; depth = refl; mass = refl; searches = refl; words = refl; thresholds = refl };
+    }) refl refl in
+    let grows : Grows (forest_call c.args.shape c.args.trees c.args.settings c.args.tried
+    (given_of c.args.values.now c.args.targets.now c.args.weights.now c.args.counts.now c.args.listings.now) c.args.words.now c.args.thresholds.now c.args.wordstarts.now
+    c.args.thresholdstarts.now) (forest_rooms_of (columns_of c.args.value.now c.args.feature.now c.args.threshold.now c.args.score.now c.args.truechild.now c.args.falsechild.now)
+    (behind_of c.args.nodecount.now c.args.nodemass.now) c.args.starts.now
+    (reports_of c.args.nodes.now c.args.depth.now c.args.mass.now c.args.searches.now c.args.wordsused.now c.args.thresholdsused.now)
+    (work_of c.args.order.now c.args.scratch.now c.args.flags.now c.args.wholes.now c.args.reals.now)) c.in-Grow.growing = subst
+    (Ready (forest_call c.args.shape c.args.trees c.args.settings c.args.tried
+    (given_of c.args.values.now c.args.targets.now c.args.weights.now c.args.counts.now c.args.listings.now) c.args.words.now c.args.thresholds.now c.args.wordstarts.now
+    c.args.thresholdstarts.now) (forest_rooms_of (columns_of c.args.value.now c.args.feature.now c.args.threshold.now c.args.score.now c.args.truechild.now c.args.falsechild.now)
+    (behind_of c.args.nodecount.now c.args.nodemass.now) c.args.starts.now
+    (reports_of c.args.nodes.now c.args.depth.now c.args.mass.now c.args.searches.now c.args.wordsused.now c.args.thresholdsused.now)
+    (work_of c.args.order.now c.args.scratch.now c.args.flags.now c.args.wholes.now c.args.reals.now))) c.in-Grow.is plan in
+    fit-finished (forest_call c.args.shape c.args.trees c.args.settings c.args.tried
+    (given_of c.args.values.now c.args.targets.now c.args.weights.now c.args.counts.now c.args.listings.now) c.args.words.now c.args.thresholds.now c.args.wordstarts.now
+    c.args.thresholdstarts.now) (forest_rooms_of (columns_of c.args.value.now c.args.feature.now c.args.threshold.now c.args.score.now c.args.truechild.now c.args.falsechild.now)
+    (behind_of c.args.nodecount.now c.args.nodemass.now) c.args.starts.now
+    (reports_of c.args.nodes.now c.args.depth.now c.args.mass.now c.args.searches.now c.args.wordsused.now c.args.thresholdsused.now)
+    (work_of c.args.order.now c.args.scratch.now c.args.flags.now c.args.wholes.now c.args.reals.now)) grows.passed _
+    grows.made _ _ _ c.grow-told.ensures _ c.tell.ensures

@@ -37,7 +37,10 @@ shape_of-nodemass c = c.zero_behind.auto.nodemass
 pub returns-in-Stopped : goal.returns-in-Stopped
 returns-in-Stopped c =
     (λ i. record { nodes = c.zero_nodes.ensures i; behind = c.zero_behind.ensures i })
-    ∙ sym (ap (λ g. nodes_left g ((node_room_of c.args.value.now c.args.feature.now c.args.threshold.now c.args.score.now c.args.truechild.now c.args.falsechild.now c.args.nodecount.now c.args.nodemass.now))) c.in-Stopped.is)
+    ∙ sym (ap (λ g. nodes_left g (node_room_of c.args.value.now c.args.feature.now c.args.threshold.now c.args.score.now c.args.truechild.now c.args.falsechild.now
+    c.args.nodecount.now c.args.nodemass.now)) c.in-Stopped.is)
 
 pub returns-in-Grown : goal.returns-in-Grown
-returns-in-Grown c = sym (ap (λ g. nodes_left g ((node_room_of c.args.value.now c.args.feature.now c.args.threshold.now c.args.score.now c.args.truechild.now c.args.falsechild.now c.args.nodecount.now c.args.nodemass.now))) c.in-Grown.is)
+returns-in-Grown c =
+    sym (ap (λ g. nodes_left g (node_room_of c.args.value.now c.args.feature.now c.args.threshold.now c.args.score.now c.args.truechild.now c.args.falsechild.now
+    c.args.nodecount.now c.args.nodemass.now)) c.in-Grown.is)

@@ -6,4 +6,5 @@ pub overflow_add-end : goal.overflow_add-end
 overflow_add-end c = omega (arith, c.requires)
 
 pub returns : goal.returns
-returns c = refl
+returns c =
+    refl

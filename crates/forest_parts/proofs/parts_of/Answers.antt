@@ -36,4 +36,5 @@ pub bounds-thresholdstarts-next : goal.bounds-thresholdstarts-next
 bounds-thresholdstarts-next c = c.requires.thresholds
 
 pub returns : goal.returns
-returns c = refl
+returns c =
+    refl

@@ -15,22 +15,49 @@ pub returns-in-Refused : goal.returns-in-Refused
 returns-in-Refused c = λ C R h es et. sym c.in-Refused.is ∙ c.forest_verdict-verdict.ensures C R h
 
 pub overflow_mul-size : goal.overflow_mul-size
-overflow_mul-size c = omega (arith, size_low _ _ _ _ _ _ _ _ _ _ ((let passed : (C : ForestCall) (R : ForestRooms WaitingRoom) → (ForestHas c.args.shape c.args.trees (given_of c.args.values.now c.args.targets.now c.args.weights.now c.args.counts.now c.args.listings.now) c.args.words c.args.thresholds c.args.wordstarts.now c.args.thresholdstarts.now c.args.room c.args.starts c.args.reports C R) → Checked.Passed ≡ checked (forest_tests waiting_room C R) = λ C R h. sym c.in-Passed.is ∙ c.forest_verdict-verdict.ensures C R h in passed)) c.args.settings c.args.tried)
+overflow_mul-size c =
+    let passed : (C : ForestCall) (R : ForestRooms WaitingRoom)
+    → (ForestHas c.args.shape c.args.trees (given_of c.args.values.now c.args.targets.now c.args.weights.now c.args.counts.now c.args.listings.now) c.args.words c.args.thresholds
+    c.args.wordstarts.now c.args.thresholdstarts.now c.args.room c.args.starts c.args.reports C R) → Checked.Passed ≡ checked (forest_tests waiting_room C R) = λ C R h. sym
+    c.in-Passed.is ∙ c.forest_verdict-verdict.ensures C R h in
+    omega (arith, size_low _ _ _ _ _ _ _ _ _ _ passed c.args.settings c.args.tried)
 
 pub overflow_cast-features : goal.overflow_cast-features
-overflow_cast-features c = omega (arith, (let few : c.args.shape.features ≤ 1024 = few-features _ _ _ _ _ _ _ _ _ _ ((let passed : (C : ForestCall) (R : ForestRooms WaitingRoom) → (ForestHas c.args.shape c.args.trees (given_of c.args.values.now c.args.targets.now c.args.weights.now c.args.counts.now c.args.listings.now) c.args.words c.args.thresholds c.args.wordstarts.now c.args.thresholdstarts.now c.args.room c.args.starts c.args.reports C R) → Checked.Passed ≡ checked (forest_tests waiting_room C R) = λ C R h. sym c.in-Passed.is ∙ c.forest_verdict-verdict.ensures C R h in passed)) c.args.settings c.args.tried in few))
+overflow_cast-features c =
+    let passed : (C : ForestCall) (R : ForestRooms WaitingRoom)
+    → (ForestHas c.args.shape c.args.trees (given_of c.args.values.now c.args.targets.now c.args.weights.now c.args.counts.now c.args.listings.now) c.args.words c.args.thresholds
+    c.args.wordstarts.now c.args.thresholdstarts.now c.args.room c.args.starts c.args.reports C R) → Checked.Passed ≡ checked (forest_tests waiting_room C R) = λ C R h. sym
+    c.in-Passed.is ∙ c.forest_verdict-verdict.ensures C R h in
+    let few : c.args.shape.features ≤ 1024 = few-features _ _ _ _ _ _ _ _ _ _ passed c.args.settings c.args.tried in
+    omega (arith, few)
 
 pub tried_of-m-requires : goal.tried_of-m-requires
-tried_of-m-requires c = (let few : c.args.shape.features ≤ 1024 = few-features _ _ _ _ _ _ _ _ _ _ ((let passed : (C : ForestCall) (R : ForestRooms WaitingRoom) → (ForestHas c.args.shape c.args.trees (given_of c.args.values.now c.args.targets.now c.args.weights.now c.args.counts.now c.args.listings.now) c.args.words c.args.thresholds c.args.wordstarts.now c.args.thresholdstarts.now c.args.room c.args.starts c.args.reports C R) → Checked.Passed ≡ checked (forest_tests waiting_room C R) = λ C R h. sym c.in-Passed.is ∙ c.forest_verdict-verdict.ensures C R h in passed)) c.args.settings c.args.tried in few)
+tried_of-m-requires c =
+    let passed : (C : ForestCall) (R : ForestRooms WaitingRoom)
+    → (ForestHas c.args.shape c.args.trees (given_of c.args.values.now c.args.targets.now c.args.weights.now c.args.counts.now c.args.listings.now) c.args.words c.args.thresholds
+    c.args.wordstarts.now c.args.thresholdstarts.now c.args.room c.args.starts c.args.reports C R) → Checked.Passed ≡ checked (forest_tests waiting_room C R) = λ C R h. sym
+    c.in-Passed.is ∙ c.forest_verdict-verdict.ensures C R h in
+    let few : c.args.shape.features ≤ 1024 = few-features _ _ _ _ _ _ _ _ _ _ passed c.args.settings c.args.tried in
+    few
 
 pub params_of-params-requires : goal.params_of-params-requires
-params_of-params-requires c = omega (arith, (let few : c.args.shape.features ≤ 1024 = few-features _ _ _ _ _ _ _ _ _ _ ((let passed : (C : ForestCall) (R : ForestRooms WaitingRoom) → (ForestHas c.args.shape c.args.trees (given_of c.args.values.now c.args.targets.now c.args.weights.now c.args.counts.now c.args.listings.now) c.args.words c.args.thresholds c.args.wordstarts.now c.args.thresholdstarts.now c.args.room c.args.starts c.args.reports C R) → Checked.Passed ≡ checked (forest_tests waiting_room C R) = λ C R h. sym c.in-Passed.is ∙ c.forest_verdict-verdict.ensures C R h in passed)) c.args.settings c.args.tried in few))
+params_of-params-requires c =
+    let passed : (C : ForestCall) (R : ForestRooms WaitingRoom)
+    → (ForestHas c.args.shape c.args.trees (given_of c.args.values.now c.args.targets.now c.args.weights.now c.args.counts.now c.args.listings.now) c.args.words c.args.thresholds
+    c.args.wordstarts.now c.args.thresholdstarts.now c.args.room c.args.starts c.args.reports C R) → Checked.Passed ≡ checked (forest_tests waiting_room C R) = λ C R h. sym
+    c.in-Passed.is ∙ c.forest_verdict-verdict.ensures C R h in
+    let few : c.args.shape.features ≤ 1024 = few-features _ _ _ _ _ _ _ _ _ _ passed c.args.settings c.args.tried in
+    omega (arith, few)
 
 pub returns : goal.returns
 returns c =
+    let passed : (C : ForestCall) (R : ForestRooms WaitingRoom)
+    → (ForestHas c.args.shape c.args.trees (given_of c.args.values.now c.args.targets.now c.args.weights.now c.args.counts.now c.args.listings.now) c.args.words c.args.thresholds
+    c.args.wordstarts.now c.args.thresholdstarts.now c.args.room c.args.starts c.args.reports C R) → Checked.Passed ≡ checked (forest_tests waiting_room C R) = λ C R h. sym
+    c.in-Passed.is ∙ c.forest_verdict-verdict.ensures C R h in
     λ C R h es et.
     record {
-      passed = sym ((let passed : (C : ForestCall) (R : ForestRooms WaitingRoom) → (ForestHas c.args.shape c.args.trees (given_of c.args.values.now c.args.targets.now c.args.weights.now c.args.counts.now c.args.listings.now) c.args.words c.args.thresholds c.args.wordstarts.now c.args.thresholdstarts.now c.args.room c.args.starts c.args.reports C R) → Checked.Passed ≡ checked (forest_tests waiting_room C R) = λ C R h. sym c.in-Passed.is ∙ c.forest_verdict-verdict.ensures C R h in passed) C R h);
+      passed = sym (passed C R h);
       size = λ i. (h.shape i).features * (h.shape i).rows;
       made = made_of C _ _ _ _ _ h.shape es et c.tried_of-m.ensures c.params_of-params.ensures;
     }

@@ -6,7 +6,8 @@ use Rattle.forest_reports.proofs.note_all.Given as goal
 
 abbrev pub invariant-loop-t : goal.invariant-loop-t
 invariant-loop-t l =
-    Noting l.trees l.initial.starts (reports_of l.initial.nodes l.initial.depth l.initial.mass l.initial.searches l.initial.words l.initial.thresholds) l.reports l.ends l.t l.starts (reports_of l.nodes l.depth l.mass l.searches l.words l.thresholds)
+    Noting l.trees l.initial.starts (reports_of l.initial.nodes l.initial.depth l.initial.mass l.initial.searches l.initial.words l.initial.thresholds) l.reports l.ends l.t
+    l.starts (reports_of l.nodes l.depth l.mass l.searches l.words l.thresholds)
 
 abbrev pub decreases-loop-t : goal.decreases-loop-t
 decreases-loop-t l = l.trees - l.t

@@ -38,7 +38,8 @@ shape_of-thresholds-in-Stopped c = c.zero_reports.auto.thresholds
 pub returns-in-Stopped : goal.returns-in-Stopped
 returns-in-Stopped c =
     (λ i. left_of (ForestAnswer.BadDraw c.in-Stopped.place) (c.zero_u32.ensures i) (c.zero_reports.ensures i))
-    ∙ sym (ap ((λ g. leaves c.args.trees c.args.told.reports c.args.told.ends g c.args.starts.now (reports_of c.args.nodes.now c.args.depth.now c.args.mass.now c.args.searches.now c.args.words.now c.args.thresholds.now))) c.in-Stopped.is)
+    ∙ sym (ap (λ g. leaves c.args.trees c.args.told.reports c.args.told.ends g c.args.starts.now
+    (reports_of c.args.nodes.now c.args.depth.now c.args.mass.now c.args.searches.now c.args.words.now c.args.thresholds.now)) c.in-Stopped.is)
 
 pub shape_of-starts-in-Grown : goal.shape_of-starts-in-Grown
 shape_of-starts-in-Grown c = c.note_all.auto.starts
@@ -64,4 +65,5 @@ shape_of-thresholds-in-Grown c = c.note_all.auto.thresholds
 pub returns-in-Grown : goal.returns-in-Grown
 returns-in-Grown c =
     (λ i. left_of ForestAnswer.Grown (c.note_all.ensures.starts_after i) (c.note_all.ensures.thresholds_after i)) ∙ sym
-    (ap ((λ g. leaves c.args.trees c.args.told.reports c.args.told.ends g c.args.starts.now (reports_of c.args.nodes.now c.args.depth.now c.args.mass.now c.args.searches.now c.args.words.now c.args.thresholds.now))) c.in-Grown.is)
+    (ap (λ g. leaves c.args.trees c.args.told.reports c.args.told.ends g c.args.starts.now
+    (reports_of c.args.nodes.now c.args.depth.now c.args.mass.now c.args.searches.now c.args.words.now c.args.thresholds.now)) c.in-Grown.is)

@@ -1,7 +1,6 @@
 -- `importances::tree_verdict` meets its contract: the features' number first, then the room, then the table. Assumes nothing.
-use Rattle.std.proofs.Common.{arith, eq-eqb, ne_eqb, ◌≡◌, sym, ap, ◌∙◌, true}
+use Rattle.std.proofs.Common.{arith, eq-eqb, ne_eqb, ◌≡◌, sym, ap, ◌∙◌}
 use Rattle.rules.specs.Lent.{entries_at, columns_of}
-use Rattle.rules.specs.Checks.{features_in}
 use Rattle.rules.specs.Table.{good_tree, tree_in}
 use Rattle.rules.specs.Reading.{tree_importance_tests}
 use Rattle.lemmas.specs.Tests.{passes, fails, none-failed}
@@ -13,7 +12,7 @@ returns-then-not-features_in c = λ out l. fails 1 _ _ (sym c.features_in.ensure
 
 pub returns-then-room-features : goal.returns-then-room-features
 unfolding tree_importance_tests
-returns-then-room-features c = λ out l. passes 1 _ _ ((sym c.features_in.ensures ∙ c.if-not-features_in.false)) (fails 6 _ _ (ne_eqb _ _ (λ e. c.if-room-features.true (sym l ∙ e))))
+returns-then-room-features c = λ out l. passes 1 _ _ (sym c.features_in.ensures ∙ c.if-not-features_in.false) (fails 6 _ _ (ne_eqb _ _ (λ e. c.if-room-features.true (sym l ∙ e))))
 
 pub tree_good-requires : goal.tree_good-requires
 tree_good-requires c = record { inside = omega (arith, c.shortest_of-n.ensures) }
@@ -21,11 +20,19 @@ tree_good-requires c = record { inside = omega (arith, c.shortest_of-n.ensures) 
 pub returns-then-not-tree_good : goal.returns-then-not-tree_good
 unfolding tree_importance_tests tree_in
 returns-then-not-tree_good c =
-    λ out l. passes 1 _ _ ((sym c.features_in.ensures ∙ c.if-not-features_in.false))
-    (passes 6 _ _ (eq-eqb _ _ (l ∙ c.if-room-features.false)) (fails 8 _ _ (sym ((let looked : c.tree_good.result ≡ good_tree c.args.features (tree_in ((columns_of c.args.value.now c.args.feature.now c.args.threshold.now c.args.score.now c.args.truechild.now c.args.falsechild.now))) = c.tree_good.ensures ∙ ap (λ m. good_tree c.args.features (entries_at ((columns_of c.args.value.now c.args.feature.now c.args.threshold.now c.args.score.now c.args.truechild.now c.args.falsechild.now)) 0 m)) c.shortest_of-n.ensures in looked)) ∙ c.if-not-tree_good.true)))
+    let looked : c.tree_good.result ≡ good_tree c.args.features
+    (tree_in (columns_of c.args.value.now c.args.feature.now c.args.threshold.now c.args.score.now c.args.truechild.now c.args.falsechild.now)) = c.tree_good.ensures
+    ∙ ap (λ m. good_tree c.args.features (entries_at (columns_of c.args.value.now c.args.feature.now c.args.threshold.now c.args.score.now c.args.truechild.now
+    c.args.falsechild.now) 0 m)) c.shortest_of-n.ensures in
+    λ out l. passes 1 _ _ (sym c.features_in.ensures ∙ c.if-not-features_in.false)
+    (passes 6 _ _ (eq-eqb _ _ (l ∙ c.if-room-features.false)) (fails 8 _ _ (sym looked ∙ c.if-not-tree_good.true)))
 
 pub returns : goal.returns
 unfolding tree_importance_tests tree_in
 returns c =
-    λ out l. passes 1 _ _ ((sym c.features_in.ensures ∙ c.if-not-features_in.false))
-    (passes 6 _ _ (eq-eqb _ _ (l ∙ c.if-room-features.false)) (passes 8 _ _ (sym ((let looked : c.tree_good.result ≡ good_tree c.args.features (tree_in ((columns_of c.args.value.now c.args.feature.now c.args.threshold.now c.args.score.now c.args.truechild.now c.args.falsechild.now))) = c.tree_good.ensures ∙ ap (λ m. good_tree c.args.features (entries_at ((columns_of c.args.value.now c.args.feature.now c.args.threshold.now c.args.score.now c.args.truechild.now c.args.falsechild.now)) 0 m)) c.shortest_of-n.ensures in looked)) ∙ c.if-not-tree_good.false) none-failed))
+    let looked : c.tree_good.result ≡ good_tree c.args.features
+    (tree_in (columns_of c.args.value.now c.args.feature.now c.args.threshold.now c.args.score.now c.args.truechild.now c.args.falsechild.now)) = c.tree_good.ensures
+    ∙ ap (λ m. good_tree c.args.features (entries_at (columns_of c.args.value.now c.args.feature.now c.args.threshold.now c.args.score.now c.args.truechild.now
+    c.args.falsechild.now) 0 m)) c.shortest_of-n.ensures in
+    λ out l. passes 1 _ _ (sym c.features_in.ensures ∙ c.if-not-features_in.false)
+    (passes 6 _ _ (eq-eqb _ _ (l ∙ c.if-room-features.false)) (passes 8 _ _ (sym looked ∙ c.if-not-tree_good.false) none-failed))

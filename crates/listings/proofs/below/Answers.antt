@@ -7,4 +7,5 @@ pub returns-then-place-eq0 : goal.returns-then-place-eq0
 returns-then-place-eq0 c = sym (ap (λ b. cond b false (lt c.args.next c.args.last)) (eq-eqb _ _ c.if-place-eq0.true))
 
 pub returns : goal.returns
-returns c = sym (ap (λ b. cond b false (lt c.args.next c.args.last)) (ne_eqb _ _ c.if-place-eq0.false))
+returns c =
+    sym (ap (λ b. cond b false (lt c.args.next c.args.last)) (ne_eqb _ _ c.if-place-eq0.false))

@@ -9,4 +9,5 @@ pub overflow_cast-at : goal.overflow_cast-at
 overflow_cast-at c = omega (arith, c.requires.1)
 
 pub returns : goal.returns
-returns c = refl
+returns c =
+    refl

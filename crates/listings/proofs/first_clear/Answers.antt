@@ -1,5 +1,5 @@
 -- `listings::first_clear` meets its contract: all rows behind are marked. Assumes nothing.
-use Rattle.std.proofs.Common.{arith, ◌≡◌, sym, ap, ◌∙◌, false, ℕ, ◌-◌}
+use Rattle.std.proofs.Common.{arith, ◌≡◌, sym, ap, ◌∙◌, ℕ, ◌-◌}
 use Rattle.rules.specs.Listing.{lowest_lacking, lacking_from}
 use Rattle.listings.specs.Walks.{lacking-here, lacking-goes, lacking-ends}
 use Rattle.listings.proofs.first_clear.Goals as goal
@@ -22,4 +22,5 @@ loop-row-preserved c =
     (omega arith, λ l h. c.loop-row.invariant.1 l h ∙ lacking-goes l a.rows c.loop-row.row (omega arith) (sym (h c.loop-row.row (omega arith)) ∙ c.if-not-seen-row.false))
 
 pub returns : goal.returns
-returns c = (omega arith, λ l h. lacking-ends l c.args.rows c.loop-row.row (omega arith) ∙ sym (c.loop-row.invariant.1 l h))
+returns c =
+    (omega arith, λ l h. lacking-ends l c.args.rows c.loop-row.row (omega arith) ∙ sym (c.loop-row.invariant.1 l h))

@@ -1,5 +1,5 @@
 -- `listings::first_fault` meets its contract: what is left to test are the columns from j on. Assumes nothing.
-use Rattle.std.proofs.Common.{arith, sym, ap, ◌∙◌, ◌-◌}
+use Rattle.std.proofs.Common.{arith, sym, ap, ◌∙◌}
 use Rattle.lemmas.specs.Scans.{range_all}
 use Rattle.listings.specs.Walks.{columns-end, columns-go, columns-stop}
 use Rattle.rules.specs.Words.{joined}

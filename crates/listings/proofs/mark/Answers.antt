@@ -1,5 +1,5 @@
 -- `listings::mark` meets its contract: what is marked or still ahead is what was marked or is in the listing. Assumes nothing.
-use Rattle.std.proofs.Common.{arith, sym, subst, ◌+◌, ◌-◌}
+use Rattle.std.proofs.Common.{arith, sym, subst, ◌+◌}
 use Rattle.listings.specs.Walks.{MarksTo, marks-end, marks-pass, marks-go}
 use Rattle.listings.proofs.mark.Goals as goal
 use Rattle.listings.proofs.mark.Goals.{then-k-seen, else-k-seen}
@@ -17,4 +17,5 @@ loop-i-preserved c =
     ]
 
 pub returns : goal.returns
-returns c = marks-end c.args.listing.now c.args.seen.now c.loop-i.seen c.loop-i.i c.loop-i.invariant (omega arith)
+returns c =
+    marks-end c.args.listing.now c.args.seen.now c.loop-i.seen c.loop-i.i c.loop-i.invariant (omega arith)

@@ -10,4 +10,5 @@ pub returns-then-places-rows : goal.returns-then-places-rows
 returns-then-places-rows c = and-on _ _ (eq-eqb _ _ c.if-places-rows.true) (ap (λ n. leb n c.args.starts) (add-one c.args.trees))
 
 pub returns-else-places-rows : goal.returns-else-places-rows
-returns-else-places-rows c = and-off _ _ (ne_eqb _ _ c.if-places-rows.false)
+returns-else-places-rows c =
+    and-off _ _ (ne_eqb _ _ c.if-places-rows.false)

@@ -26,4 +26,5 @@ loop-k-preserved c = (
 )
 
 pub returns : goal.returns
-returns c = sym (ap nodes_seen (nodes-end _ _ _ _ _ c.loop-k-test.false)) ∙ c.loop-k.invariant.1
+returns c =
+    sym (ap nodes_seen (nodes-end _ _ _ _ _ c.loop-k-test.false)) ∙ c.loop-k.invariant.1

@@ -24,15 +24,15 @@ returns-in-Misread c =
     (tree-misread _ _ (sym c.tree_seen-tree.ensures ∙ c.in-Misread.is)))) ∙ l.invariant.2
 
 pub overflow_add-sofar : goal.overflow_add-sofar
-overflow_add-sofar c = omega (arith, (tree-said-whole _ _ _ _ _ _ ((tree-said _ _ _ (sym c.tree_seen-tree.ensures ∙ c.in-Ends.is))).said).1)
+overflow_add-sofar c = omega (arith, (tree-said-whole _ _ _ _ _ _ (tree-said _ _ _ (sym c.tree_seen-tree.ensures ∙ c.in-Ends.is)).said).1)
 
 pub loop-t-preserved : goal.loop-t-preserved
 loop-t-preserved c =
     let l = c.loop-t in
-    let w = tree-said-whole _ _ _ _ _ _ ((tree-said _ _ _ (sym c.tree_seen-tree.ensures ∙ c.in-Ends.is))).said in (
+    let w = tree-said-whole _ _ _ _ _ _ (tree-said _ _ _ (sym c.tree_seen-tree.ensures ∙ c.in-Ends.is)).said in (
       omega (arith, c.loop-t-test.true),
       w.1,
-      sym (ap (trees_seen l.sofar) (trees-next _ _ _ _ _ _ _ _ c.loop-t-test.true ((tree-said _ _ _ (sym c.tree_seen-tree.ensures ∙ c.in-Ends.is))).said)
+      sym (ap (trees_seen l.sofar) (trees-next _ _ _ _ _ _ _ _ c.loop-t-test.true (tree-said _ _ _ (sym c.tree_seen-tree.ensures ∙ c.in-Ends.is)).said)
           ∙ before-trees l.sofar _ _ _ w.0) ∙ l.invariant.2,
     )
 

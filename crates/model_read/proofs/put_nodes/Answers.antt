@@ -1,5 +1,5 @@
 -- `model_read::put_nodes` meets its contract: each turn puts one node, and what is left to put makes up the whole. Assumes nothing.
-use Rattle.std.proofs.Common.{◌-◌, arith}
+use Rattle.std.proofs.Common.{arith}
 use Rattle.model_read.specs.Nodes.{putting-first, putting-may, putting-on, putting-end}
 use Rattle.model_read.proofs.put_nodes.Goals as goal
 
@@ -18,7 +18,15 @@ loop-k-smaller c = omega (arith, c.loop-k-test.true)
 pub loop-k-preserved : goal.loop-k-preserved
 loop-k-preserved c =
     putting-on _ _ _ _ _ _ _ _ _ c.loop-k.invariant c.loop-k-test.true _ c.node_read-node.ensures _ c.put_entry.ensures
-    (record { value = c.put_entry.auto.value; feature = c.put_entry.auto.feature; threshold = c.put_entry.auto.threshold; score = c.put_entry.auto.score; truechild = c.put_entry.auto.truechild; falsechild = c.put_entry.auto.falsechild })
+    (record {
+      value = c.put_entry.auto.value;
+      feature = c.put_entry.auto.feature;
+      threshold = c.put_entry.auto.threshold;
+      score = c.put_entry.auto.score;
+      truechild
+          = c.put_entry.auto.truechild;
+      falsechild = c.put_entry.auto.falsechild;
+    })
 
 pub shape_of-value : goal.shape_of-value
 shape_of-value c = c.loop-k.invariant.long.value
@@ -39,4 +47,5 @@ pub shape_of-falsechild : goal.shape_of-falsechild
 shape_of-falsechild c = c.loop-k.invariant.long.falsechild
 
 pub returns : goal.returns
-returns c = λ es end h. putting-end _ _ _ _ _ _ _ _ _ c.loop-k.invariant c.loop-k-test.false es end h
+returns c =
+    λ es end h. putting-end _ _ _ _ _ _ _ _ _ c.loop-k.invariant c.loop-k-test.false es end h

@@ -1,5 +1,5 @@
 -- `model_read::put_trees` meets its contract: each turn puts one tree, and what is left to put makes up the whole. Assumes nothing.
-use Rattle.std.proofs.Common.{ℕ, ◌-◌, arith, refl, ◌∙◌, length-set}
+use Rattle.std.proofs.Common.{ℕ, arith, refl, ◌∙◌, length-set}
 use Rattle.model_read.specs.Trees.{filling-first, filling-count, filling-fits, filling-may, filling-on, filling-end}
 use Rattle.model_read.proofs.put_trees.Goals as goal
 
@@ -38,7 +38,15 @@ loop-t-smaller c = omega (arith, c.loop-t-test.true)
 pub loop-t-preserved : goal.loop-t-preserved
 loop-t-preserved c =
     filling-on _ _ _ _ _ _ _ _ _ _ _ c.loop-t.invariant c.loop-t-test.true _ c.number_at-count.ensures _ _ c.put_nodes-at.ensures
-    (record { value = c.put_nodes-at.auto.value; feature = c.put_nodes-at.auto.feature; threshold = c.put_nodes-at.auto.threshold; score = c.put_nodes-at.auto.score; truechild = c.put_nodes-at.auto.truechild; falsechild = c.put_nodes-at.auto.falsechild })
+    (record {
+      value = c.put_nodes-at.auto.value;
+      feature = c.put_nodes-at.auto.feature;
+      threshold = c.put_nodes-at.auto.threshold;
+      score = c.put_nodes-at.auto.score;
+      truechild
+          = c.put_nodes-at.auto.truechild;
+      falsechild = c.put_nodes-at.auto.falsechild;
+    })
 
 pub shape_of-value : goal.shape_of-value
 shape_of-value c = c.loop-t.invariant.long.value
@@ -62,4 +70,5 @@ pub shape_of-starts : goal.shape_of-starts
 shape_of-starts c = c.loop-t.invariant.starts-long ∙ length-set {A = ℕ} c.args.starts.now 0 0
 
 pub returns : goal.returns
-returns c = λ ts end h. filling-end _ _ _ _ _ _ _ _ _ _ _ c.loop-t.invariant c.loop-t-test.false _ refl ts end h
+returns c =
+    λ ts end h. filling-end _ _ _ _ _ _ _ _ _ _ _ c.loop-t.invariant c.loop-t-test.false _ refl ts end h

@@ -1,5 +1,5 @@
 -- `model_write::file_size` meets its contract: the bytes of the trees before t and of those from t on are all bytes. Assumes nothing.
-use Rattle.std.proofs.Common.{arith, ◌≡◌, ap, ◌∙◌, ◌+◌, ◌-◌, ◌*◌, ◌≤◌, get_or}
+use Rattle.std.proofs.Common.{arith, ◌≡◌, ap, ◌∙◌, ◌+◌, ◌*◌, ◌≤◌, get_or}
 use Rattle.rules.specs.Words.{total}
 use Rattle.lemmas.specs.Scans.{total-adds, total-ends, range_all}
 use Rattle.model_write.specs.Sizes.{tree_long, long_at, file_long, tree-low}
@@ -36,9 +36,19 @@ tree_size-one-requires c =
 
 pub overflow_add-sum : goal.overflow_add-sum
 overflow_add-sum c =
+    let added : c.tree_size-one.result ≡ long_at c.args.starts.now c.args.truechild.now c.loop-t.t =
+    c.tree_size-one.ensures ∙ (λ k. tree_long c.args.truechild.now (c.wide-a.ensures k) (c.wide-e.ensures k)) in
+    let low : c.loop-t.sum + c.tree_size-one.result ≤ 9 + 4 * (c.loop-t.t + 1) + 30 * get_or c.args.starts.now (c.loop-t.t + 1) 0 = omega (
+      arith,
+      added,
+      (c.requires.below c.loop-t.t c.loop-t-test.true),
+      c.loop-t.invariant.0,
+      tree-low c.args.truechild.now (get_or c.args.starts.now c.loop-t.t 0)
+          (get_or c.args.starts.now (c.loop-t.t + 1) 0),
+    ) in
     omega (
       arith,
-      (let low : c.loop-t.sum + c.tree_size-one.result ≤ 9 + 4 * (c.loop-t.t + 1) + 30 * get_or c.args.starts.now (c.loop-t.t + 1) 0 = omega (arith, (let added : c.tree_size-one.result ≡ long_at c.args.starts.now c.args.truechild.now c.loop-t.t = c.tree_size-one.ensures ∙ (λ k. tree_long c.args.truechild.now (c.wide-a.ensures k) (c.wide-e.ensures k)) in added), (c.requires.below c.loop-t.t c.loop-t-test.true), c.loop-t.invariant.0, tree-low c.args.truechild.now (get_or c.args.starts.now c.loop-t.t 0) (get_or c.args.starts.now (c.loop-t.t + 1) 0)) in low),
+      low,
       c.loop-t-test.true,
       c.requires.started.few,
       c.type_inv.starts (c.loop-t.t + 1),
@@ -51,11 +61,22 @@ pub loop-t-smaller : goal.loop-t-smaller
 loop-t-smaller c = omega (arith, c.loop-t-test.true)
 
 pub loop-t-preserved : goal.loop-t-preserved
-loop-t-preserved c = (
-  (let low : c.loop-t.sum + c.tree_size-one.result ≤ 9 + 4 * (c.loop-t.t + 1) + 30 * get_or c.args.starts.now (c.loop-t.t + 1) 0 = omega (arith, (let added : c.tree_size-one.result ≡ long_at c.args.starts.now c.args.truechild.now c.loop-t.t = c.tree_size-one.ensures ∙ (λ k. tree_long c.args.truechild.now (c.wide-a.ensures k) (c.wide-e.ensures k)) in added), (c.requires.below c.loop-t.t c.loop-t-test.true), c.loop-t.invariant.0, tree-low c.args.truechild.now (get_or c.args.starts.now c.loop-t.t 0) (get_or c.args.starts.now (c.loop-t.t + 1) 0)) in low),
-  total-adds (long_at c.args.starts.now c.args.truechild.now) c.args.trees c.loop-t.t c.loop-t.sum c.tree_size-one.result
-      c.loop-t-test.true c.loop-t.invariant.1 ((let added : c.tree_size-one.result ≡ long_at c.args.starts.now c.args.truechild.now c.loop-t.t = c.tree_size-one.ensures ∙ (λ k. tree_long c.args.truechild.now (c.wide-a.ensures k) (c.wide-e.ensures k)) in added)),
-)
+loop-t-preserved c =
+    let added : c.tree_size-one.result ≡ long_at c.args.starts.now c.args.truechild.now c.loop-t.t =
+    c.tree_size-one.ensures ∙ (λ k. tree_long c.args.truechild.now (c.wide-a.ensures k) (c.wide-e.ensures k)) in
+    let low : c.loop-t.sum + c.tree_size-one.result ≤ 9 + 4 * (c.loop-t.t + 1) + 30 * get_or c.args.starts.now (c.loop-t.t + 1) 0 = omega (
+      arith,
+      added,
+      (c.requires.below c.loop-t.t c.loop-t-test.true),
+      c.loop-t.invariant.0,
+      tree-low c.args.truechild.now (get_or c.args.starts.now c.loop-t.t 0)
+          (get_or c.args.starts.now (c.loop-t.t + 1) 0),
+    ) in (
+      low,
+      total-adds (long_at c.args.starts.now c.args.truechild.now) c.args.trees c.loop-t.t c.loop-t.sum c.tree_size-one.result
+          c.loop-t-test.true c.loop-t.invariant.1 added,
+    )
 
 pub returns : goal.returns
-returns c = total-ends (long_at c.args.starts.now c.args.truechild.now) c.args.trees c.loop-t.t c.loop-t.sum c.loop-t-test.false c.loop-t.invariant.1
+returns c =
+    total-ends (long_at c.args.starts.now c.args.truechild.now) c.args.trees c.loop-t.t c.loop-t.sum c.loop-t-test.false c.loop-t.invariant.1

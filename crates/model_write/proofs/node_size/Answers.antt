@@ -7,4 +7,5 @@ pub returns-then-truechild-ne0 : goal.returns-then-truechild-ne0
 returns-then-truechild-ne0 c = sym (split-long c.args.truechild c.if-truechild-ne0.true)
 
 pub returns-else-truechild-ne0 : goal.returns-else-truechild-ne0
-returns-else-truechild-ne0 c = sym (leaf-long c.args.truechild c.if-truechild-ne0.false)
+returns-else-truechild-ne0 c =
+    sym (leaf-long c.args.truechild c.if-truechild-ne0.false)

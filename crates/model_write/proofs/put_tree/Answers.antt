@@ -16,4 +16,5 @@ pub put_nodes-requires : goal.put_nodes-requires
 put_nodes-requires c = nodes-fit c.requires c.put_number.ensures
 
 pub returns : goal.returns
-returns c = tree-put c.requires c.put_number.ensures c.put_nodes.ensures
+returns c =
+    tree-put c.requires c.put_number.ensures c.put_nodes.ensures

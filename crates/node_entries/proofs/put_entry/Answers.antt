@@ -5,4 +5,5 @@ use Rattle.node_entries.proofs.put_entry.Goals as goal
 
 pub returns : goal.returns
 unfolding put_entry
-returns c = refl
+returns c =
+    refl

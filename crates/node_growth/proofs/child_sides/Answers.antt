@@ -7,4 +7,5 @@ pub returns-then-either_searched : goal.returns-then-either_searched
 returns-then-either_searched c = child-both _ _ _ _ (sym c.either_searched.ensures ∙ c.if-either_searched.true)
 
 pub returns : goal.returns
-returns c = child-neither _ _ _ _ (sym c.either_searched.ensures ∙ c.if-either_searched.false)
+returns c =
+    child-neither _ _ _ _ (sym c.either_searched.ensures ∙ c.if-either_searched.false)

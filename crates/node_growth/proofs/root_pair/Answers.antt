@@ -4,4 +4,5 @@ use Rattle.node_growth.specs.Pairs.{root_with}
 use Rattle.node_growth.proofs.root_pair.Goals as goal
 
 pub returns : goal.returns
-returns c = let a = c.args in ap (root_with a.kept a.root) c.root_sides-sides.ensures
+returns c =
+    let a = c.args in ap (root_with a.kept a.root) c.root_sides-sides.ensures

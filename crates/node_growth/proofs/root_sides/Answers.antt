@@ -6,4 +6,5 @@ pub returns-then-count-gt0 : goal.returns-then-count-gt0
 returns-then-count-gt0 c = root-some _ c.if-count-gt0.true
 
 pub returns : goal.returns
-returns c = root_none _ c.if-count-gt0.false
+returns c =
+    root_none _ c.if-count-gt0.false

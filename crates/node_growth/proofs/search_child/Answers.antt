@@ -11,7 +11,7 @@ pub search_node-r-requires : goal.search_node-r-requires
 search_node-r-requires c =
     let a = c.args in
     let q = c.requires in (
-      node_at a.rows a.features ((tables_of c.args.values.now c.args.targets.now c.args.weights.now c.args.counts.now)) a.order.now a.a.count a.from a.to c.wide.ensures c.wide-then-is_searched.ensures
+      node_at a.rows a.features (tables_of c.args.values.now c.args.targets.now c.args.weights.now c.args.counts.now) a.order.now a.a.count a.from a.to c.wide.ensures c.wide-then-is_searched.ensures
           q.node,
       q.same,
       q.few,
@@ -23,11 +23,14 @@ pub push_found-requires : goal.push_found-requires
 push_found-requires c =
     let a = c.args in
     let q = c.requires in
-    let g = ground_of a.rows a.features a.values.now a.targets.now a.weights.now a.counts.now a.order.now in
-    (q.wholes, q.reals, found-short g a.from a.to a.a c.search_node-r.result
-    (found_in g a.from a.to a.a q.node a.p.features q.same c.search_node-r.result
-    (subst (λ z. RowsAfter a.p.features (node_rows g z a.to a.a) c.search_node-r.result) c.wide.ensures
-    (subst (λ z. RowsAfter a.p.features (node_rows g c.wide.result z a.a) c.search_node-r.result) c.wide-then-is_searched.ensures c.search_node-r.ensures.rows))))
+    let g = ground_of a.rows a.features a.values.now a.targets.now a.weights.now a.counts.now a.order.now in (
+      q.wholes,
+      q.reals,
+      found-short g a.from a.to a.a c.search_node-r.result
+          (found_in g a.from a.to a.a q.node a.p.features q.same c.search_node-r.result
+          (subst (λ z. RowsAfter a.p.features (node_rows g z a.to a.a) c.search_node-r.result) c.wide.ensures
+          (subst (λ z. RowsAfter a.p.features (node_rows g c.wide.result z a.a) c.search_node-r.result) c.wide-then-is_searched.ensures c.search_node-r.ensures.rows))),
+    )
 
 pub returns-then-is_searched : goal.returns-then-is_searched
 returns-then-is_searched c =

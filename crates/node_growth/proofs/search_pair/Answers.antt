@@ -5,14 +5,17 @@ use Rattle.node_growth.specs.Pairs.{searching-first, searching-end, child-asks, 
 use Rattle.node_growth.proofs.search_pair.Goals as goal
 
 pub loop-k-init : goal.loop-k-init
-loop-k-init c = searching-first ((ground_of c.args.rows c.args.features c.args.values.now c.args.targets.now c.args.weights.now c.args.counts.now c.args.order.now)) c.args.p c.args.words.now c.args.thresholds.now _ _ c.args.q c.args.s c.requires
+loop-k-init c =
+    searching-first (ground_of c.args.rows c.args.features c.args.values.now c.args.targets.now c.args.weights.now c.args.counts.now c.args.order.now) c.args.p c.args.words.now
+    c.args.thresholds.now _ _ c.args.q c.args.s c.requires
 
 pub overflow_add-q : goal.overflow_add-q
 overflow_add-q c = omega (arith, c.loop-k-test.true, c.requires.small)
 
 pub search_child-r-requires : goal.search_child-r-requires
 search_child-r-requires c =
-    child-asks ((ground_of c.args.rows c.args.features c.args.values.now c.args.targets.now c.args.weights.now c.args.counts.now c.args.order.now)) c.args.p c.args.words.now c.args.thresholds.now _ _ c.args.q c.args.s c.requires _ _ _ _ c.loop-k.invariant
+    child-asks (ground_of c.args.rows c.args.features c.args.values.now c.args.targets.now c.args.weights.now c.args.counts.now c.args.order.now) c.args.p c.args.words.now
+    c.args.thresholds.now _ _ c.args.q c.args.s c.requires _ _ _ _ c.loop-k.invariant
     c.loop-k-test.true c.stretch_of-c.ensures
 
 pub shape_of-wholes-in-Refused : goal.shape_of-wholes-in-Refused
@@ -23,7 +26,8 @@ shape_of-reals-in-Refused c = c.search_child-r.auto.reals ∙ c.loop-k.invariant
 
 pub returns-in-Refused : goal.returns-in-Refused
 returns-in-Refused c =
-    searching-stop ((ground_of c.args.rows c.args.features c.args.values.now c.args.targets.now c.args.weights.now c.args.counts.now c.args.order.now)) c.args.p c.args.words.now c.args.thresholds.now _ _ c.args.q c.args.s c.requires _ _ _ _ c.loop-k.invariant
+    searching-stop (ground_of c.args.rows c.args.features c.args.values.now c.args.targets.now c.args.weights.now c.args.counts.now c.args.order.now) c.args.p c.args.words.now
+    c.args.thresholds.now _ _ c.args.q c.args.s c.requires _ _ _ _ c.loop-k.invariant
     c.loop-k-test.true c.stretch_of-c.ensures _ _ _ c.search_child-r.ensures _ c.in-Refused.is
 
 pub overflow_add-k : goal.overflow_add-k
@@ -34,7 +38,8 @@ loop-k-smaller c = omega (arith, c.loop-k-test.true)
 
 pub loop-k-preserved : goal.loop-k-preserved
 loop-k-preserved c =
-    searching-on ((ground_of c.args.rows c.args.features c.args.values.now c.args.targets.now c.args.weights.now c.args.counts.now c.args.order.now)) c.args.p c.args.words.now c.args.thresholds.now _ _ c.args.q c.args.s c.requires _ _ _ _ c.loop-k.invariant
+    searching-on (ground_of c.args.rows c.args.features c.args.values.now c.args.targets.now c.args.weights.now c.args.counts.now c.args.order.now) c.args.p c.args.words.now
+    c.args.thresholds.now _ _ c.args.q c.args.s c.requires _ _ _ _ c.loop-k.invariant
     c.loop-k-test.true c.stretch_of-c.ensures _ _ _ c.search_child-r.ensures _ c.in-Goes.is
     c.search_child-r.auto.wholes c.search_child-r.auto.reals
 
@@ -45,4 +50,6 @@ pub shape_of-reals : goal.shape_of-reals
 shape_of-reals c = c.loop-k.invariant.waiting-reals
 
 pub returns : goal.returns
-returns c = searching-end ((ground_of c.args.rows c.args.features c.args.values.now c.args.targets.now c.args.weights.now c.args.counts.now c.args.order.now)) c.args.p c.args.words.now c.args.thresholds.now _ _ c.args.q c.args.s c.requires _ _ _ _ c.loop-k.invariant c.loop-k-test.false
+returns c =
+    searching-end (ground_of c.args.rows c.args.features c.args.values.now c.args.targets.now c.args.weights.now c.args.counts.now c.args.order.now) c.args.p c.args.words.now
+    c.args.thresholds.now _ _ c.args.q c.args.s c.requires _ _ _ _ c.loop-k.invariant c.loop-k-test.false

@@ -6,4 +6,5 @@ pub returns-then-k-eq0 : goal.returns-then-k-eq0
 returns-then-k-eq0 c = let a = c.args in stretch-first a.q a.k c.if-k-eq0.true
 
 pub returns : goal.returns
-returns c = let a = c.args in stretch-second a.q a.k c.if-k-eq0.false
+returns c =
+    let a = c.args in stretch-second a.q a.k c.if-k-eq0.false

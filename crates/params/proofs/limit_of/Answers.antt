@@ -9,4 +9,5 @@ returns-in-Unlimited c = (sym (ap limit_of c.in-Unlimited.is), omega arith)
 
 pub returns-in-AtMost : goal.returns-in-AtMost
 unfolding limit_of
-returns-in-AtMost c = (sym (ap limit_of c.in-AtMost.is), search rules)
+returns-in-AtMost c =
+    (sym (ap limit_of c.in-AtMost.is), search rules)

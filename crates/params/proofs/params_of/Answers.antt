@@ -3,4 +3,5 @@ use Rattle.params.specs.Params.{params-made}
 use Rattle.params.proofs.params_of.Goals as goal
 
 pub returns : goal.returns
-returns c = params-made _ _ _ c.limit_of-limit.ensures
+returns c =
+    params-made _ _ _ c.limit_of-limit.ensures

@@ -1,5 +1,5 @@
 -- `partition::first_false` meets its contract: the rows passed are all flagged. Assumes nothing.
-use Rattle.std.proofs.Common.{arith, refl, sym, ◌∙◌, ◌-◌, ◌<◌, length}
+use Rattle.std.proofs.Common.{arith, refl, sym, ◌∙◌, ◌<◌, length}
 use Rattle.partition.specs.Stays.{front-more}
 use Rattle.partition.proofs.first_false.Goals as goal
 

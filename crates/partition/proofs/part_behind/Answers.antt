@@ -38,4 +38,5 @@ pub part_from-w-requires : goal.part_from-w-requires
 part_from-w-requires c = rest-asks _ _ c.requires.0
 
 pub returns : goal.returns
-returns c = behind _ _ _ _ _ c.first_false-k.ensures.front (c.part_from-w.ensures.done _ (begun-none _ _ _))
+returns c =
+    behind _ _ _ _ _ c.first_false-k.ensures.front (c.part_from-w.ensures.done _ (begun-none _ _ _))

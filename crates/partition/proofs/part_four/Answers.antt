@@ -14,7 +14,13 @@ part_behind-requires c =
     )
 
 pub part_from-requires : goal.part_from-requires
-part_from-requires c = begun-asks ((let begun : Begun (flagged c.args.flags.now) c.args.col.now c.sweep_four-w.new.col c.sweep_four-w.new.scratch 4 c.sweep_four-w.result = four-begun _ _ _ c.requires.1 (omega (arith, c.requires.0.room)) c.flag_at-s.ensures c.flag_at-t.ensures c.flag_at-u.ensures c.flag_at-v.ensures c.sweep_four-w.ensures in begun)) c.requires.0 c.sweep_four-w.auto.scratch
+part_from-requires c =
+    let begun : Begun (flagged c.args.flags.now) c.args.col.now c.sweep_four-w.new.col c.sweep_four-w.new.scratch 4 c.sweep_four-w.result = four-begun _ _ _ c.requires.1
+    (omega (arith, c.requires.0.room)) c.flag_at-s.ensures c.flag_at-t.ensures c.flag_at-u.ensures c.flag_at-v.ensures c.sweep_four-w.ensures in
+    begun-asks begun c.requires.0 c.sweep_four-w.auto.scratch
 
 pub returns : goal.returns
-returns c = c.part_from.ensures.done _ ((let begun : Begun (flagged c.args.flags.now) c.args.col.now c.sweep_four-w.new.col c.sweep_four-w.new.scratch 4 c.sweep_four-w.result = four-begun _ _ _ c.requires.1 (omega (arith, c.requires.0.room)) c.flag_at-s.ensures c.flag_at-t.ensures c.flag_at-u.ensures c.flag_at-v.ensures c.sweep_four-w.ensures in begun))
+returns c =
+    let begun : Begun (flagged c.args.flags.now) c.args.col.now c.sweep_four-w.new.col c.sweep_four-w.new.scratch 4 c.sweep_four-w.result = four-begun _ _ _ c.requires.1
+    (omega (arith, c.requires.0.room)) c.flag_at-s.ensures c.flag_at-t.ensures c.flag_at-u.ensures c.flag_at-v.ensures c.sweep_four-w.ensures in
+    c.part_from.ensures.done _ begun

@@ -9,7 +9,13 @@ pub part_behind-requires : goal.part_behind-requires
 part_behind-requires c = (c.requires.0, front-two _ _ 0 (front-none _ _) c.requires.1 c.flag_at-s.ensures c.flag_at-t.ensures c.if-s-t.true)
 
 pub part_from-requires : goal.part_from-requires
-part_from-requires c = begun-asks ((let begun : Begun (flagged c.args.flags.now) c.args.col.now c.sweep_two-w.new.col c.sweep_two-w.new.scratch 2 c.sweep_two-w.result = two-begun _ _ _ c.requires.1 (omega (arith, c.requires.0.room)) c.flag_at-s.ensures c.flag_at-t.ensures c.sweep_two-w.ensures in begun)) c.requires.0 c.sweep_two-w.auto.scratch
+part_from-requires c =
+    let begun : Begun (flagged c.args.flags.now) c.args.col.now c.sweep_two-w.new.col c.sweep_two-w.new.scratch 2 c.sweep_two-w.result = two-begun _ _ _ c.requires.1
+    (omega (arith, c.requires.0.room)) c.flag_at-s.ensures c.flag_at-t.ensures c.sweep_two-w.ensures in
+    begun-asks begun c.requires.0 c.sweep_two-w.auto.scratch
 
 pub returns : goal.returns
-returns c = c.part_from.ensures.done _ ((let begun : Begun (flagged c.args.flags.now) c.args.col.now c.sweep_two-w.new.col c.sweep_two-w.new.scratch 2 c.sweep_two-w.result = two-begun _ _ _ c.requires.1 (omega (arith, c.requires.0.room)) c.flag_at-s.ensures c.flag_at-t.ensures c.sweep_two-w.ensures in begun))
+returns c =
+    let begun : Begun (flagged c.args.flags.now) c.args.col.now c.sweep_two-w.new.col c.sweep_two-w.new.scratch 2 c.sweep_two-w.result = two-begun _ _ _ c.requires.1
+    (omega (arith, c.requires.0.room)) c.flag_at-s.ensures c.flag_at-t.ensures c.sweep_two-w.ensures in
+    c.part_from.ensures.done _ begun

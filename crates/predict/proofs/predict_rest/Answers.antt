@@ -1,23 +1,33 @@
 -- `predict::predict_rest` meets its contract: the places before row i hold their predictions. Assumes nothing.
-use Rattle.std.proofs.Common.{arith, ◌-◌, ◌<◌, length}
+use Rattle.std.proofs.Common.{arith, ◌<◌, length}
 use Rattle.rules.specs.Lent.{entries_at, columns_of}
 use Rattle.walks.specs.Walks.{leaf_at, walkable}
 use Rattle.predict.specs.Rows.{further-none, further-next, further-last}
 use Rattle.predict.proofs.predict_rest.Goals as goal
 
 pub loop-i-init : goal.loop-i-init
-loop-i-init c = (c.requires.0, further-none ((λ k x. leaf_at c.args.features c.args.values.now (entries_at ((columns_of c.args.value.now c.args.feature.now c.args.threshold.now c.args.score.now c.args.truechild.now c.args.falsechild.now)) 0 c.args.n) k)) c.args.first c.args.out.now)
+loop-i-init c = (
+  c.requires.0,
+  further-none (λ k x. leaf_at c.args.features c.args.values.now
+      (entries_at (columns_of c.args.value.now c.args.feature.now c.args.threshold.now c.args.score.now c.args.truechild.now c.args.falsechild.now) 0 c.args.n) k) c.args.first
+      c.args.out.now,
+)
 
 pub row_value-requires : goal.row_value-requires
 row_value-requires c =
-    walkable c.args.rows c.args.features 0 c.args.n c.args.values.now ((columns_of c.args.value.now c.args.feature.now c.args.threshold.now c.args.score.now c.args.truechild.now c.args.falsechild.now)) c.args.out.now c.requires.1 c.loop-i.i
+    walkable c.args.rows c.args.features 0 c.args.n c.args.values.now
+    (columns_of c.args.value.now c.args.feature.now c.args.threshold.now c.args.score.now c.args.truechild.now c.args.falsechild.now) c.args.out.now c.requires.1 c.loop-i.i
     c.loop-i-test.true
 
 pub offset_bounds-out-i : goal.offset_bounds-out-i
-offset_bounds-out-i c = omega (arith, (let placed : c.loop-i.i < length c.args.out.now = omega (arith, c.loop-i-test.true, c.requires.1.room) in placed), c.loop-i.invariant.1.long)
+offset_bounds-out-i c =
+    let placed : c.loop-i.i < length c.args.out.now = omega (arith, c.loop-i-test.true, c.requires.1.room) in
+    omega (arith, placed, c.loop-i.invariant.1.long)
 
 pub bounds-out-i : goal.bounds-out-i
-bounds-out-i c = omega (arith, (let placed : c.loop-i.i < length c.args.out.now = omega (arith, c.loop-i-test.true, c.requires.1.room) in placed), c.loop-i.invariant.1.long)
+bounds-out-i c =
+    let placed : c.loop-i.i < length c.args.out.now = omega (arith, c.loop-i-test.true, c.requires.1.room) in
+    omega (arith, placed, c.loop-i.invariant.1.long)
 
 pub overflow_add-i : goal.overflow_add-i
 overflow_add-i c = omega (arith, c.loop-i-test.true, c.requires.1.few)
@@ -26,16 +36,21 @@ pub loop-i-smaller : goal.loop-i-smaller
 loop-i-smaller c = omega (arith, c.loop-i-test.true)
 
 pub loop-i-preserved : goal.loop-i-preserved
-loop-i-preserved c = (
-  omega (arith, c.loop-i-test.true),
-  further-next ((λ k x. leaf_at c.args.features c.args.values.now (entries_at ((columns_of c.args.value.now c.args.feature.now c.args.threshold.now c.args.score.now c.args.truechild.now c.args.falsechild.now)) 0 c.args.n) k)) c.args.first c.loop-i.i c.args.out.now c.loop-i.out c.row_value.result ((let placed : c.loop-i.i < length c.args.out.now = omega (arith, c.loop-i-test.true, c.requires.1.room) in placed))
-      c.loop-i.invariant.1 c.row_value.ensures,
-)
+loop-i-preserved c =
+    let placed : c.loop-i.i < length c.args.out.now = omega (arith, c.loop-i-test.true, c.requires.1.room) in (
+      omega (arith, c.loop-i-test.true),
+      further-next (λ k x. leaf_at c.args.features c.args.values.now
+          (entries_at (columns_of c.args.value.now c.args.feature.now c.args.threshold.now c.args.score.now c.args.truechild.now c.args.falsechild.now) 0 c.args.n) k) c.args.first
+          c.loop-i.i c.args.out.now c.loop-i.out c.row_value.result placed
+          c.loop-i.invariant.1 c.row_value.ensures,
+    )
 
 pub shape_of-out : goal.shape_of-out
 shape_of-out c = c.loop-i.invariant.1.long
 
 pub returns : goal.returns
 returns c =
-    further-last ((λ k x. leaf_at c.args.features c.args.values.now (entries_at ((columns_of c.args.value.now c.args.feature.now c.args.threshold.now c.args.score.now c.args.truechild.now c.args.falsechild.now)) 0 c.args.n) k)) c.args.first c.loop-i.i c.args.rows c.args.out.now c.loop-i.out c.loop-i.invariant.0 c.loop-i-test.false
+    further-last (λ k x. leaf_at c.args.features c.args.values.now
+    (entries_at (columns_of c.args.value.now c.args.feature.now c.args.threshold.now c.args.score.now c.args.truechild.now c.args.falsechild.now) 0 c.args.n) k) c.args.first
+    c.loop-i.i c.args.rows c.args.out.now c.loop-i.out c.loop-i.invariant.0 c.loop-i-test.false
     c.loop-i.invariant.1

@@ -11,15 +11,23 @@ use Rattle.predict.proofs.predict_tree.Goals as goal
 
 pub returns-then-number-ne0 : goal.returns-then-number-ne0
 unfolding predict_tree tree_in
-returns-then-number-ne0 c = reads-refused _ ((map (leaf_at c.args.shape.features c.args.values.now (entries_at ((columns_of c.args.value.now c.args.feature.now c.args.threshold.now c.args.score.now c.args.truechild.now c.args.falsechild.now)) 0 (shortest ((columns_of c.args.value.now c.args.feature.now c.args.threshold.now c.args.score.now c.args.truechild.now c.args.falsechild.now))))) (from 0 c.args.shape.rows))) c.args.out.now ((c.predict_verdict-number.ensures c.args.out.now refl)) c.if-number-ne0.true
+returns-then-number-ne0 c =
+    reads-refused _ (map (leaf_at c.args.shape.features c.args.values.now
+    (entries_at (columns_of c.args.value.now c.args.feature.now c.args.threshold.now c.args.score.now c.args.truechild.now c.args.falsechild.now) 0
+    (shortest (columns_of c.args.value.now c.args.feature.now c.args.threshold.now c.args.score.now c.args.truechild.now c.args.falsechild.now)))) (from 0 c.args.shape.rows))
+    c.args.out.now (c.predict_verdict-number.ensures c.args.out.now refl) c.if-number-ne0.true
 
 pub predict_rows-requires : goal.predict_rows-requires
 predict_rows-requires c =
-    subst (λ n. Readable c.args.shape.rows c.args.shape.features 0 n c.args.values.now ((columns_of c.args.value.now c.args.feature.now c.args.threshold.now c.args.score.now c.args.truechild.now c.args.falsechild.now)) c.args.out.now) (sym c.shortest_of-n.ensures)
-    (predict-passed c.args.shape c.args.values.now ((columns_of c.args.value.now c.args.feature.now c.args.threshold.now c.args.score.now c.args.truechild.now c.args.falsechild.now)) c.args.out.now (sym ((c.predict_verdict-number.ensures c.args.out.now refl)) ∙ c.if-number-ne0.false))
+    subst (λ n. Readable c.args.shape.rows c.args.shape.features 0 n c.args.values.now
+    (columns_of c.args.value.now c.args.feature.now c.args.threshold.now c.args.score.now c.args.truechild.now c.args.falsechild.now) c.args.out.now) (sym c.shortest_of-n.ensures)
+    (predict-passed c.args.shape c.args.values.now (columns_of c.args.value.now c.args.feature.now c.args.threshold.now c.args.score.now c.args.truechild.now c.args.falsechild.now)
+    c.args.out.now (sym (c.predict_verdict-number.ensures c.args.out.now refl) ∙ c.if-number-ne0.false))
 
 pub returns : goal.returns
 unfolding predict_tree tree_in
 returns c =
-    reads-done c.args.out.now ((c.predict_verdict-number.ensures c.args.out.now refl)) c.if-number-ne0.false
-    (c.predict_rows.ensures ∙ ap ((λ n. map (leaf_at c.args.shape.features c.args.values.now (entries_at ((columns_of c.args.value.now c.args.feature.now c.args.threshold.now c.args.score.now c.args.truechild.now c.args.falsechild.now)) 0 n)) (from 0 c.args.shape.rows))) c.shortest_of-n.ensures)
+    reads-done c.args.out.now (c.predict_verdict-number.ensures c.args.out.now refl) c.if-number-ne0.false
+    (c.predict_rows.ensures ∙ ap (λ n. map (leaf_at c.args.shape.features c.args.values.now
+    (entries_at (columns_of c.args.value.now c.args.feature.now c.args.threshold.now c.args.score.now c.args.truechild.now c.args.falsechild.now) 0 n)) (from 0 c.args.shape.rows))
+    c.shortest_of-n.ensures)

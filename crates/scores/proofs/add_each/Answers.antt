@@ -1,5 +1,5 @@
 -- `scores::add_each` meets its contract: after i turns the first i are added. Assumes nothing.
-use Rattle.std.proofs.Common.{arith, ◌-◌}
+use Rattle.std.proofs.Common.{arith}
 use Rattle.scores.specs.Lists.{write-start, join-turn, join-done}
 use Rattle.scores.proofs.add_each.Goals as goal
 
@@ -13,4 +13,5 @@ pub shape_of-v : goal.shape_of-v
 shape_of-v c = c.loop-i.invariant.long
 
 pub returns : goal.returns
-returns c = join-done _ _ _ _ c.loop-i.invariant (omega arith)
+returns c =
+    join-done _ _ _ _ c.loop-i.invariant (omega arith)

@@ -10,10 +10,14 @@ unfolding scored
 returns-then-is_leaf c = scored-by _ _ _ _ _ (sym c.is_leaf.ensures ∙ c.if-is_leaf.true)
 
 pub bounds-v-j : goal.bounds-v-j
-bounds-v-j c = (let known : c.wide-j.result < length c.args.v.now = subst (λ j. j < length c.args.v.now) (sym c.wide-j.ensures) (c.requires (sym c.is_leaf.ensures ∙ c.if-is_leaf.false)) in known)
+bounds-v-j c =
+    let known : c.wide-j.result < length c.args.v.now = subst (λ j. j < length c.args.v.now) (sym c.wide-j.ensures) (c.requires (sym c.is_leaf.ensures ∙ c.if-is_leaf.false)) in
+    known
 
 pub bounds-v-j-2 : goal.bounds-v-j-2
-bounds-v-j-2 c = (let known : c.wide-j.result < length c.args.v.now = subst (λ j. j < length c.args.v.now) (sym c.wide-j.ensures) (c.requires (sym c.is_leaf.ensures ∙ c.if-is_leaf.false)) in known)
+bounds-v-j-2 c =
+    let known : c.wide-j.result < length c.args.v.now = subst (λ j. j < length c.args.v.now) (sym c.wide-j.ensures) (c.requires (sym c.is_leaf.ensures ∙ c.if-is_leaf.false)) in
+    known
 
 pub returns : goal.returns
 unfolding scored

@@ -7,4 +7,5 @@ pub add_each-requires : goal.add_each-requires
 add_each-requires c = c.requires ∙ sym c.normalise.auto.v
 
 pub returns : goal.returns
-returns c = c.add_each.ensures ∙ ap (add_each c.args.v.now) c.normalise.ensures
+returns c =
+    c.add_each.ensures ∙ ap (add_each c.args.v.now) c.normalise.ensures

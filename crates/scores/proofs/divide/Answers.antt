@@ -1,5 +1,5 @@
 -- `scores::divide` meets its contract: after i turns the first i are divided. Assumes nothing.
-use Rattle.std.proofs.Common.{arith, ◌-◌}
+use Rattle.std.proofs.Common.{arith}
 use Rattle.scores.specs.Lists.{write-start, divide-turn, divide-done}
 use Rattle.scores.proofs.divide.Goals as goal
 
@@ -13,4 +13,5 @@ pub shape_of-v : goal.shape_of-v
 shape_of-v c = c.loop-i.invariant.long
 
 pub returns : goal.returns
-returns c = divide-done _ _ _ _ c.loop-i.invariant (omega arith)
+returns c =
+    divide-done _ _ _ _ c.loop-i.invariant (omega arith)

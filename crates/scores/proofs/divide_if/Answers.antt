@@ -7,4 +7,5 @@ pub returns-then-by : goal.returns-then-by
 returns-then-by c = c.divide.ensures ∙ divided _ _ _ c.if-by.true
 
 pub returns-else-by : goal.returns-else-by
-returns-else-by c = divided _ _ _ c.if-by.false
+returns-else-by c =
+    divided _ _ _ c.if-by.false

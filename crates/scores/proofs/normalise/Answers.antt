@@ -5,4 +5,5 @@ use Rattle.scores.proofs.normalise.Goals as goal
 
 pub returns : goal.returns
 unfolding normalised
-returns c = c.divide_if.ensures ∙ ap (λ s. divided_if s c.args.v.now) c.sum_of-sum.ensures
+returns c =
+    c.divide_if.ensures ∙ ap (λ s. divided_if s c.args.v.now) c.sum_of-sum.ensures

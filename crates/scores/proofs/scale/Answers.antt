@@ -9,4 +9,5 @@ returns-in-Normalised c = c.normalise.ensures ∙ ap (λ s. scaled s c.args.v.no
 
 pub returns-in-ByMass : goal.returns-in-ByMass
 unfolding scaled
-returns-in-ByMass c = c.divide_if.ensures ∙ ap (λ s. scaled s c.args.v.now) (sym c.in-ByMass.is)
+returns-in-ByMass c =
+    c.divide_if.ensures ∙ ap (λ s. scaled s c.args.v.now) (sym c.in-ByMass.is)

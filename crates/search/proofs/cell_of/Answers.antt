@@ -22,4 +22,4 @@ cell_at-v-requires c =
 pub returns : goal.returns
 returns c =
     let a = c.args in
-    cell-is a.features ((tables_of c.args.values.now c.args.targets.now c.args.weights.now c.args.counts.now)) a.j a.r c.mass_of-m.ensures c.cell_at-v.ensures
+    cell-is a.features (tables_of c.args.values.now c.args.targets.now c.args.weights.now c.args.counts.now) a.j a.r c.mass_of-m.ensures c.cell_at-v.ensures

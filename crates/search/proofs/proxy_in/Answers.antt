@@ -4,4 +4,5 @@ use Rattle.rules.specs.Totals.{proxy}
 use Rattle.search.proofs.proxy_in.Goals as goal
 
 pub returns : goal.returns
-returns c = c.proxy_of.ensures ∙ ap (proxy c.args.t) c.less_of-f.ensures
+returns c =
+    c.proxy_of.ensures ∙ ap (proxy c.args.t) c.less_of-f.ensures

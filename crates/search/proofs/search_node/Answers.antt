@@ -9,7 +9,7 @@ pub returns-then-words-at : goal.returns-then-words-at
 returns-then-words-at c =
     let a = c.args in
     search-short a.p a.words.now a.thresholds.now
-    (node_rows_at a.rows a.features a.from a.to ((tables_of c.args.values.now c.args.targets.now c.args.weights.now c.args.counts.now)) a.order.now a.a) a.d c.requires.4
+    (node_rows_at a.rows a.features a.from a.to (tables_of c.args.values.now c.args.targets.now c.args.weights.now c.args.counts.now) a.order.now a.a) a.d c.requires.4
     (subst (λ n. length a.words.now - a.d.words < n) c.requires.1 c.if-words-at.true)
 
 pub choice_good-requires : goal.choice_good-requires
@@ -32,7 +32,7 @@ pub returns-in_default : goal.returns-in_default
 returns-in_default c =
     let a = c.args in
     search-stop a.p a.words.now a.thresholds.now
-    (node_rows_at a.rows a.features a.from a.to ((tables_of c.args.values.now c.args.targets.now c.args.weights.now c.args.counts.now)) a.order.now a.a) a.d c.requires.4 (sym (ap
+    (node_rows_at a.rows a.features a.from a.to (tables_of c.args.values.now c.args.targets.now c.args.weights.now c.args.counts.now) a.order.now a.a) a.d c.requires.4 (sym (ap
     (λ n. each_once n (take n (drop a.d.words a.words.now))) c.requires.1) ∙ sym c.choice_good.ensures ∙
     c.if-choice_good.true) (c.least-k.ensures ∙ ap (λ z. min z a.features)
     c.wide.ensures ∙ ap (min a.p.tried) c.requires.1) _ c.try_all-r.ensures.0
@@ -56,11 +56,11 @@ pub returns-then-choice_good : goal.returns-then-choice_good
 returns-then-choice_good c =
     let a = c.args in
     search-goes a.p a.words.now a.thresholds.now
-    (node_rows_at a.rows a.features a.from a.to ((tables_of c.args.values.now c.args.targets.now c.args.weights.now c.args.counts.now)) a.order.now a.a) a.d c.requires.4
+    (node_rows_at a.rows a.features a.from a.to (tables_of c.args.values.now c.args.targets.now c.args.weights.now c.args.counts.now) a.order.now a.a) a.d c.requires.4
     (sym (ap (λ n. each_once n (take n (drop a.d.words a.words.now))) c.requires.1) ∙ sym c.choice_good.ensures ∙ c.if-choice_good.true)
     (c.least-k.ensures ∙ ap (λ z. min z a.features) c.wide.ensures ∙ ap (min a.p.tried) c.requires.1) _
     c.try_all-r.ensures.0 _ _ c.in-Goes.is
-    (subst (λ n. RowsTried n (node_rows_at a.rows a.features a.from a.to ((tables_of c.args.values.now c.args.targets.now c.args.weights.now c.args.counts.now)) a.order.now a.a) c.try_all-r.result)
+    (subst (λ n. RowsTried n (node_rows_at a.rows a.features a.from a.to (tables_of c.args.values.now c.args.targets.now c.args.weights.now c.args.counts.now) a.order.now a.a) c.try_all-r.result)
     c.requires.1 c.try_all-r.ensures.1) a.features c.requires.1
     (omega (arith, c.requires.4.0, c.if-words-at.false)) c.requires.3
 
@@ -68,5 +68,5 @@ pub returns : goal.returns
 returns c =
     let a = c.args in
     search-bad a.p a.words.now a.thresholds.now
-    (node_rows_at a.rows a.features a.from a.to ((tables_of c.args.values.now c.args.targets.now c.args.weights.now c.args.counts.now)) a.order.now a.a) a.d c.requires.4
+    (node_rows_at a.rows a.features a.from a.to (tables_of c.args.values.now c.args.targets.now c.args.weights.now c.args.counts.now) a.order.now a.a) a.d c.requires.4
     (sym (ap (λ n. each_once n (take n (drop a.d.words a.words.now))) c.requires.1) ∙ sym c.choice_good.ensures ∙ c.if-choice_good.false)

@@ -9,4 +9,5 @@ returns-then-k-p c = rw (lt-ltb _ _ c.if-k-p.true)
 
 pub returns : goal.returns
 unfolding too_few
-returns c = rw (le-ltb _ _ c.if-k-p.false)
+returns c =
+    rw (le-ltb _ _ c.if-k-p.false)

@@ -25,7 +25,8 @@ pub returns-in_default : goal.returns-in_default
 returns-in_default c =
     let a = c.args in
     let l = c.loop-i in (
-      λ W s. tries-stop a.p (node_rows_at a.rows a.features a.from a.to ((tables_of c.args.values.now c.args.targets.now c.args.weights.now c.args.counts.now)) a.order.now a.a) a.thresholds.now
+      λ W s. tries-stop a.p (node_rows_at a.rows a.features a.from a.to (tables_of c.args.values.now c.args.targets.now c.args.weights.now c.args.counts.now) a.order.now a.a)
+          a.thresholds.now
           a.words.now a.at a.k l.i c.requires.k_in_bounds.0 c.loop-i-test.true l.best l.used W s
           c.in_default.is (c.try_one-r.ensures.0 W s) ∙ l.invariant.1 W s,
       tt,
@@ -42,16 +43,19 @@ loop-i-preserved c =
     let a = c.args in
     let l = c.loop-i in (
       omega (arith, c.loop-i-test.true),
-      λ W s. tries-next a.p (node_rows_at a.rows a.features a.from a.to ((tables_of c.args.values.now c.args.targets.now c.args.weights.now c.args.counts.now)) a.order.now a.a) a.thresholds.now a.words.now a.at a.k l.i c.requires.k_in_bounds.0 c.loop-i-test.true
+      λ W s. tries-next a.p (node_rows_at a.rows a.features a.from a.to (tables_of c.args.values.now c.args.targets.now c.args.weights.now c.args.counts.now) a.order.now a.a)
+          a.thresholds.now a.words.now a.at a.k l.i c.requires.k_in_bounds.0 c.loop-i-test.true
           l.best l.used W s c.in-Goes.is (c.try_one-r.ensures.0 W s) ∙ l.invariant.1 W s,
-      subst (RowsTried a.features (node_rows_at a.rows a.features a.from a.to (tables_of a.values.now a.targets.now a.weights.now a.counts.now) a.order.now a.a)) c.in-Goes.is c.try_one-r.ensures.1,
+      subst (RowsTried a.features (node_rows_at a.rows a.features a.from a.to (tables_of a.values.now a.targets.now a.weights.now a.counts.now) a.order.now a.a)) c.in-Goes.is
+          c.try_one-r.ensures.1,
     )
 
 pub returns : goal.returns
 returns c =
     let a = c.args in
     let l = c.loop-i in (
-      λ W s. tries-end a.p (node_rows_at a.rows a.features a.from a.to ((tables_of c.args.values.now c.args.targets.now c.args.weights.now c.args.counts.now)) a.order.now a.a) a.words.now a.at a.k
+      λ W s. tries-end a.p (node_rows_at a.rows a.features a.from a.to (tables_of c.args.values.now c.args.targets.now c.args.weights.now c.args.counts.now) a.order.now a.a)
+          a.words.now a.at a.k
           l.i c.requires.k_in_bounds.0 c.loop-i-test.false (record { best = l.best.held; left = left W a.thresholds.now s l.used }) ∙ l.invariant.1 W s,
       l.invariant.2,
     )

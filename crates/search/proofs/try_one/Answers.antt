@@ -108,7 +108,9 @@ random_in-requires c =
       rows = subst (Below a.rows) (sym (part-is a.rows a.order.now a.from a.to a.j c.wide.ensures q.ordered))
           (q.below a.j c.requires.1);
       shape = (q.shape, c.requires.1);
-      room = subst (λ l. tally (map (element_of a.features ((tables_of c.args.values.now c.args.targets.now c.args.weights.now c.args.counts.now))) l) ≤ a.a.count) (sym (part-is a.rows a.order.now a.from a.to a.j c.wide.ensures
+      room =
+          subst (λ l. tally (map (element_of a.features (tables_of c.args.values.now c.args.targets.now c.args.weights.now c.args.counts.now)) l) ≤ a.a.count)
+          (sym (part-is a.rows a.order.now a.from a.to a.j c.wide.ensures
           q.ordered)) (omega (arith, q.room a.j c.requires.1));
     }
 
@@ -117,9 +119,10 @@ returns-in-Best c =
     let a = c.args in
     let q = c.requires in
     let p = part-is a.rows a.order.now a.from a.to a.j c.wide.ensures q.0.ordered in (
-      λ W s. try-best a.rows a.features a.from a.to ((tables_of c.args.values.now c.args.targets.now c.args.weights.now c.args.counts.now)) a.order.now a.a a.p a.j q.1 a.h.held
+      λ W s. try-best a.rows a.features a.from a.to (tables_of c.args.values.now c.args.targets.now c.args.weights.now c.args.counts.now) a.order.now a.a a.p a.j q.1 a.h.held
           (left W a.thresholds.now s a.m) p c.best_in-b.ensures.0 c.in-Best.is,
-      try-rows a.rows a.features a.from a.to ((tables_of c.args.values.now c.args.targets.now c.args.weights.now c.args.counts.now)) a.order.now a.a a.p a.j q.1 a.h p _ c.best_in-b.ensures.1 q.2,
+      try-rows a.rows a.features a.from a.to (tables_of c.args.values.now c.args.targets.now c.args.weights.now c.args.counts.now) a.order.now a.a a.p a.j q.1 a.h p _
+          c.best_in-b.ensures.1 q.2,
     )
 
 pub returns-in-Random : goal.returns-in-Random
@@ -127,8 +130,9 @@ returns-in-Random c =
     let a = c.args in
     let q = c.requires in
     let p = part-is a.rows a.order.now a.from a.to a.j c.wide.ensures q.0.ordered in (
-      λ W s. try-random a.rows a.features a.from a.to ((tables_of c.args.values.now c.args.targets.now c.args.weights.now c.args.counts.now)) a.order.now a.a a.p a.j q.1
+      λ W s. try-random a.rows a.features a.from a.to (tables_of c.args.values.now c.args.targets.now c.args.weights.now c.args.counts.now) a.order.now a.a a.p a.j q.1
           (record { best = a.h.held; left = left W a.thresholds.now s a.m }) p (c.random_in.ensures.0 W s) c.in-Random.is,
-      tries-rows a.rows a.features a.from a.to ((tables_of c.args.values.now c.args.targets.now c.args.weights.now c.args.counts.now)) a.order.now a.a a.p a.j q.1 a.h p c.random_in.result
+      tries-rows a.rows a.features a.from a.to (tables_of c.args.values.now c.args.targets.now c.args.weights.now c.args.counts.now) a.order.now a.a a.p a.j q.1 a.h p
+          c.random_in.result
           c.random_in.ensures.1 q.2,
     )

@@ -16,4 +16,5 @@ pub bounds-values-i : goal.bounds-values-i
 bounds-values-i c = c.requires.within
 
 pub returns : goal.returns
-returns c = sym (cell_lies c.args.features c.args.values.now c.args.i c.args.j c.requires.known)
+returns c =
+    sym (cell_lies c.args.features c.args.values.now c.args.i c.args.j c.requires.known)

@@ -3,4 +3,5 @@
 use Rattle.slices.proofs.shortest_of_eight.Goals as goal
 
 pub returns : goal.returns
-returns c = cc
+returns c =
+    cc

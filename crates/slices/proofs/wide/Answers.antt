@@ -3,4 +3,5 @@ use Rattle.std.proofs.Common.{refl}
 use Rattle.slices.proofs.wide.Goals as goal
 
 pub returns : goal.returns
-returns c = refl
+returns c =
+    refl

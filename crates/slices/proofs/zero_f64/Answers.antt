@@ -1,5 +1,5 @@
 -- `slices::zero_f64` meets its contract: after i turns the first i places hold the value. Assumes nothing.
-use Rattle.std.proofs.Common.{arith, ◌-◌}
+use Rattle.std.proofs.Common.{arith}
 use Rattle.rules.specs.Words.{nought}
 use Rattle.slices.specs.Filling.{fill_start, fill-turn, fill_done}
 use Rattle.slices.proofs.zero_f64.Goals as goal
@@ -14,4 +14,5 @@ pub shape_of-s : goal.shape_of-s
 shape_of-s c = c.loop-i.invariant.long
 
 pub returns : goal.returns
-returns c = fill_done nought _ _ _ c.loop-i.invariant (omega arith)
+returns c =
+    fill_done nought _ _ _ c.loop-i.invariant (omega arith)

@@ -1,5 +1,5 @@
 -- `slices::zero_reals` meets its contract: after i turns the first i places hold the value. Assumes nothing.
-use Rattle.std.proofs.Common.{arith, ◌-◌, replicate}
+use Rattle.std.proofs.Common.{arith, replicate}
 use Rattle.rules.specs.Words.{nought}
 use Rattle.slices.specs.Filling.{fill_start, fill-turn, fill_done}
 use Rattle.slices.proofs.zero_reals.Goals as goal
@@ -14,4 +14,5 @@ pub shape_of-s : goal.shape_of-s
 shape_of-s c = c.loop-i.invariant.long
 
 pub returns : goal.returns
-returns c = fill_done (replicate 3 nought) _ _ _ c.loop-i.invariant (omega arith)
+returns c =
+    fill_done (replicate 3 nought) _ _ _ c.loop-i.invariant (omega arith)

@@ -1,5 +1,5 @@
 -- `sweeps::copy_in` meets its contract: after j turns the first j are pasted. Assumes nothing.
-use Rattle.std.proofs.Common.{rules, arith, ◌≡◌, refl, ◌∙◌, List, ℕ, ◌<◌, ◌-◌, ◌+◌, add-one, length, get_or, set}
+use Rattle.std.proofs.Common.{rules, arith, ◌≡◌, refl, ◌∙◌, List, ℕ, ◌<◌, ◌+◌, add-one, length, get_or, set}
 use lib.Seq.{paste, paste-zero, paste-suc}
 use Rattle.sweeps.proofs.copy_in.Goals as goal
 

@@ -24,4 +24,5 @@ done p col₀ scratch₀ i w col scratch after r s e =
     record { within = s.within; done = λ before b. joined p before col scratch after r (s.done before b) (e ∙ ap (λ n. paste col r scratch (n - r)) b.long) }
 
 pub returns : goal.returns
-returns c = done _ _ _ _ _ _ _ _ _ c.sweep-w.ensures c.copy_in.ensures
+returns c =
+    done _ _ _ _ _ _ _ _ _ c.sweep-w.ensures c.copy_in.ensures

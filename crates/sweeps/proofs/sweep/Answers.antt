@@ -96,4 +96,5 @@ loop-i-preserved c =
     ]
 
 pub returns : goal.returns
-returns c = swept _ _ _ _ _ _ _ _ _ c.loop-i.invariant (omega arith)
+returns c =
+    swept _ _ _ _ _ _ _ _ _ c.loop-i.invariant (omega arith)

@@ -12,4 +12,5 @@ pub bounds-scratch-f : goal.bounds-scratch-f
 bounds-scratch-f c = simp length-set (omega arith)
 
 pub returns : goal.returns
-returns c = by_flags _ _ _ _ c.pick-first.ensures c.one_if-a.ensures.0 c.one_if.ensures.0
+returns c =
+    by_flags _ _ _ _ c.pick-first.ensures c.one_if-a.ensures.0 c.one_if.ensures.0

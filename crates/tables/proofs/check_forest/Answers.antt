@@ -6,4 +6,5 @@ use Rattle.tables.proofs.check_forest.Goals as goal
 
 pub returns : goal.returns
 unfolding check_forest
-returns c = c.reply_of.ensures ∙ ap replies c.forest_verdict-number.ensures
+returns c =
+    c.reply_of.ensures ∙ ap replies c.forest_verdict-number.ensures

@@ -6,4 +6,5 @@ use Rattle.tables.proofs.check_tree.Goals as goal
 
 pub returns : goal.returns
 unfolding check_tree
-returns c = c.reply_of.ensures ∙ ap replies c.tree_verdict-number.ensures
+returns c =
+    c.reply_of.ensures ∙ ap replies c.tree_verdict-number.ensures

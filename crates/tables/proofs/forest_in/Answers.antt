@@ -7,4 +7,5 @@ pub returns-then-features_in : goal.returns-then-features_in
 returns-then-features_in c = and-on _ _ (sym c.features_in.ensures ∙ c.if-features_in.true) c.trees_in.ensures
 
 pub returns-else-features_in : goal.returns-else-features_in
-returns-else-features_in c = and-off _ _ (sym c.features_in.ensures ∙ c.if-features_in.false)
+returns-else-features_in c =
+    and-off _ _ (sym c.features_in.ensures ∙ c.if-features_in.false)

@@ -9,14 +9,16 @@ use Rattle.tables.proofs.read_node.Goals as goal
 pub returns-then-number-ne0 : goal.returns-then-number-ne0
 unfolding read_node
 returns-then-number-ne0 c =
-    read-refused ((columns_of c.args.value.now c.args.feature.now c.args.threshold.now c.args.score.now c.args.truechild.now c.args.falsechild.now)) c.args.k _ c.if-number-ne0.true ∙ ap (λ m. node_read m ((columns_of c.args.value.now c.args.feature.now c.args.threshold.now c.args.score.now c.args.truechild.now c.args.falsechild.now)) c.args.k)
+    read-refused (columns_of c.args.value.now c.args.feature.now c.args.threshold.now c.args.score.now c.args.truechild.now c.args.falsechild.now) c.args.k _ c.if-number-ne0.true
+    ∙ ap (λ m. node_read m (columns_of c.args.value.now c.args.feature.now c.args.threshold.now c.args.score.now c.args.truechild.now c.args.falsechild.now) c.args.k)
     c.tree_verdict-number.ensures
 
 pub returns-then-n-k : goal.returns-then-n-k
 unfolding read_node
 returns-then-n-k c =
-    read-missing ((columns_of c.args.value.now c.args.feature.now c.args.threshold.now c.args.score.now c.args.truechild.now c.args.falsechild.now)) c.args.k _ c.if-number-ne0.false
-    (subst (λ m. m ≤ c.args.k) c.shortest_of-n.ensures c.if-n-k.true) ∙ ap (λ m. node_read m ((columns_of c.args.value.now c.args.feature.now c.args.threshold.now c.args.score.now c.args.truechild.now c.args.falsechild.now)) c.args.k)
+    read-missing (columns_of c.args.value.now c.args.feature.now c.args.threshold.now c.args.score.now c.args.truechild.now c.args.falsechild.now) c.args.k _ c.if-number-ne0.false
+    (subst (λ m. m ≤ c.args.k) c.shortest_of-n.ensures c.if-n-k.true)
+    ∙ ap (λ m. node_read m (columns_of c.args.value.now c.args.feature.now c.args.threshold.now c.args.score.now c.args.truechild.now c.args.falsechild.now) c.args.k)
     c.tree_verdict-number.ensures
 
 pub offset_bounds-value-k : goal.offset_bounds-value-k
@@ -59,6 +61,7 @@ pub returns : goal.returns
 unfolding read_node
 returns c =
     ap (λ m. NodeReply.Read m) c.node_of-node.ensures
-    ∙ read-there ((columns_of c.args.value.now c.args.feature.now c.args.threshold.now c.args.score.now c.args.truechild.now c.args.falsechild.now)) c.args.k _ c.if-number-ne0.false
+    ∙ read-there (columns_of c.args.value.now c.args.feature.now c.args.threshold.now c.args.score.now c.args.truechild.now c.args.falsechild.now) c.args.k _ c.if-number-ne0.false
     (subst (λ m. c.args.k < m) c.shortest_of-n.ensures c.if-n-k.false)
-    ∙ ap (λ m. node_read m ((columns_of c.args.value.now c.args.feature.now c.args.threshold.now c.args.score.now c.args.truechild.now c.args.falsechild.now)) c.args.k) c.tree_verdict-number.ensures
+    ∙ ap (λ m. node_read m (columns_of c.args.value.now c.args.feature.now c.args.threshold.now c.args.score.now c.args.truechild.now c.args.falsechild.now) c.args.k)
+    c.tree_verdict-number.ensures

@@ -1,6 +1,5 @@
 -- `tables::starts_rise` meets its contract: what is left to ask is asked from the start that is held. Assumes nothing.
-use Rattle.std.proofs.Common.{lt-ltb, le-ltb, arith, ◌-◌, ltb}
-use Rattle.rules.specs.Words.{along}
+use Rattle.std.proofs.Common.{lt-ltb, le-ltb, arith, ltb}
 use Rattle.lemmas.specs.Scans.{along-none, along-starts, along-goes, along-stops, along-ends}
 use Rattle.tables.proofs.starts_rise.Goals as goal
 
@@ -20,4 +19,5 @@ pub loop-i-preserved : goal.loop-i-preserved
 loop-i-preserved c = along-goes ltb c.args.starts.now c.loop-i.last c.loop-i.i 0 (omega arith) c.loop-i.invariant (lt-ltb _ _ c.if-next-last.false)
 
 pub returns : goal.returns
-returns c = along-ends ltb c.args.starts.now c.loop-i.last c.loop-i.i (omega arith) c.loop-i.invariant
+returns c =
+    along-ends ltb c.args.starts.now c.loop-i.last c.loop-i.i (omega arith) c.loop-i.invariant

@@ -15,11 +15,19 @@ tree_good-requires c = record { inside = omega (arith, c.shortest_of-n.ensures) 
 pub returns-then-not-tree_good : goal.returns-then-not-tree_good
 unfolding tree_table_tests tree_in
 returns-then-not-tree_good c =
+    let looked : c.tree_good.result ≡ good_tree c.args.features
+    (tree_in (columns_of c.args.value.now c.args.feature.now c.args.threshold.now c.args.score.now c.args.truechild.now c.args.falsechild.now)) = c.tree_good.ensures
+    ∙ ap (λ m. good_tree c.args.features (entries_at (columns_of c.args.value.now c.args.feature.now c.args.threshold.now c.args.score.now c.args.truechild.now
+    c.args.falsechild.now) 0 m)) c.shortest_of-n.ensures in
     passes 1 _ _ (sym c.features_in.ensures ∙ c.if-not-features_in.false)
-    (fails 8 _ _ (sym ((let looked : c.tree_good.result ≡ good_tree c.args.features (tree_in ((columns_of c.args.value.now c.args.feature.now c.args.threshold.now c.args.score.now c.args.truechild.now c.args.falsechild.now))) = c.tree_good.ensures ∙ ap (λ m. good_tree c.args.features (entries_at ((columns_of c.args.value.now c.args.feature.now c.args.threshold.now c.args.score.now c.args.truechild.now c.args.falsechild.now)) 0 m)) c.shortest_of-n.ensures in looked)) ∙ c.if-not-tree_good.true))
+    (fails 8 _ _ (sym looked ∙ c.if-not-tree_good.true))
 
 pub returns : goal.returns
 unfolding tree_table_tests tree_in
 returns c =
+    let looked : c.tree_good.result ≡ good_tree c.args.features
+    (tree_in (columns_of c.args.value.now c.args.feature.now c.args.threshold.now c.args.score.now c.args.truechild.now c.args.falsechild.now)) = c.tree_good.ensures
+    ∙ ap (λ m. good_tree c.args.features (entries_at (columns_of c.args.value.now c.args.feature.now c.args.threshold.now c.args.score.now c.args.truechild.now
+    c.args.falsechild.now) 0 m)) c.shortest_of-n.ensures in
     passes 1 _ _ (sym c.features_in.ensures ∙ c.if-not-features_in.false)
-    (passes 8 _ _ (sym ((let looked : c.tree_good.result ≡ good_tree c.args.features (tree_in ((columns_of c.args.value.now c.args.feature.now c.args.threshold.now c.args.score.now c.args.truechild.now c.args.falsechild.now))) = c.tree_good.ensures ∙ ap (λ m. good_tree c.args.features (entries_at ((columns_of c.args.value.now c.args.feature.now c.args.threshold.now c.args.score.now c.args.truechild.now c.args.falsechild.now)) 0 m)) c.shortest_of-n.ensures in looked)) ∙ c.if-not-tree_good.false) none-failed)
+    (passes 8 _ _ (sym looked ∙ c.if-not-tree_good.false) none-failed)

@@ -58,4 +58,5 @@ pub shape_of-reals : goal.shape_of-reals
 shape_of-reals c = c.grow_tree-r.auto.reals
 
 pub returns : goal.returns
-returns c = plant-done _ _ _ _ _ _ _ _ _ _ c.requires _ _ c.set_up-root.ensures _ c.grow_tree-r.ensures c.tell.ensures
+returns c =
+    plant-done _ _ _ _ _ _ _ _ _ _ c.requires _ _ c.set_up-root.ensures _ c.grow_tree-r.ensures c.tell.ensures

@@ -59,7 +59,8 @@ shape_of-reals-in-BadDraw c = c.zero_work.auto.reals
 pub returns-in-BadDraw : goal.returns-in-BadDraw
 returns-in-BadDraw c =
     (λ i. outcome_of (c.bad_draw.ensures i) (tree_rooms_of (c.zero_nodes.ensures i) (c.zero_behind.ensures i) (c.zero_work.ensures i)))
-    ∙ sym (ap (λ r. finished r ((tree_rooms_of (columns_of c.args.value.now c.args.feature.now c.args.threshold.now c.args.score.now c.args.truechild.now c.args.falsechild.now) (behind_of c.args.nodecount.now c.args.nodemass.now) (work_of c.args.order.now c.args.scratch.now c.args.flags.now c.args.wholes.now c.args.reals.now)))) c.in-BadDraw.is)
+    ∙ sym (ap (λ r. finished r (tree_rooms_of (columns_of c.args.value.now c.args.feature.now c.args.threshold.now c.args.score.now c.args.truechild.now c.args.falsechild.now)
+    (behind_of c.args.nodecount.now c.args.nodemass.now) (work_of c.args.order.now c.args.scratch.now c.args.flags.now c.args.wholes.now c.args.reals.now))) c.in-BadDraw.is)
 
 pub shape_of-order-in-Grown : goal.shape_of-order-in-Grown
 shape_of-order-in-Grown c = c.zero_work.auto.order
@@ -79,5 +80,10 @@ shape_of-reals-in-Grown c = c.zero_work.auto.reals
 pub returns-in-Grown : goal.returns-in-Grown
 returns-in-Grown c =
     (λ i. outcome_of (TreeAnswer.Grown c.in-Grown.report)
-    (tree_rooms_of ((tree_rooms_of (columns_of c.args.value.now c.args.feature.now c.args.threshold.now c.args.score.now c.args.truechild.now c.args.falsechild.now) (behind_of c.args.nodecount.now c.args.nodemass.now) (work_of c.args.order.now c.args.scratch.now c.args.flags.now c.args.wholes.now c.args.reals.now))).nodes ((tree_rooms_of (columns_of c.args.value.now c.args.feature.now c.args.threshold.now c.args.score.now c.args.truechild.now c.args.falsechild.now) (behind_of c.args.nodecount.now c.args.nodemass.now) (work_of c.args.order.now c.args.scratch.now c.args.flags.now c.args.wholes.now c.args.reals.now))).behind (c.zero_work.ensures i)))
-    ∙ sym (ap (λ r. finished r ((tree_rooms_of (columns_of c.args.value.now c.args.feature.now c.args.threshold.now c.args.score.now c.args.truechild.now c.args.falsechild.now) (behind_of c.args.nodecount.now c.args.nodemass.now) (work_of c.args.order.now c.args.scratch.now c.args.flags.now c.args.wholes.now c.args.reals.now)))) c.in-Grown.is)
+    (tree_rooms_of (tree_rooms_of (columns_of c.args.value.now c.args.feature.now c.args.threshold.now c.args.score.now c.args.truechild.now c.args.falsechild.now)
+    (behind_of c.args.nodecount.now c.args.nodemass.now) (work_of c.args.order.now c.args.scratch.now c.args.flags.now c.args.wholes.now c.args.reals.now)).nodes
+    (tree_rooms_of (columns_of c.args.value.now c.args.feature.now c.args.threshold.now c.args.score.now c.args.truechild.now c.args.falsechild.now)
+    (behind_of c.args.nodecount.now c.args.nodemass.now) (work_of c.args.order.now c.args.scratch.now c.args.flags.now c.args.wholes.now c.args.reals.now)).behind
+    (c.zero_work.ensures i)))
+    ∙ sym (ap (λ r. finished r (tree_rooms_of (columns_of c.args.value.now c.args.feature.now c.args.threshold.now c.args.score.now c.args.truechild.now c.args.falsechild.now)
+    (behind_of c.args.nodecount.now c.args.nodemass.now) (work_of c.args.order.now c.args.scratch.now c.args.flags.now c.args.wholes.now c.args.reals.now))) c.in-Grown.is)

@@ -20,27 +20,135 @@ pub tree_verdict-verdict-requires : goal.tree_verdict-verdict-requires
 tree_verdict-verdict-requires c = tt
 
 pub returns-in-Refused : goal.returns-in-Refused
-returns-in-Refused c = fit_refused ((tree_call c.args.shape c.args.settings c.args.tried (given_of c.args.values.now c.args.targets.now c.args.weights.now c.args.counts.now c.args.listings.now) c.args.words.now c.args.thresholds.now)) ((tree_rooms_of (columns_of c.args.value.now c.args.feature.now c.args.threshold.now c.args.score.now c.args.truechild.now c.args.falsechild.now) (behind_of c.args.nodecount.now c.args.nodemass.now) (work_of c.args.order.now c.args.scratch.now c.args.flags.now c.args.wholes.now c.args.reals.now))) _ (sym c.in-Refused.is ∙ (let verdict : c.tree_verdict-verdict.result ≡ checked (tree_tests waiting_room ((tree_call c.args.shape c.args.settings c.args.tried (given_of c.args.values.now c.args.targets.now c.args.weights.now c.args.counts.now c.args.listings.now) c.args.words.now c.args.thresholds.now)) ((tree_rooms_of (columns_of c.args.value.now c.args.feature.now c.args.threshold.now c.args.score.now c.args.truechild.now c.args.falsechild.now) (behind_of c.args.nodecount.now c.args.nodemass.now) (work_of c.args.order.now c.args.scratch.now c.args.flags.now c.args.wholes.now c.args.reals.now)))) = c.tree_verdict-verdict.ensures ((tree_call c.args.shape c.args.settings c.args.tried (given_of c.args.values.now c.args.targets.now c.args.weights.now c.args.counts.now c.args.listings.now) c.args.words.now c.args.thresholds.now)) ((tree_rooms_of (columns_of c.args.value.now c.args.feature.now c.args.threshold.now c.args.score.now c.args.truechild.now c.args.falsechild.now) (behind_of c.args.nodecount.now c.args.nodemass.now) (work_of c.args.order.now c.args.scratch.now c.args.flags.now c.args.wholes.now c.args.reals.now))) (record { shape = refl; given = refl; nodes = c.shortest_of_eight-nodes.ensures; work = record { order = refl; scratch = refl; flags = refl; waiting = sym c.least-waiting.ensures } }) in verdict))
+returns-in-Refused c =
+    let verdict : c.tree_verdict-verdict.result ≡ checked (tree_tests waiting_room
+    (tree_call c.args.shape c.args.settings c.args.tried (given_of c.args.values.now c.args.targets.now c.args.weights.now c.args.counts.now c.args.listings.now) c.args.words.now
+    c.args.thresholds.now) (tree_rooms_of (columns_of c.args.value.now c.args.feature.now c.args.threshold.now c.args.score.now c.args.truechild.now c.args.falsechild.now)
+    (behind_of c.args.nodecount.now c.args.nodemass.now) (work_of c.args.order.now c.args.scratch.now c.args.flags.now c.args.wholes.now c.args.reals.now)))
+    = c.tree_verdict-verdict.ensures (tree_call c.args.shape c.args.settings c.args.tried
+    (given_of c.args.values.now c.args.targets.now c.args.weights.now c.args.counts.now c.args.listings.now) c.args.words.now c.args.thresholds.now)
+    (tree_rooms_of (columns_of c.args.value.now c.args.feature.now c.args.threshold.now c.args.score.now c.args.truechild.now c.args.falsechild.now)
+    (behind_of c.args.nodecount.now c.args.nodemass.now) (work_of c.args.order.now c.args.scratch.now c.args.flags.now c.args.wholes.now c.args.reals.now))
+    (record {
+      shape = refl;
+      given = refl;
+      nodes = c.shortest_of_eight-nodes.ensures;
+      work = record
+          { order = refl; scratch = refl; flags = refl; waiting = sym c.least-waiting.ensures };
+    }) in
+    fit_refused (tree_call c.args.shape c.args.settings c.args.tried (given_of c.args.values.now c.args.targets.now c.args.weights.now c.args.counts.now c.args.listings.now)
+    c.args.words.now c.args.thresholds.now) (tree_rooms_of (columns_of c.args.value.now c.args.feature.now c.args.threshold.now c.args.score.now c.args.truechild.now
+    c.args.falsechild.now) (behind_of c.args.nodecount.now c.args.nodemass.now) (work_of c.args.order.now c.args.scratch.now c.args.flags.now c.args.wholes.now c.args.reals.now)) _
+    (sym c.in-Refused.is ∙ verdict)
 
 pub overflow_mul-size : goal.overflow_mul-size
-overflow_mul-size c = omega (arith, size_low _ _ ((let passed : Checked.Passed ≡ checked (tree_tests waiting_room ((tree_call c.args.shape c.args.settings c.args.tried (given_of c.args.values.now c.args.targets.now c.args.weights.now c.args.counts.now c.args.listings.now) c.args.words.now c.args.thresholds.now)) ((tree_rooms_of (columns_of c.args.value.now c.args.feature.now c.args.threshold.now c.args.score.now c.args.truechild.now c.args.falsechild.now) (behind_of c.args.nodecount.now c.args.nodemass.now) (work_of c.args.order.now c.args.scratch.now c.args.flags.now c.args.wholes.now c.args.reals.now)))) = sym c.in-Passed.is ∙ (let verdict : c.tree_verdict-verdict.result ≡ checked (tree_tests waiting_room ((tree_call c.args.shape c.args.settings c.args.tried (given_of c.args.values.now c.args.targets.now c.args.weights.now c.args.counts.now c.args.listings.now) c.args.words.now c.args.thresholds.now)) ((tree_rooms_of (columns_of c.args.value.now c.args.feature.now c.args.threshold.now c.args.score.now c.args.truechild.now c.args.falsechild.now) (behind_of c.args.nodecount.now c.args.nodemass.now) (work_of c.args.order.now c.args.scratch.now c.args.flags.now c.args.wholes.now c.args.reals.now)))) = c.tree_verdict-verdict.ensures ((tree_call c.args.shape c.args.settings c.args.tried (given_of c.args.values.now c.args.targets.now c.args.weights.now c.args.counts.now c.args.listings.now) c.args.words.now c.args.thresholds.now)) ((tree_rooms_of (columns_of c.args.value.now c.args.feature.now c.args.threshold.now c.args.score.now c.args.truechild.now c.args.falsechild.now) (behind_of c.args.nodecount.now c.args.nodemass.now) (work_of c.args.order.now c.args.scratch.now c.args.flags.now c.args.wholes.now c.args.reals.now))) (record { shape = refl; given = refl; nodes = c.shortest_of_eight-nodes.ensures; work = record { order = refl; scratch = refl; flags = refl; waiting = sym c.least-waiting.ensures } }) in verdict) in passed)))
+overflow_mul-size c =
+    let verdict : c.tree_verdict-verdict.result ≡ checked (tree_tests waiting_room
+    (tree_call c.args.shape c.args.settings c.args.tried (given_of c.args.values.now c.args.targets.now c.args.weights.now c.args.counts.now c.args.listings.now) c.args.words.now
+    c.args.thresholds.now) (tree_rooms_of (columns_of c.args.value.now c.args.feature.now c.args.threshold.now c.args.score.now c.args.truechild.now c.args.falsechild.now)
+    (behind_of c.args.nodecount.now c.args.nodemass.now) (work_of c.args.order.now c.args.scratch.now c.args.flags.now c.args.wholes.now c.args.reals.now)))
+    = c.tree_verdict-verdict.ensures (tree_call c.args.shape c.args.settings c.args.tried
+    (given_of c.args.values.now c.args.targets.now c.args.weights.now c.args.counts.now c.args.listings.now) c.args.words.now c.args.thresholds.now)
+    (tree_rooms_of (columns_of c.args.value.now c.args.feature.now c.args.threshold.now c.args.score.now c.args.truechild.now c.args.falsechild.now)
+    (behind_of c.args.nodecount.now c.args.nodemass.now) (work_of c.args.order.now c.args.scratch.now c.args.flags.now c.args.wholes.now c.args.reals.now))
+    (record {
+      shape = refl;
+      given = refl;
+      nodes = c.shortest_of_eight-nodes.ensures;
+      work = record
+          { order = refl; scratch = refl; flags = refl; waiting = sym c.least-waiting.ensures };
+    }) in
+    let passed : Checked.Passed ≡ checked (tree_tests waiting_room
+    (tree_call c.args.shape c.args.settings c.args.tried (given_of c.args.values.now c.args.targets.now c.args.weights.now c.args.counts.now c.args.listings.now) c.args.words.now
+    c.args.thresholds.now) (tree_rooms_of (columns_of c.args.value.now c.args.feature.now c.args.threshold.now c.args.score.now c.args.truechild.now c.args.falsechild.now)
+    (behind_of c.args.nodecount.now c.args.nodemass.now) (work_of c.args.order.now c.args.scratch.now c.args.flags.now c.args.wholes.now c.args.reals.now))) = sym c.in-Passed.is
+    ∙ verdict in
+    omega (arith, size_low _ _ passed)
 
 pub params_of-p-requires : goal.params_of-p-requires
-params_of-p-requires c = omega (arith, few-features _ _ ((let passed : Checked.Passed ≡ checked (tree_tests waiting_room ((tree_call c.args.shape c.args.settings c.args.tried (given_of c.args.values.now c.args.targets.now c.args.weights.now c.args.counts.now c.args.listings.now) c.args.words.now c.args.thresholds.now)) ((tree_rooms_of (columns_of c.args.value.now c.args.feature.now c.args.threshold.now c.args.score.now c.args.truechild.now c.args.falsechild.now) (behind_of c.args.nodecount.now c.args.nodemass.now) (work_of c.args.order.now c.args.scratch.now c.args.flags.now c.args.wholes.now c.args.reals.now)))) = sym c.in-Passed.is ∙ (let verdict : c.tree_verdict-verdict.result ≡ checked (tree_tests waiting_room ((tree_call c.args.shape c.args.settings c.args.tried (given_of c.args.values.now c.args.targets.now c.args.weights.now c.args.counts.now c.args.listings.now) c.args.words.now c.args.thresholds.now)) ((tree_rooms_of (columns_of c.args.value.now c.args.feature.now c.args.threshold.now c.args.score.now c.args.truechild.now c.args.falsechild.now) (behind_of c.args.nodecount.now c.args.nodemass.now) (work_of c.args.order.now c.args.scratch.now c.args.flags.now c.args.wholes.now c.args.reals.now)))) = c.tree_verdict-verdict.ensures ((tree_call c.args.shape c.args.settings c.args.tried (given_of c.args.values.now c.args.targets.now c.args.weights.now c.args.counts.now c.args.listings.now) c.args.words.now c.args.thresholds.now)) ((tree_rooms_of (columns_of c.args.value.now c.args.feature.now c.args.threshold.now c.args.score.now c.args.truechild.now c.args.falsechild.now) (behind_of c.args.nodecount.now c.args.nodemass.now) (work_of c.args.order.now c.args.scratch.now c.args.flags.now c.args.wholes.now c.args.reals.now))) (record { shape = refl; given = refl; nodes = c.shortest_of_eight-nodes.ensures; work = record { order = refl; scratch = refl; flags = refl; waiting = sym c.least-waiting.ensures } }) in verdict) in passed)))
+params_of-p-requires c =
+    let verdict : c.tree_verdict-verdict.result ≡ checked (tree_tests waiting_room
+    (tree_call c.args.shape c.args.settings c.args.tried (given_of c.args.values.now c.args.targets.now c.args.weights.now c.args.counts.now c.args.listings.now) c.args.words.now
+    c.args.thresholds.now) (tree_rooms_of (columns_of c.args.value.now c.args.feature.now c.args.threshold.now c.args.score.now c.args.truechild.now c.args.falsechild.now)
+    (behind_of c.args.nodecount.now c.args.nodemass.now) (work_of c.args.order.now c.args.scratch.now c.args.flags.now c.args.wholes.now c.args.reals.now)))
+    = c.tree_verdict-verdict.ensures (tree_call c.args.shape c.args.settings c.args.tried
+    (given_of c.args.values.now c.args.targets.now c.args.weights.now c.args.counts.now c.args.listings.now) c.args.words.now c.args.thresholds.now)
+    (tree_rooms_of (columns_of c.args.value.now c.args.feature.now c.args.threshold.now c.args.score.now c.args.truechild.now c.args.falsechild.now)
+    (behind_of c.args.nodecount.now c.args.nodemass.now) (work_of c.args.order.now c.args.scratch.now c.args.flags.now c.args.wholes.now c.args.reals.now))
+    (record {
+      shape = refl;
+      given = refl;
+      nodes = c.shortest_of_eight-nodes.ensures;
+      work = record
+          { order = refl; scratch = refl; flags = refl; waiting = sym c.least-waiting.ensures };
+    }) in
+    let passed : Checked.Passed ≡ checked (tree_tests waiting_room
+    (tree_call c.args.shape c.args.settings c.args.tried (given_of c.args.values.now c.args.targets.now c.args.weights.now c.args.counts.now c.args.listings.now) c.args.words.now
+    c.args.thresholds.now) (tree_rooms_of (columns_of c.args.value.now c.args.feature.now c.args.threshold.now c.args.score.now c.args.truechild.now c.args.falsechild.now)
+    (behind_of c.args.nodecount.now c.args.nodemass.now) (work_of c.args.order.now c.args.scratch.now c.args.flags.now c.args.wholes.now c.args.reals.now))) = sym c.in-Passed.is
+    ∙ verdict in
+    omega (arith, few-features _ _ passed)
 
 pub slice_bounds-plant-end : goal.slice_bounds-plant-end
 slice_bounds-plant-end c =
-    size_room ((tree_call c.args.shape c.args.settings c.args.tried (given_of c.args.values.now c.args.targets.now c.args.weights.now c.args.counts.now c.args.listings.now) c.args.words.now c.args.thresholds.now)) ((tree_rooms_of (columns_of c.args.value.now c.args.feature.now c.args.threshold.now c.args.score.now c.args.truechild.now c.args.falsechild.now) (behind_of c.args.nodecount.now c.args.nodemass.now) (work_of c.args.order.now c.args.scratch.now c.args.flags.now c.args.wholes.now c.args.reals.now)))
-    ((let passed : Checked.Passed ≡ checked (tree_tests waiting_room ((tree_call c.args.shape c.args.settings c.args.tried (given_of c.args.values.now c.args.targets.now c.args.weights.now c.args.counts.now c.args.listings.now) c.args.words.now c.args.thresholds.now)) ((tree_rooms_of (columns_of c.args.value.now c.args.feature.now c.args.threshold.now c.args.score.now c.args.truechild.now c.args.falsechild.now) (behind_of c.args.nodecount.now c.args.nodemass.now) (work_of c.args.order.now c.args.scratch.now c.args.flags.now c.args.wholes.now c.args.reals.now)))) = sym c.in-Passed.is ∙ (let verdict : c.tree_verdict-verdict.result ≡ checked (tree_tests waiting_room ((tree_call c.args.shape c.args.settings c.args.tried (given_of c.args.values.now c.args.targets.now c.args.weights.now c.args.counts.now c.args.listings.now) c.args.words.now c.args.thresholds.now)) ((tree_rooms_of (columns_of c.args.value.now c.args.feature.now c.args.threshold.now c.args.score.now c.args.truechild.now c.args.falsechild.now) (behind_of c.args.nodecount.now c.args.nodemass.now) (work_of c.args.order.now c.args.scratch.now c.args.flags.now c.args.wholes.now c.args.reals.now)))) = c.tree_verdict-verdict.ensures ((tree_call c.args.shape c.args.settings c.args.tried (given_of c.args.values.now c.args.targets.now c.args.weights.now c.args.counts.now c.args.listings.now) c.args.words.now c.args.thresholds.now)) ((tree_rooms_of (columns_of c.args.value.now c.args.feature.now c.args.threshold.now c.args.score.now c.args.truechild.now c.args.falsechild.now) (behind_of c.args.nodecount.now c.args.nodemass.now) (work_of c.args.order.now c.args.scratch.now c.args.flags.now c.args.wholes.now c.args.reals.now))) (record { shape = refl; given = refl; nodes = c.shortest_of_eight-nodes.ensures; work = record { order = refl; scratch = refl; flags = refl; waiting = sym c.least-waiting.ensures } }) in verdict) in passed))
+    let verdict : c.tree_verdict-verdict.result ≡ checked (tree_tests waiting_room
+    (tree_call c.args.shape c.args.settings c.args.tried (given_of c.args.values.now c.args.targets.now c.args.weights.now c.args.counts.now c.args.listings.now) c.args.words.now
+    c.args.thresholds.now) (tree_rooms_of (columns_of c.args.value.now c.args.feature.now c.args.threshold.now c.args.score.now c.args.truechild.now c.args.falsechild.now)
+    (behind_of c.args.nodecount.now c.args.nodemass.now) (work_of c.args.order.now c.args.scratch.now c.args.flags.now c.args.wholes.now c.args.reals.now)))
+    = c.tree_verdict-verdict.ensures (tree_call c.args.shape c.args.settings c.args.tried
+    (given_of c.args.values.now c.args.targets.now c.args.weights.now c.args.counts.now c.args.listings.now) c.args.words.now c.args.thresholds.now)
+    (tree_rooms_of (columns_of c.args.value.now c.args.feature.now c.args.threshold.now c.args.score.now c.args.truechild.now c.args.falsechild.now)
+    (behind_of c.args.nodecount.now c.args.nodemass.now) (work_of c.args.order.now c.args.scratch.now c.args.flags.now c.args.wholes.now c.args.reals.now))
+    (record {
+      shape = refl;
+      given = refl;
+      nodes = c.shortest_of_eight-nodes.ensures;
+      work = record
+          { order = refl; scratch = refl; flags = refl; waiting = sym c.least-waiting.ensures };
+    }) in
+    let passed : Checked.Passed ≡ checked (tree_tests waiting_room
+    (tree_call c.args.shape c.args.settings c.args.tried (given_of c.args.values.now c.args.targets.now c.args.weights.now c.args.counts.now c.args.listings.now) c.args.words.now
+    c.args.thresholds.now) (tree_rooms_of (columns_of c.args.value.now c.args.feature.now c.args.threshold.now c.args.score.now c.args.truechild.now c.args.falsechild.now)
+    (behind_of c.args.nodecount.now c.args.nodemass.now) (work_of c.args.order.now c.args.scratch.now c.args.flags.now c.args.wholes.now c.args.reals.now))) = sym c.in-Passed.is
+    ∙ verdict in
+    size_room (tree_call c.args.shape c.args.settings c.args.tried (given_of c.args.values.now c.args.targets.now c.args.weights.now c.args.counts.now c.args.listings.now)
+    c.args.words.now c.args.thresholds.now) (tree_rooms_of (columns_of c.args.value.now c.args.feature.now c.args.threshold.now c.args.score.now c.args.truechild.now
+    c.args.falsechild.now) (behind_of c.args.nodecount.now c.args.nodemass.now) (work_of c.args.order.now c.args.scratch.now c.args.flags.now c.args.wholes.now c.args.reals.now))
+    passed
 
 pub plant-r-requires : goal.plant-r-requires
 plant-r-requires c =
-    plant-asks ((tree_call c.args.shape c.args.settings c.args.tried (given_of c.args.values.now c.args.targets.now c.args.weights.now c.args.counts.now c.args.listings.now) c.args.words.now c.args.thresholds.now)) ((tree_rooms_of (columns_of c.args.value.now c.args.feature.now c.args.threshold.now c.args.score.now c.args.truechild.now c.args.falsechild.now) (behind_of c.args.nodecount.now c.args.nodemass.now) (work_of c.args.order.now c.args.scratch.now c.args.flags.now c.args.wholes.now c.args.reals.now)))
-    ((let passed : Checked.Passed ≡ checked (tree_tests waiting_room ((tree_call c.args.shape c.args.settings c.args.tried (given_of c.args.values.now c.args.targets.now c.args.weights.now c.args.counts.now c.args.listings.now) c.args.words.now c.args.thresholds.now)) ((tree_rooms_of (columns_of c.args.value.now c.args.feature.now c.args.threshold.now c.args.score.now c.args.truechild.now c.args.falsechild.now) (behind_of c.args.nodecount.now c.args.nodemass.now) (work_of c.args.order.now c.args.scratch.now c.args.flags.now c.args.wholes.now c.args.reals.now)))) = sym c.in-Passed.is ∙ (let verdict : c.tree_verdict-verdict.result ≡ checked (tree_tests waiting_room ((tree_call c.args.shape c.args.settings c.args.tried (given_of c.args.values.now c.args.targets.now c.args.weights.now c.args.counts.now c.args.listings.now) c.args.words.now c.args.thresholds.now)) ((tree_rooms_of (columns_of c.args.value.now c.args.feature.now c.args.threshold.now c.args.score.now c.args.truechild.now c.args.falsechild.now) (behind_of c.args.nodecount.now c.args.nodemass.now) (work_of c.args.order.now c.args.scratch.now c.args.flags.now c.args.wholes.now c.args.reals.now)))) = c.tree_verdict-verdict.ensures ((tree_call c.args.shape c.args.settings c.args.tried (given_of c.args.values.now c.args.targets.now c.args.weights.now c.args.counts.now c.args.listings.now) c.args.words.now c.args.thresholds.now)) ((tree_rooms_of (columns_of c.args.value.now c.args.feature.now c.args.threshold.now c.args.score.now c.args.truechild.now c.args.falsechild.now) (behind_of c.args.nodecount.now c.args.nodemass.now) (work_of c.args.order.now c.args.scratch.now c.args.flags.now c.args.wholes.now c.args.reals.now))) (record { shape = refl; given = refl; nodes = c.shortest_of_eight-nodes.ensures; work = record { order = refl; scratch = refl; flags = refl; waiting = sym c.least-waiting.ensures } }) in verdict) in passed))
+    let verdict : c.tree_verdict-verdict.result ≡ checked (tree_tests waiting_room
+    (tree_call c.args.shape c.args.settings c.args.tried (given_of c.args.values.now c.args.targets.now c.args.weights.now c.args.counts.now c.args.listings.now) c.args.words.now
+    c.args.thresholds.now) (tree_rooms_of (columns_of c.args.value.now c.args.feature.now c.args.threshold.now c.args.score.now c.args.truechild.now c.args.falsechild.now)
+    (behind_of c.args.nodecount.now c.args.nodemass.now) (work_of c.args.order.now c.args.scratch.now c.args.flags.now c.args.wholes.now c.args.reals.now)))
+    = c.tree_verdict-verdict.ensures (tree_call c.args.shape c.args.settings c.args.tried
+    (given_of c.args.values.now c.args.targets.now c.args.weights.now c.args.counts.now c.args.listings.now) c.args.words.now c.args.thresholds.now)
+    (tree_rooms_of (columns_of c.args.value.now c.args.feature.now c.args.threshold.now c.args.score.now c.args.truechild.now c.args.falsechild.now)
+    (behind_of c.args.nodecount.now c.args.nodemass.now) (work_of c.args.order.now c.args.scratch.now c.args.flags.now c.args.wholes.now c.args.reals.now))
+    (record {
+      shape = refl;
+      given = refl;
+      nodes = c.shortest_of_eight-nodes.ensures;
+      work = record
+          { order = refl; scratch = refl; flags = refl; waiting = sym c.least-waiting.ensures };
+    }) in
+    let passed : Checked.Passed ≡ checked (tree_tests waiting_room
+    (tree_call c.args.shape c.args.settings c.args.tried (given_of c.args.values.now c.args.targets.now c.args.weights.now c.args.counts.now c.args.listings.now) c.args.words.now
+    c.args.thresholds.now) (tree_rooms_of (columns_of c.args.value.now c.args.feature.now c.args.threshold.now c.args.score.now c.args.truechild.now c.args.falsechild.now)
+    (behind_of c.args.nodecount.now c.args.nodemass.now) (work_of c.args.order.now c.args.scratch.now c.args.flags.now c.args.wholes.now c.args.reals.now))) = sym c.in-Passed.is
+    ∙ verdict in
+    plant-asks (tree_call c.args.shape c.args.settings c.args.tried (given_of c.args.values.now c.args.targets.now c.args.weights.now c.args.counts.now c.args.listings.now)
+    c.args.words.now c.args.thresholds.now) (tree_rooms_of (columns_of c.args.value.now c.args.feature.now c.args.threshold.now c.args.score.now c.args.truechild.now
+    c.args.falsechild.now) (behind_of c.args.nodecount.now c.args.nodemass.now) (work_of c.args.order.now c.args.scratch.now c.args.flags.now c.args.wholes.now c.args.reals.now))
+    passed
     (every-each (λ x. T (fits binary64 x)) c.args.values.now nan (λ i. c.type_inv.values i)) _
     c.params_of-p.ensures _
-    (lent-long _ _ (size_room ((tree_call c.args.shape c.args.settings c.args.tried (given_of c.args.values.now c.args.targets.now c.args.weights.now c.args.counts.now c.args.listings.now) c.args.words.now c.args.thresholds.now)) ((tree_rooms_of (columns_of c.args.value.now c.args.feature.now c.args.threshold.now c.args.score.now c.args.truechild.now c.args.falsechild.now) (behind_of c.args.nodecount.now c.args.nodemass.now) (work_of c.args.order.now c.args.scratch.now c.args.flags.now c.args.wholes.now c.args.reals.now)))
-    ((let passed : Checked.Passed ≡ checked (tree_tests waiting_room ((tree_call c.args.shape c.args.settings c.args.tried (given_of c.args.values.now c.args.targets.now c.args.weights.now c.args.counts.now c.args.listings.now) c.args.words.now c.args.thresholds.now)) ((tree_rooms_of (columns_of c.args.value.now c.args.feature.now c.args.threshold.now c.args.score.now c.args.truechild.now c.args.falsechild.now) (behind_of c.args.nodecount.now c.args.nodemass.now) (work_of c.args.order.now c.args.scratch.now c.args.flags.now c.args.wholes.now c.args.reals.now)))) = sym c.in-Passed.is ∙ (let verdict : c.tree_verdict-verdict.result ≡ checked (tree_tests waiting_room ((tree_call c.args.shape c.args.settings c.args.tried (given_of c.args.values.now c.args.targets.now c.args.weights.now c.args.counts.now c.args.listings.now) c.args.words.now c.args.thresholds.now)) ((tree_rooms_of (columns_of c.args.value.now c.args.feature.now c.args.threshold.now c.args.score.now c.args.truechild.now c.args.falsechild.now) (behind_of c.args.nodecount.now c.args.nodemass.now) (work_of c.args.order.now c.args.scratch.now c.args.flags.now c.args.wholes.now c.args.reals.now)))) = c.tree_verdict-verdict.ensures ((tree_call c.args.shape c.args.settings c.args.tried (given_of c.args.values.now c.args.targets.now c.args.weights.now c.args.counts.now c.args.listings.now) c.args.words.now c.args.thresholds.now)) ((tree_rooms_of (columns_of c.args.value.now c.args.feature.now c.args.threshold.now c.args.score.now c.args.truechild.now c.args.falsechild.now) (behind_of c.args.nodecount.now c.args.nodemass.now) (work_of c.args.order.now c.args.scratch.now c.args.flags.now c.args.wholes.now c.args.reals.now))) (record { shape = refl; given = refl; nodes = c.shortest_of_eight-nodes.ensures; work = record { order = refl; scratch = refl; flags = refl; waiting = sym c.least-waiting.ensures } }) in verdict) in passed))))
+    (lent-long _ _ (size_room (tree_call c.args.shape c.args.settings c.args.tried
+    (given_of c.args.values.now c.args.targets.now c.args.weights.now c.args.counts.now c.args.listings.now) c.args.words.now c.args.thresholds.now)
+    (tree_rooms_of (columns_of c.args.value.now c.args.feature.now c.args.threshold.now c.args.score.now c.args.truechild.now c.args.falsechild.now)
+    (behind_of c.args.nodecount.now c.args.nodemass.now) (work_of c.args.order.now c.args.scratch.now c.args.flags.now c.args.wholes.now c.args.reals.now))
+    passed))
 
 pub finish-requires : goal.finish-requires
 finish-requires c = tt
@@ -72,7 +180,7 @@ shape_of-nodemass c = c.finish.auto.nodemass ∙ c.plant-r.auto.nodemass
 pub shape_of-order : goal.shape_of-order
 shape_of-order c =
     c.finish.auto.order ∙ length_front c.args.order.now c.plant-r.new.order
-    ((c.args.shape.features * c.args.shape.rows - 0)) c.plant-r.auto.order
+    (c.args.shape.features * c.args.shape.rows - 0) c.plant-r.auto.order
 
 pub shape_of-scratch : goal.shape_of-scratch
 shape_of-scratch c = c.finish.auto.scratch ∙ c.plant-r.auto.scratch
@@ -88,8 +196,30 @@ shape_of-reals c = c.finish.auto.reals ∙ c.plant-r.auto.reals
 
 pub returns : goal.returns
 returns c =
+    let verdict : c.tree_verdict-verdict.result ≡ checked (tree_tests waiting_room
+    (tree_call c.args.shape c.args.settings c.args.tried (given_of c.args.values.now c.args.targets.now c.args.weights.now c.args.counts.now c.args.listings.now) c.args.words.now
+    c.args.thresholds.now) (tree_rooms_of (columns_of c.args.value.now c.args.feature.now c.args.threshold.now c.args.score.now c.args.truechild.now c.args.falsechild.now)
+    (behind_of c.args.nodecount.now c.args.nodemass.now) (work_of c.args.order.now c.args.scratch.now c.args.flags.now c.args.wholes.now c.args.reals.now)))
+    = c.tree_verdict-verdict.ensures (tree_call c.args.shape c.args.settings c.args.tried
+    (given_of c.args.values.now c.args.targets.now c.args.weights.now c.args.counts.now c.args.listings.now) c.args.words.now c.args.thresholds.now)
+    (tree_rooms_of (columns_of c.args.value.now c.args.feature.now c.args.threshold.now c.args.score.now c.args.truechild.now c.args.falsechild.now)
+    (behind_of c.args.nodecount.now c.args.nodemass.now) (work_of c.args.order.now c.args.scratch.now c.args.flags.now c.args.wholes.now c.args.reals.now))
+    (record {
+      shape = refl;
+      given = refl;
+      nodes = c.shortest_of_eight-nodes.ensures;
+      work = record
+          { order = refl; scratch = refl; flags = refl; waiting = sym c.least-waiting.ensures };
+    }) in
+    let passed : Checked.Passed ≡ checked (tree_tests waiting_room
+    (tree_call c.args.shape c.args.settings c.args.tried (given_of c.args.values.now c.args.targets.now c.args.weights.now c.args.counts.now c.args.listings.now) c.args.words.now
+    c.args.thresholds.now) (tree_rooms_of (columns_of c.args.value.now c.args.feature.now c.args.threshold.now c.args.score.now c.args.truechild.now c.args.falsechild.now)
+    (behind_of c.args.nodecount.now c.args.nodemass.now) (work_of c.args.order.now c.args.scratch.now c.args.flags.now c.args.wholes.now c.args.reals.now))) = sym c.in-Passed.is
+    ∙ verdict in
     c.finish.ensures
-    ∙ fit-finished ((tree_call c.args.shape c.args.settings c.args.tried (given_of c.args.values.now c.args.targets.now c.args.weights.now c.args.counts.now c.args.listings.now) c.args.words.now c.args.thresholds.now)) ((tree_rooms_of (columns_of c.args.value.now c.args.feature.now c.args.threshold.now c.args.score.now c.args.truechild.now c.args.falsechild.now) (behind_of c.args.nodecount.now c.args.nodemass.now) (work_of c.args.order.now c.args.scratch.now c.args.flags.now c.args.wholes.now c.args.reals.now))) _
+    ∙ fit-finished (tree_call c.args.shape c.args.settings c.args.tried (given_of c.args.values.now c.args.targets.now c.args.weights.now c.args.counts.now c.args.listings.now)
+    c.args.words.now c.args.thresholds.now) (tree_rooms_of (columns_of c.args.value.now c.args.feature.now c.args.threshold.now c.args.score.now c.args.truechild.now
+    c.args.falsechild.now) (behind_of c.args.nodecount.now c.args.nodemass.now) (work_of c.args.order.now c.args.scratch.now c.args.flags.now c.args.wholes.now c.args.reals.now)) _
     (record {
       value = c.plant-r.auto.value;
       feature = c.plant-r.auto.feature;
@@ -101,11 +231,11 @@ returns c =
     (record { count = c.plant-r.auto.nodecount; mass = c.plant-r.auto.nodemass })
     (record {
       order =
-          length_front c.args.order.now c.plant-r.new.order ((c.args.shape.features * c.args.shape.rows - 0))
+          length_front c.args.order.now c.plant-r.new.order (c.args.shape.features * c.args.shape.rows - 0)
           c.plant-r.auto.order;
       scratch = c.plant-r.auto.scratch;
       flags = c.plant-r.auto.flags;
       wholes = c.plant-r.auto.wholes;
       reals = c.plant-r.auto.reals;
     })
-    ((let passed : Checked.Passed ≡ checked (tree_tests waiting_room ((tree_call c.args.shape c.args.settings c.args.tried (given_of c.args.values.now c.args.targets.now c.args.weights.now c.args.counts.now c.args.listings.now) c.args.words.now c.args.thresholds.now)) ((tree_rooms_of (columns_of c.args.value.now c.args.feature.now c.args.threshold.now c.args.score.now c.args.truechild.now c.args.falsechild.now) (behind_of c.args.nodecount.now c.args.nodemass.now) (work_of c.args.order.now c.args.scratch.now c.args.flags.now c.args.wholes.now c.args.reals.now)))) = sym c.in-Passed.is ∙ (let verdict : c.tree_verdict-verdict.result ≡ checked (tree_tests waiting_room ((tree_call c.args.shape c.args.settings c.args.tried (given_of c.args.values.now c.args.targets.now c.args.weights.now c.args.counts.now c.args.listings.now) c.args.words.now c.args.thresholds.now)) ((tree_rooms_of (columns_of c.args.value.now c.args.feature.now c.args.threshold.now c.args.score.now c.args.truechild.now c.args.falsechild.now) (behind_of c.args.nodecount.now c.args.nodemass.now) (work_of c.args.order.now c.args.scratch.now c.args.flags.now c.args.wholes.now c.args.reals.now)))) = c.tree_verdict-verdict.ensures ((tree_call c.args.shape c.args.settings c.args.tried (given_of c.args.values.now c.args.targets.now c.args.weights.now c.args.counts.now c.args.listings.now) c.args.words.now c.args.thresholds.now)) ((tree_rooms_of (columns_of c.args.value.now c.args.feature.now c.args.threshold.now c.args.score.now c.args.truechild.now c.args.falsechild.now) (behind_of c.args.nodecount.now c.args.nodemass.now) (work_of c.args.order.now c.args.scratch.now c.args.flags.now c.args.wholes.now c.args.reals.now))) (record { shape = refl; given = refl; nodes = c.shortest_of_eight-nodes.ensures; work = record { order = refl; scratch = refl; flags = refl; waiting = sym c.least-waiting.ensures } }) in verdict) in passed)) _ c.params_of-p.ensures _ c.plant-r.ensures
+    passed _ c.params_of-p.ensures _ c.plant-r.ensures

@@ -9,7 +9,8 @@ use Rattle.tree_growth.proofs.grow.Given as goal
 abbrev pub invariant-loop-k : goal.invariant-loop-k
 invariant-loop-k l =
     Growing (ground_of l.rows l.features l.values l.targets l.weights l.counts l.initial.order) l.p l.words l.thresholds l.most (length l.initial.scratch) (length l.initial.flags)
-    (node_room_of l.initial.value l.initial.feature l.initial.threshold l.initial.score l.initial.truechild l.initial.falsechild l.initial.nodecount l.initial.nodemass) l.initial.wholes l.initial.reals l.initial.q l.initial.at
+    (node_room_of l.initial.value l.initial.feature l.initial.threshold l.initial.score l.initial.truechild l.initial.falsechild l.initial.nodecount l.initial.nodemass)
+    l.initial.wholes l.initial.reals l.initial.q l.initial.at
     (ground_of l.rows l.features l.values l.targets l.weights l.counts l.order) (length l.scratch) (length l.flags)
     (node_room_of l.value l.feature l.threshold l.score (l.truechild) (l.falsechild) (l.nodecount) (l.nodemass)) l.wholes l.reals l.q l.at
 

@@ -14,4 +14,5 @@ pub returns-in-Refused : goal.returns-in-Refused
 returns-in-Refused c = sym (ap (told _ _ _) c.in-Refused.is)
 
 pub returns-in-Goes : goal.returns-in-Goes
-returns-in-Goes c = ap Grown c.report_of.ensures ∙ sym (ap (told _ _ _) c.in-Goes.is)
+returns-in-Goes c =
+    ap Grown c.report_of.ensures ∙ sym (ap (told _ _ _) c.in-Goes.is)

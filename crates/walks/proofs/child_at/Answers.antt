@@ -3,4 +3,5 @@ use Rattle.std.proofs.Common.{arith}
 use Rattle.walks.proofs.child_at.Goals as goal
 
 pub returns : goal.returns
-returns c = (c.wide.ensures, omega (arith, c.wide.ensures, c.type_inv.truechild c.args.k))
+returns c =
+    (c.wide.ensures, omega (arith, c.wide.ensures, c.type_inv.truechild c.args.k))

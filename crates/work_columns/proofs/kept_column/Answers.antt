@@ -1,5 +1,5 @@
 -- `work_columns::kept_column` meets its contract: what it promises of the listing holds of the i rows passed. Assumes nothing.
-use Rattle.std.proofs.Common.{arith, ℕ, ◌-◌, ◌+◌, ◌<◌, ◌≤◌, ◌≡◌, refl, sym, ap, ◌∙◌, Bool, true, false, List, length, get_or, set, take, length-set, take_all, length-take-le}
+use Rattle.std.proofs.Common.{arith, ℕ, ◌+◌, ◌<◌, ◌≤◌, ◌≡◌, refl, sym, ap, ◌∙◌, Bool, true, false, List, length, get_or, set, take, length-set, take_all, length-take-le}
 use Rattle.rules.specs.Words.{keep}
 use Rattle.rules.specs.Lent.{kept_in}
 use Rattle.lemmas.specs.Lists.{every-at}
@@ -59,4 +59,5 @@ pub shape_of-column : goal.shape_of-column
 shape_of-column c = c.loop-i.invariant.long
 
 pub returns : goal.returns
-returns c = done _ _ _ _ _ _ c.loop-i.invariant c.requires.room c.loop-i-test.false
+returns c =
+    done _ _ _ _ _ _ c.loop-i.invariant c.requires.room c.loop-i-test.false

@@ -97,40 +97,133 @@ pub loop-k-init : goal.loop-k-init
 loop-k-init c = record { long = refl; kept = λ u. absurd (lt_irrefl 0 u) }
 
 pub overflow_mul-base : goal.overflow_mul-base
-overflow_mul-base c = omega (arith, ((ends _ _ _ _ _ _ _ _ _ c.requires c.loop-k.invariant c.loop-k-test.true)).0, ((ends _ _ _ _ _ _ _ _ _ c.requires c.loop-k.invariant c.loop-k-test.true)).1, ((ends _ _ _ _ _ _ _ _ _ c.requires c.loop-k.invariant c.loop-k-test.true)).2, c.well_formed.0.0, c.well_formed.0.1, c.well_formed.1.1.1.0.0, c.well_formed.1.1.1.0.1)
+overflow_mul-base c =
+    omega (
+      arith,
+      (ends _ _ _ _ _ _ _ _ _ c.requires c.loop-k.invariant c.loop-k-test.true).0,
+      (ends _ _ _ _ _ _ _ _ _ c.requires c.loop-k.invariant c.loop-k-test.true).1,
+      (ends _ _ _ _ _ _ _ _ _ c.requires c.loop-k.invariant c.loop-k-test.true).2,
+      c.well_formed.0.0,
+      c.well_formed.0.1,
+      c.well_formed.1.1.1.0.0,
+      c.well_formed.1.1.1.0.1,
+    )
 
 pub overflow_add-end : goal.overflow_add-end
-overflow_add-end c = omega (arith, ((ends _ _ _ _ _ _ _ _ _ c.requires c.loop-k.invariant c.loop-k-test.true)).0, ((ends _ _ _ _ _ _ _ _ _ c.requires c.loop-k.invariant c.loop-k-test.true)).1, ((ends _ _ _ _ _ _ _ _ _ c.requires c.loop-k.invariant c.loop-k-test.true)).2, c.well_formed.0.0, c.well_formed.0.1, c.well_formed.1.1.1.0.0, c.well_formed.1.1.1.0.1)
+overflow_add-end c =
+    omega (
+      arith,
+      (ends _ _ _ _ _ _ _ _ _ c.requires c.loop-k.invariant c.loop-k-test.true).0,
+      (ends _ _ _ _ _ _ _ _ _ c.requires c.loop-k.invariant c.loop-k-test.true).1,
+      (ends _ _ _ _ _ _ _ _ _ c.requires c.loop-k.invariant c.loop-k-test.true).2,
+      c.well_formed.0.0,
+      c.well_formed.0.1,
+      c.well_formed.1.1.1.0.0,
+      c.well_formed.1.1.1.0.1,
+    )
 
 pub offset_bounds-listings-base : goal.offset_bounds-listings-base
-offset_bounds-listings-base c = omega (arith, ((ends _ _ _ _ _ _ _ _ _ c.requires c.loop-k.invariant c.loop-k-test.true)).0, ((ends _ _ _ _ _ _ _ _ _ c.requires c.loop-k.invariant c.loop-k-test.true)).1, ((ends _ _ _ _ _ _ _ _ _ c.requires c.loop-k.invariant c.loop-k-test.true)).2, c.well_formed.0.0, c.well_formed.0.1, c.well_formed.1.1.1.0.0, c.well_formed.1.1.1.0.1)
+offset_bounds-listings-base c =
+    omega (
+      arith,
+      (ends _ _ _ _ _ _ _ _ _ c.requires c.loop-k.invariant c.loop-k-test.true).0,
+      (ends _ _ _ _ _ _ _ _ _ c.requires c.loop-k.invariant c.loop-k-test.true).1,
+      (ends _ _ _ _ _ _ _ _ _ c.requires c.loop-k.invariant c.loop-k-test.true).2,
+      c.well_formed.0.0,
+      c.well_formed.0.1,
+      c.well_formed.1.1.1.0.0,
+      c.well_formed.1.1.1.0.1,
+    )
 
 pub slice_bounds-kept_column-count : goal.slice_bounds-kept_column-count
-slice_bounds-kept_column-count c = omega (arith, ((ends _ _ _ _ _ _ _ _ _ c.requires c.loop-k.invariant c.loop-k-test.true)).0, ((ends _ _ _ _ _ _ _ _ _ c.requires c.loop-k.invariant c.loop-k-test.true)).1, ((ends _ _ _ _ _ _ _ _ _ c.requires c.loop-k.invariant c.loop-k-test.true)).2, c.well_formed.0.0, c.well_formed.0.1, c.well_formed.1.1.1.0.0, c.well_formed.1.1.1.0.1)
+slice_bounds-kept_column-count c =
+    omega (
+      arith,
+      (ends _ _ _ _ _ _ _ _ _ c.requires c.loop-k.invariant c.loop-k-test.true).0,
+      (ends _ _ _ _ _ _ _ _ _ c.requires c.loop-k.invariant c.loop-k-test.true).1,
+      (ends _ _ _ _ _ _ _ _ _ c.requires c.loop-k.invariant c.loop-k-test.true).2,
+      c.well_formed.0.0,
+      c.well_formed.0.1,
+      c.well_formed.1.1.1.0.0,
+      c.well_formed.1.1.1.0.1,
+    )
 
 pub slice_bounds-kept_column-start : goal.slice_bounds-kept_column-start
-slice_bounds-kept_column-start c = omega (arith, ((ends _ _ _ _ _ _ _ _ _ c.requires c.loop-k.invariant c.loop-k-test.true)).0, ((ends _ _ _ _ _ _ _ _ _ c.requires c.loop-k.invariant c.loop-k-test.true)).1, ((ends _ _ _ _ _ _ _ _ _ c.requires c.loop-k.invariant c.loop-k-test.true)).2, c.well_formed.0.0, c.well_formed.0.1, c.well_formed.1.1.1.0.0, c.well_formed.1.1.1.0.1)
+slice_bounds-kept_column-start c =
+    omega (
+      arith,
+      (ends _ _ _ _ _ _ _ _ _ c.requires c.loop-k.invariant c.loop-k-test.true).0,
+      (ends _ _ _ _ _ _ _ _ _ c.requires c.loop-k.invariant c.loop-k-test.true).1,
+      (ends _ _ _ _ _ _ _ _ _ c.requires c.loop-k.invariant c.loop-k-test.true).2,
+      c.well_formed.0.0,
+      c.well_formed.0.1,
+      c.well_formed.1.1.1.0.0,
+      c.well_formed.1.1.1.0.1,
+    )
 
 pub slice_bounds-kept_column-end : goal.slice_bounds-kept_column-end
-slice_bounds-kept_column-end c = omega (arith, ((ends _ _ _ _ _ _ _ _ _ c.requires c.loop-k.invariant c.loop-k-test.true)).0, ((ends _ _ _ _ _ _ _ _ _ c.requires c.loop-k.invariant c.loop-k-test.true)).1, ((ends _ _ _ _ _ _ _ _ _ c.requires c.loop-k.invariant c.loop-k-test.true)).2, c.well_formed.0.0, c.well_formed.0.1, c.well_formed.1.1.1.0.0, c.well_formed.1.1.1.0.1)
+slice_bounds-kept_column-end c =
+    omega (
+      arith,
+      (ends _ _ _ _ _ _ _ _ _ c.requires c.loop-k.invariant c.loop-k-test.true).0,
+      (ends _ _ _ _ _ _ _ _ _ c.requires c.loop-k.invariant c.loop-k-test.true).1,
+      (ends _ _ _ _ _ _ _ _ _ c.requires c.loop-k.invariant c.loop-k-test.true).2,
+      c.well_formed.0.0,
+      c.well_formed.0.1,
+      c.well_formed.1.1.1.0.0,
+      c.well_formed.1.1.1.0.1,
+    )
 
 pub offset_bounds-order-base : goal.offset_bounds-order-base
-offset_bounds-order-base c = omega (arith, ((ends _ _ _ _ _ _ _ _ _ c.requires c.loop-k.invariant c.loop-k-test.true)).0, ((ends _ _ _ _ _ _ _ _ _ c.requires c.loop-k.invariant c.loop-k-test.true)).1, ((ends _ _ _ _ _ _ _ _ _ c.requires c.loop-k.invariant c.loop-k-test.true)).2, c.well_formed.1.1.1.0.0, c.well_formed.1.1.1.0.1)
+offset_bounds-order-base c =
+    omega (
+      arith,
+      (ends _ _ _ _ _ _ _ _ _ c.requires c.loop-k.invariant c.loop-k-test.true).0,
+      (ends _ _ _ _ _ _ _ _ _ c.requires c.loop-k.invariant c.loop-k-test.true).1,
+      (ends _ _ _ _ _ _ _ _ _ c.requires c.loop-k.invariant c.loop-k-test.true).2,
+      c.well_formed.1.1.1.0.0,
+      c.well_formed.1.1.1.0.1,
+    )
 
 pub slice_bounds-kept_column-count-in-loop-k : goal.slice_bounds-kept_column-count-in-loop-k
-slice_bounds-kept_column-count-in-loop-k c = omega (arith, ((ends _ _ _ _ _ _ _ _ _ c.requires c.loop-k.invariant c.loop-k-test.true)).0, ((ends _ _ _ _ _ _ _ _ _ c.requires c.loop-k.invariant c.loop-k-test.true)).1, ((ends _ _ _ _ _ _ _ _ _ c.requires c.loop-k.invariant c.loop-k-test.true)).2, c.well_formed.1.1.1.0.0, c.well_formed.1.1.1.0.1)
+slice_bounds-kept_column-count-in-loop-k c =
+    omega (
+      arith,
+      (ends _ _ _ _ _ _ _ _ _ c.requires c.loop-k.invariant c.loop-k-test.true).0,
+      (ends _ _ _ _ _ _ _ _ _ c.requires c.loop-k.invariant c.loop-k-test.true).1,
+      (ends _ _ _ _ _ _ _ _ _ c.requires c.loop-k.invariant c.loop-k-test.true).2,
+      c.well_formed.1.1.1.0.0,
+      c.well_formed.1.1.1.0.1,
+    )
 
 pub slice_bounds-kept_column-start-in-loop-k : goal.slice_bounds-kept_column-start-in-loop-k
-slice_bounds-kept_column-start-in-loop-k c = omega (arith, ((ends _ _ _ _ _ _ _ _ _ c.requires c.loop-k.invariant c.loop-k-test.true)).0, ((ends _ _ _ _ _ _ _ _ _ c.requires c.loop-k.invariant c.loop-k-test.true)).1, ((ends _ _ _ _ _ _ _ _ _ c.requires c.loop-k.invariant c.loop-k-test.true)).2, c.well_formed.1.1.1.0.0, c.well_formed.1.1.1.0.1)
+slice_bounds-kept_column-start-in-loop-k c =
+    omega (
+      arith,
+      (ends _ _ _ _ _ _ _ _ _ c.requires c.loop-k.invariant c.loop-k-test.true).0,
+      (ends _ _ _ _ _ _ _ _ _ c.requires c.loop-k.invariant c.loop-k-test.true).1,
+      (ends _ _ _ _ _ _ _ _ _ c.requires c.loop-k.invariant c.loop-k-test.true).2,
+      c.well_formed.1.1.1.0.0,
+      c.well_formed.1.1.1.0.1,
+    )
 
 pub slice_bounds-kept_column-end-in-loop-k : goal.slice_bounds-kept_column-end-in-loop-k
-slice_bounds-kept_column-end-in-loop-k c = omega (arith, ((ends _ _ _ _ _ _ _ _ _ c.requires c.loop-k.invariant c.loop-k-test.true)).0, ((ends _ _ _ _ _ _ _ _ _ c.requires c.loop-k.invariant c.loop-k-test.true)).1, ((ends _ _ _ _ _ _ _ _ _ c.requires c.loop-k.invariant c.loop-k-test.true)).2, c.well_formed.1.1.1.0.0, c.well_formed.1.1.1.0.1)
+slice_bounds-kept_column-end-in-loop-k c =
+    omega (
+      arith,
+      (ends _ _ _ _ _ _ _ _ _ c.requires c.loop-k.invariant c.loop-k-test.true).0,
+      (ends _ _ _ _ _ _ _ _ _ c.requires c.loop-k.invariant c.loop-k-test.true).1,
+      (ends _ _ _ _ _ _ _ _ _ c.requires c.loop-k.invariant c.loop-k-test.true).2,
+      c.well_formed.1.1.1.0.0,
+      c.well_formed.1.1.1.0.1,
+    )
 
 pub kept_column-n-requires : goal.kept_column-n-requires
 kept_column-n-requires c = asks _ _ _ _ _ _ _ _ _ c.requires c.loop-k.invariant c.loop-k-test.true
 
 pub loop-k-preserved : goal.loop-k-preserved
-loop-k-preserved c = turn _ _ _ _ _ _ _ _ _ c.requires c.loop-k.invariant c.loop-k-test.true c.kept_column-n.new.column c.kept_column-n.result c.kept_column-n.ensures c.kept_column-n.auto.column
+loop-k-preserved c =
+    turn _ _ _ _ _ _ _ _ _ c.requires c.loop-k.invariant c.loop-k-test.true c.kept_column-n.new.column c.kept_column-n.result c.kept_column-n.ensures c.kept_column-n.auto.column
 
 pub shape_of-order : goal.shape_of-order
 shape_of-order c = c.loop-k.invariant.long

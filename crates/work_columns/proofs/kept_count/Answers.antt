@@ -1,5 +1,5 @@
 -- `work_columns::kept_count` meets its contract: what it has, with the kept counts from row i on, is the whole, which fits. Assumes nothing.
-use Rattle.std.proofs.Common.{arith, ◌-◌, sym, ◌∙◌}
+use Rattle.std.proofs.Common.{arith, sym, ◌∙◌}
 use Rattle.rules.specs.Lent.{count_in, kept_in}
 use Rattle.work_columns.specs.Setup.{weighed-row, low-total, counting-start, counting-fits, counting_kept, counting-left, counting-done}
 use Rattle.work_columns.proofs.kept_count.Goals as goal
@@ -35,4 +35,5 @@ loop-i-preserved c =
     ]
 
 pub returns : goal.returns
-returns c = counting-done _ _ _ _ _ c.loop-i.invariant c.loop-i-test.false
+returns c =
+    counting-done _ _ _ _ _ c.loop-i.invariant c.loop-i-test.false

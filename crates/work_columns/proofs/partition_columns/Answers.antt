@@ -46,25 +46,39 @@ pub loop-k-init : goal.loop-k-init
 loop-k-init c = (going_start _ _ _ _ _ _, refl)
 
 pub overflow_mul-base : goal.overflow_mul-base
-overflow_mul-base c = let r = (ends c.args.rows c.args.features c.args.start c.args.end c.args.flags.now c.args.order.now _ _ c.loop-k.k c.requires.columns_ask c.loop-k.invariant.0 c.loop-k-test.true c.well_formed.0.1) in search rules
+overflow_mul-base c =
+    let r = (ends c.args.rows c.args.features c.args.start c.args.end c.args.flags.now c.args.order.now _ _ c.loop-k.k c.requires.columns_ask c.loop-k.invariant.0
+    c.loop-k-test.true c.well_formed.0.1) in search rules
 
 pub overflow_add-low : goal.overflow_add-low
-overflow_add-low c = let r = (ends c.args.rows c.args.features c.args.start c.args.end c.args.flags.now c.args.order.now _ _ c.loop-k.k c.requires.columns_ask c.loop-k.invariant.0 c.loop-k-test.true c.well_formed.0.1) in search rules
+overflow_add-low c =
+    let r = (ends c.args.rows c.args.features c.args.start c.args.end c.args.flags.now c.args.order.now _ _ c.loop-k.k c.requires.columns_ask c.loop-k.invariant.0
+    c.loop-k-test.true c.well_formed.0.1) in search rules
 
 pub overflow_add-high : goal.overflow_add-high
-overflow_add-high c = let r = (ends c.args.rows c.args.features c.args.start c.args.end c.args.flags.now c.args.order.now _ _ c.loop-k.k c.requires.columns_ask c.loop-k.invariant.0 c.loop-k-test.true c.well_formed.0.1) in search rules
+overflow_add-high c =
+    let r = (ends c.args.rows c.args.features c.args.start c.args.end c.args.flags.now c.args.order.now _ _ c.loop-k.k c.requires.columns_ask c.loop-k.invariant.0
+    c.loop-k-test.true c.well_formed.0.1) in search rules
 
 pub offset_bounds-order-low : goal.offset_bounds-order-low
-offset_bounds-order-low c = let r = (ends c.args.rows c.args.features c.args.start c.args.end c.args.flags.now c.args.order.now _ _ c.loop-k.k c.requires.columns_ask c.loop-k.invariant.0 c.loop-k-test.true c.well_formed.0.1) in search rules
+offset_bounds-order-low c =
+    let r = (ends c.args.rows c.args.features c.args.start c.args.end c.args.flags.now c.args.order.now _ _ c.loop-k.k c.requires.columns_ask c.loop-k.invariant.0
+    c.loop-k-test.true c.well_formed.0.1) in search rules
 
 pub slice_bounds-stable_partition-count : goal.slice_bounds-stable_partition-count
-slice_bounds-stable_partition-count c = let r = (ends c.args.rows c.args.features c.args.start c.args.end c.args.flags.now c.args.order.now _ _ c.loop-k.k c.requires.columns_ask c.loop-k.invariant.0 c.loop-k-test.true c.well_formed.0.1) in search rules
+slice_bounds-stable_partition-count c =
+    let r = (ends c.args.rows c.args.features c.args.start c.args.end c.args.flags.now c.args.order.now _ _ c.loop-k.k c.requires.columns_ask c.loop-k.invariant.0
+    c.loop-k-test.true c.well_formed.0.1) in search rules
 
 pub slice_bounds-stable_partition-start : goal.slice_bounds-stable_partition-start
-slice_bounds-stable_partition-start c = let r = (ends c.args.rows c.args.features c.args.start c.args.end c.args.flags.now c.args.order.now _ _ c.loop-k.k c.requires.columns_ask c.loop-k.invariant.0 c.loop-k-test.true c.well_formed.0.1) in search rules
+slice_bounds-stable_partition-start c =
+    let r = (ends c.args.rows c.args.features c.args.start c.args.end c.args.flags.now c.args.order.now _ _ c.loop-k.k c.requires.columns_ask c.loop-k.invariant.0
+    c.loop-k-test.true c.well_formed.0.1) in search rules
 
 pub slice_bounds-stable_partition-end : goal.slice_bounds-stable_partition-end
-slice_bounds-stable_partition-end c = let r = (ends c.args.rows c.args.features c.args.start c.args.end c.args.flags.now c.args.order.now _ _ c.loop-k.k c.requires.columns_ask c.loop-k.invariant.0 c.loop-k-test.true c.well_formed.0.1) in search rules
+slice_bounds-stable_partition-end c =
+    let r = (ends c.args.rows c.args.features c.args.start c.args.end c.args.flags.now c.args.order.now _ _ c.loop-k.k c.requires.columns_ask c.loop-k.invariant.0
+    c.loop-k-test.true c.well_formed.0.1) in search rules
 
 pub stable_partition-requires : goal.stable_partition-requires
 stable_partition-requires c =
@@ -97,4 +111,5 @@ shape_of-order c =
     c.loop-k.invariant.0
 
 pub returns : goal.returns
-returns c = going_done _ _ _ _ _ _ _ _ c.loop-k.invariant.0 (omega arith)
+returns c =
+    going_done _ _ _ _ _ _ _ _ c.loop-k.invariant.0 (omega arith)

@@ -1,5 +1,5 @@
 -- `work_columns::root_totals` meets its contract: what it has, with the rows from i on taken in, is the whole. Assumes nothing.
-use Rattle.std.proofs.Common.{◌-◌, ap, ◌∙◌}
+use Rattle.std.proofs.Common.{ap, ◌∙◌}
 use Rattle.rules.specs.Totals.{take_in}
 use Rattle.rules.specs.Fit.{element_in}
 use Rattle.work_columns.specs.Columns.{bare}
@@ -20,4 +20,5 @@ loop-i-preserved c =
     (c.take_in-t.ensures ∙ ap (take_in _ _) c.mass_of-m.ensures)
 
 pub returns : goal.returns
-returns c = adding-done _ _ _ _ c.loop-i.invariant c.loop-i-test.false
+returns c =
+    adding-done _ _ _ _ c.loop-i.invariant c.loop-i-test.false

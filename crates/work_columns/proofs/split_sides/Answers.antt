@@ -28,4 +28,5 @@ pub split_pass-requires : goal.split_pass-requires
 split_pass-requires c = pass-asks _ _ _ _ _ _ _ _ _ _ _ _ c.requires c.wide-j.result c.wide-j.ensures
 
 pub returns : goal.returns
-returns c = split_done _ _ _ _ _ _ _ _ _ _ _ _ c.requires c.wide-j.result c.wide-j.ensures _ _ _ refl c.split_pass.ensures
+returns c =
+    split_done _ _ _ _ _ _ _ _ _ _ _ _ c.requires c.wide-j.result c.wide-j.ensures _ _ _ refl c.split_pass.ensures

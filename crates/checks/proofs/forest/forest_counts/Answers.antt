@@ -7,4 +7,5 @@ pub returns-then-counts_low : goal.returns-then-counts_low
 returns-then-counts_low c = and-on _ _ (sym c.counts_low.ensures ∙ c.if-counts_low.true) c.counts_one.ensures
 
 pub returns-else-counts_low : goal.returns-else-counts_low
-returns-else-counts_low c = and-off _ _ (sym c.counts_low.ensures ∙ c.if-counts_low.false)
+returns-else-counts_low c =
+    and-off _ _ (sym c.counts_low.ensures ∙ c.if-counts_low.false)

@@ -7,4 +7,5 @@ pub returns-then-shape_in : goal.returns-then-shape_in
 returns-then-shape_in c = and-on _ _ (sym c.shape_in.ensures ∙ c.if-shape_in.true) c.trees_in.ensures
 
 pub returns-else-shape_in : goal.returns-else-shape_in
-returns-else-shape_in c = and-off _ _ (sym c.shape_in.ensures ∙ c.if-shape_in.false)
+returns-else-shape_in c =
+    and-off _ _ (sym c.shape_in.ensures ∙ c.if-shape_in.false)

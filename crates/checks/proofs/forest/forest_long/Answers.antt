@@ -13,4 +13,5 @@ pub returns-then-lengths_good : goal.returns-then-lengths_good
 returns-then-lengths_good c = and-on _ _ (sym c.lengths_good.ensures ∙ c.if-lengths_good.true) c.both_tapes.ensures
 
 pub returns-else-lengths_good : goal.returns-else-lengths_good
-returns-else-lengths_good c = and-off _ _ (sym c.lengths_good.ensures ∙ c.if-lengths_good.false)
+returns-else-lengths_good c =
+    and-off _ _ (sym c.lengths_good.ensures ∙ c.if-lengths_good.false)

@@ -1,7 +1,6 @@
 -- `checks::inputs::all_finite` meets its contract: what is left to ask is asked from place i on. Assumes nothing.
-use Rattle.std.proofs.Common.{arith, refl, sym, ◌∙◌, ◌-◌}
+use Rattle.std.proofs.Common.{arith, refl, sym, ◌∙◌}
 use lib.Ieee.Scale.{finite}
-use Rattle.rules.specs.Words.{every}
 use Rattle.lemmas.specs.Scans.{every-goes, every-stops, every-ends}
 use Rattle.checks.proofs.inputs.all_finite.Goals as goal
 
@@ -19,4 +18,5 @@ loop-i-preserved c = (
 )
 
 pub returns : goal.returns
-returns c = every-ends finite c.args.xs.now c.loop-i.i (omega arith) c.loop-i.invariant.1
+returns c =
+    every-ends finite c.args.xs.now c.loop-i.i (omega arith) c.loop-i.invariant.1

@@ -8,4 +8,5 @@ low : (k : ℕ) → (leb 0 k && leb k 65535) ≡ leb k 65535
 low k = ap (λ b. b && leb k 65535) (leb-zero k)
 
 pub returns : goal.returns
-returns c = c.counts_within.ensures ∙ every-same _ _ low _
+returns c =
+    c.counts_within.ensures ∙ every-same _ _ low _

@@ -20,4 +20,5 @@ pub returns-then-weights-eq0 : goal.returns-then-weights-eq0
 returns-then-weights-eq0 c = or-done _ _ (no-weights _ c.if-weights-eq0.true)
 
 pub returns : goal.returns
-returns c = or-on _ _ (some-weights _ c.if-weights-eq0.false) (c.counts_within.ensures ∙ every-same _ _ one _)
+returns c =
+    or-on _ _ (some-weights _ c.if-weights-eq0.false) (c.counts_within.ensures ∙ every-same _ _ one _)

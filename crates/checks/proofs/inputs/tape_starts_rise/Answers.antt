@@ -1,7 +1,6 @@
 -- `checks::inputs::tape_starts_rise` meets its contract: what is left to ask is asked from the cut that is held. Assumes nothing.
-use Rattle.std.proofs.Common.{le-leb, arith, ◌-◌, leb}
+use Rattle.std.proofs.Common.{le-leb, arith, leb}
 use borrow.Author.Tests.{lt-leb}
-use Rattle.rules.specs.Words.{along}
 use Rattle.lemmas.specs.Scans.{along-none, along-starts, along-goes, along-stops, along-ends}
 use Rattle.checks.proofs.inputs.tape_starts_rise.Goals as goal
 
@@ -21,4 +20,5 @@ pub loop-i-preserved : goal.loop-i-preserved
 loop-i-preserved c = along-goes leb c.args.starts.now c.loop-i.last c.loop-i.i 0 (omega arith) c.loop-i.invariant (le-leb _ _ c.if-next-last.false)
 
 pub returns : goal.returns
-returns c = along-ends leb c.args.starts.now c.loop-i.last c.loop-i.i (omega arith) c.loop-i.invariant
+returns c =
+    along-ends leb c.args.starts.now c.loop-i.last c.loop-i.i (omega arith) c.loop-i.invariant

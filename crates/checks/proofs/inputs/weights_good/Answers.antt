@@ -1,7 +1,6 @@
 -- `checks::inputs::weights_good` meets its contract: what is left to ask is asked from place i on. Assumes nothing.
-use Rattle.std.proofs.Common.{arith, refl, sym, ◌∙◌, ◌-◌}
+use Rattle.std.proofs.Common.{arith, refl, sym, ◌∙◌}
 use Rattle.rules.specs.Checks.{good_weight}
-use Rattle.rules.specs.Words.{every}
 use Rattle.lemmas.specs.Scans.{every-goes, every-stops, every-ends}
 use Rattle.checks.proofs.inputs.weights_good.Goals as goal
 
@@ -21,4 +20,5 @@ loop-i-preserved c = (
 )
 
 pub returns : goal.returns
-returns c = every-ends good_weight c.args.weights.now c.loop-i.i (omega arith) c.loop-i.invariant.1
+returns c =
+    every-ends good_weight c.args.weights.now c.loop-i.i (omega arith) c.loop-i.invariant.1

@@ -7,4 +7,5 @@ pub returns-then-weights-eq0 : goal.returns-then-weights-eq0
 returns-then-weights-eq0 c = or-done _ _ (no-weights _ c.if-weights-eq0.true)
 
 pub returns : goal.returns
-returns c = or-on _ _ (some-weights _ c.if-weights-eq0.false) refl
+returns c =
+    or-on _ _ (some-weights _ c.if-weights-eq0.false) refl

@@ -10,4 +10,5 @@ pub returns-then-values_long : goal.returns-then-values_long
 returns-then-values_long c = and-on _ _ (sym c.values_long.ensures ∙ c.if-values_long.true) c.listings_long.ensures
 
 pub returns-else-values_long : goal.returns-else-values_long
-returns-else-values_long c = and-off _ _ (sym c.values_long.ensures ∙ c.if-values_long.false)
+returns-else-values_long c =
+    and-off _ _ (sym c.values_long.ensures ∙ c.if-values_long.false)

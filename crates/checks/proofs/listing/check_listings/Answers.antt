@@ -10,18 +10,27 @@ unfolding check_listings listing_tests
 returns-then-not-shape_in c = c.refused.ensures ∙ stops _ _ (sym c.shape_in.ensures ∙ c.if-not-shape_in.true)
 
 pub both_long-requires : goal.both_long-requires
-both_long-requires c = (let passed-1 : shape_in c.args.shape ≡ true = sym c.shape_in.ensures ∙ c.if-not-shape_in.false in passed-1)
+both_long-requires c =
+    let passed-1 : shape_in c.args.shape ≡ true = sym c.shape_in.ensures ∙ c.if-not-shape_in.false in
+    passed-1
 
 pub returns-then-not-both_long : goal.returns-then-not-both_long
 unfolding check_listings listing_tests
-returns-then-not-both_long c = c.refused-then-not-both_long.ensures ∙ goes_on _ _ ((let passed-1 : shape_in c.args.shape ≡ true = sym c.shape_in.ensures ∙ c.if-not-shape_in.false in passed-1)) (stops _ _ (sym c.both_long.ensures ∙ c.if-not-both_long.true))
+returns-then-not-both_long c =
+    let passed-1 : shape_in c.args.shape ≡ true = sym c.shape_in.ensures ∙ c.if-not-shape_in.false in
+    c.refused-then-not-both_long.ensures ∙ goes_on _ _ passed-1 (stops _ _ (sym c.both_long.ensures ∙ c.if-not-both_long.true))
 
 pub first_fault-requires : goal.first_fault-requires
 first_fault-requires c =
-    let (v, l) = and_both _ _ ((let passed-2 : (values_long c.args.shape c.args.values.now && listings_long c.args.shape c.args.listings.now) ≡ true = sym c.both_long.ensures ∙ c.if-not-both_long.false in passed-2)) in
-    let s = (let passed-1 : shape_in c.args.shape ≡ true = sym c.shape_in.ensures ∙ c.if-not-shape_in.false in passed-1) in
+    let passed-2 : (values_long c.args.shape c.args.values.now && listings_long c.args.shape c.args.listings.now) ≡ true = sym c.both_long.ensures ∙ c.if-not-both_long.false in
+    let passed-1 : shape_in c.args.shape ≡ true = sym c.shape_in.ensures ∙ c.if-not-shape_in.false in
+    let (v, l) = and_both _ _ passed-2 in
+    let s = passed-1 in
     record { few = rows-low _ s; few_features = features-low _ s; values_long = eqb-true _ _ v; listings_long = eqb-true _ _ l }
 
 pub returns : goal.returns
 unfolding check_listings listing_tests
-returns c = goes_on _ _ ((let passed-1 : shape_in c.args.shape ≡ true = sym c.shape_in.ensures ∙ c.if-not-shape_in.false in passed-1)) (goes_on _ _ ((let passed-2 : (values_long c.args.shape c.args.values.now && listings_long c.args.shape c.args.listings.now) ≡ true = sym c.both_long.ensures ∙ c.if-not-both_long.false in passed-2)) c.first_fault.ensures)
+returns c =
+    let passed-1 : shape_in c.args.shape ≡ true = sym c.shape_in.ensures ∙ c.if-not-shape_in.false in
+    let passed-2 : (values_long c.args.shape c.args.values.now && listings_long c.args.shape c.args.listings.now) ≡ true = sym c.both_long.ensures ∙ c.if-not-both_long.false in
+    goes_on _ _ passed-1 (goes_on _ _ passed-2 c.first_fault.ensures)

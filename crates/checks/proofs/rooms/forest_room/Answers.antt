@@ -1,5 +1,5 @@
 -- `checks::rooms::forest_room` meets its contract: the room of all trees is what was added up and the room of the trees from t on. Assumes nothing.
-use Rattle.std.proofs.Common.{arith, sym, ap, ◌∙◌, subst, ◌≤◌, ◌-◌, ◌+◌, ◌*◌, length}
+use Rattle.std.proofs.Common.{arith, sym, ap, ◌∙◌, subst, ◌≤◌, ◌+◌, ◌*◌, length}
 use Rattle.lemmas.specs.Scans.{total-adds, total-ends, total-starts}
 use Rattle.checks.specs.Rooms.{room_in, room_of}
 use Rattle.lemmas.specs.Cells.{stretch-within, part_lies, part-long}
@@ -11,28 +11,48 @@ loop-t-init c =
     (omega arith, omega arith, total-starts (room_of a.rows a.weights.now a.counts.now) a.trees)
 
 pub overflow_mul-base : goal.overflow_mul-base
-overflow_mul-base c = omega (arith, (let ends : c.loop-t.t * c.args.rows + c.args.rows ≤ length c.args.counts.now = subst (λ n. c.loop-t.t * c.args.rows + c.args.rows ≤ n) (sym c.requires.counted) (stretch-within c.loop-t.t c.args.trees c.args.rows c.loop-t-test.true) in ends))
+overflow_mul-base c =
+    let ends : c.loop-t.t * c.args.rows + c.args.rows ≤ length c.args.counts.now =
+    subst (λ n. c.loop-t.t * c.args.rows + c.args.rows ≤ n) (sym c.requires.counted) (stretch-within c.loop-t.t c.args.trees c.args.rows c.loop-t-test.true) in
+    omega (arith, ends)
 
 pub overflow_add-end : goal.overflow_add-end
-overflow_add-end c = omega (arith, (let ends : c.loop-t.t * c.args.rows + c.args.rows ≤ length c.args.counts.now = subst (λ n. c.loop-t.t * c.args.rows + c.args.rows ≤ n) (sym c.requires.counted) (stretch-within c.loop-t.t c.args.trees c.args.rows c.loop-t-test.true) in ends))
+overflow_add-end c =
+    let ends : c.loop-t.t * c.args.rows + c.args.rows ≤ length c.args.counts.now =
+    subst (λ n. c.loop-t.t * c.args.rows + c.args.rows ≤ n) (sym c.requires.counted) (stretch-within c.loop-t.t c.args.trees c.args.rows c.loop-t-test.true) in
+    omega (arith, ends)
 
 pub offset_bounds-counts-base : goal.offset_bounds-counts-base
-offset_bounds-counts-base c = omega (arith, (let ends : c.loop-t.t * c.args.rows + c.args.rows ≤ length c.args.counts.now = subst (λ n. c.loop-t.t * c.args.rows + c.args.rows ≤ n) (sym c.requires.counted) (stretch-within c.loop-t.t c.args.trees c.args.rows c.loop-t-test.true) in ends))
+offset_bounds-counts-base c =
+    let ends : c.loop-t.t * c.args.rows + c.args.rows ≤ length c.args.counts.now =
+    subst (λ n. c.loop-t.t * c.args.rows + c.args.rows ≤ n) (sym c.requires.counted) (stretch-within c.loop-t.t c.args.trees c.args.rows c.loop-t-test.true) in
+    omega (arith, ends)
 
 pub slice_bounds-tree_room-count : goal.slice_bounds-tree_room-count
-slice_bounds-tree_room-count c = omega (arith, (let ends : c.loop-t.t * c.args.rows + c.args.rows ≤ length c.args.counts.now = subst (λ n. c.loop-t.t * c.args.rows + c.args.rows ≤ n) (sym c.requires.counted) (stretch-within c.loop-t.t c.args.trees c.args.rows c.loop-t-test.true) in ends))
+slice_bounds-tree_room-count c =
+    let ends : c.loop-t.t * c.args.rows + c.args.rows ≤ length c.args.counts.now =
+    subst (λ n. c.loop-t.t * c.args.rows + c.args.rows ≤ n) (sym c.requires.counted) (stretch-within c.loop-t.t c.args.trees c.args.rows c.loop-t-test.true) in
+    omega (arith, ends)
 
 pub slice_bounds-tree_room-start : goal.slice_bounds-tree_room-start
-slice_bounds-tree_room-start c = omega (arith, (let ends : c.loop-t.t * c.args.rows + c.args.rows ≤ length c.args.counts.now = subst (λ n. c.loop-t.t * c.args.rows + c.args.rows ≤ n) (sym c.requires.counted) (stretch-within c.loop-t.t c.args.trees c.args.rows c.loop-t-test.true) in ends))
+slice_bounds-tree_room-start c =
+    let ends : c.loop-t.t * c.args.rows + c.args.rows ≤ length c.args.counts.now =
+    subst (λ n. c.loop-t.t * c.args.rows + c.args.rows ≤ n) (sym c.requires.counted) (stretch-within c.loop-t.t c.args.trees c.args.rows c.loop-t-test.true) in
+    omega (arith, ends)
 
 pub slice_bounds-tree_room-end : goal.slice_bounds-tree_room-end
-slice_bounds-tree_room-end c = omega (arith, (let ends : c.loop-t.t * c.args.rows + c.args.rows ≤ length c.args.counts.now = subst (λ n. c.loop-t.t * c.args.rows + c.args.rows ≤ n) (sym c.requires.counted) (stretch-within c.loop-t.t c.args.trees c.args.rows c.loop-t-test.true) in ends))
+slice_bounds-tree_room-end c =
+    let ends : c.loop-t.t * c.args.rows + c.args.rows ≤ length c.args.counts.now =
+    subst (λ n. c.loop-t.t * c.args.rows + c.args.rows ≤ n) (sym c.requires.counted) (stretch-within c.loop-t.t c.args.trees c.args.rows c.loop-t-test.true) in
+    omega (arith, ends)
 
 pub tree_room-sum-requires : goal.tree_room-sum-requires
 tree_room-sum-requires c =
+    let ends : c.loop-t.t * c.args.rows + c.args.rows ≤ length c.args.counts.now =
+    subst (λ n. c.loop-t.t * c.args.rows + c.args.rows ≤ n) (sym c.requires.counted) (stretch-within c.loop-t.t c.args.trees c.args.rows c.loop-t-test.true) in
     record {
       few = c.requires.few;
-      counted = omega (arith, part-long (c.loop-t.t * c.args.rows) c.args.rows c.args.counts.now ((let ends : c.loop-t.t * c.args.rows + c.args.rows ≤ length c.args.counts.now = subst (λ n. c.loop-t.t * c.args.rows + c.args.rows ≤ n) (sym c.requires.counted) (stretch-within c.loop-t.t c.args.trees c.args.rows c.loop-t-test.true) in ends)));
+      counted = omega (arith, part-long (c.loop-t.t * c.args.rows) c.args.rows c.args.counts.now ends);
       weighed = c.requires.weighed;
     }
 

@@ -1,6 +1,6 @@
 -- `checks::rooms::kept_number` meets its contract: what is kept is what was counted and what is kept from row i on. Assumes nothing.
-use Rattle.std.proofs.Common.{arith, ◌≡◌, sym, ap, ◌∙◌, Bool, ℕ, ◌-◌, ◌+◌}
-use Rattle.rules.specs.Lent.{kept_in, kept}
+use Rattle.std.proofs.Common.{arith, ◌≡◌, sym, ap, ◌∙◌, Bool, ℕ, ◌+◌}
+use Rattle.rules.specs.Lent.{kept_in}
 use Rattle.lemmas.specs.Scans.{kept_on, kept-counts, kept-passes, kept-ends, kept-starts}
 use Rattle.checks.proofs.rooms.kept_number.Goals as goal
 use Rattle.checks.proofs.rooms.kept_number.Goals.{then-is_kept, else-is_kept}

@@ -6,4 +6,5 @@ pub returns-then-kept-eq0 : goal.returns-then-kept-eq0
 returns-then-kept-eq0 c = omega (arith, c.kept_number-kept.ensures.exact)
 
 pub returns : goal.returns
-returns c = omega (arith, c.kept_number-kept.ensures.exact)
+returns c =
+    omega (arith, c.kept_number-kept.ensures.exact)

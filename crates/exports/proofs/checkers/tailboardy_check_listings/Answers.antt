@@ -4,4 +4,5 @@ use Rattle.rules.specs.Answers.{check_told}
 use Rattle.exports.proofs.checkers.tailboardy_check_listings.Goals as goal
 
 pub returns : goal.returns
-returns c = c.check_told_of.ensures ∙ ap check_told c.check_listings-answer.ensures
+returns c =
+    c.check_told_of.ensures ∙ ap check_told c.check_listings-answer.ensures

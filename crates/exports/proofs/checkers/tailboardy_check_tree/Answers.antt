@@ -4,4 +4,5 @@ use Rattle.rules.specs.Answers.{reply_told}
 use Rattle.exports.proofs.checkers.tailboardy_check_tree.Goals as goal
 
 pub returns : goal.returns
-returns c = c.number_of.ensures ∙ ap reply_told c.check_tree-reply.ensures
+returns c =
+    c.number_of.ensures ∙ ap reply_told c.check_tree-reply.ensures

@@ -8,4 +8,5 @@ pub node_told_of-requires : goal.node_told_of-requires
 node_told_of-requires c = child-below _ _ _ c.read_node-reply.ensures (omega (arith, c.type_inv.falsechild c.args.k))
 
 pub returns : goal.returns
-returns c = c.node_told_of.ensures ∙ ap node_told c.read_node-reply.ensures
+returns c =
+    c.node_told_of.ensures ∙ ap node_told c.read_node-reply.ensures

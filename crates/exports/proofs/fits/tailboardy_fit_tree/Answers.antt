@@ -51,4 +51,5 @@ pub shape_of-reals : goal.shape_of-reals
 shape_of-reals c = c.fit_tree-answer.auto.reals
 
 pub returns : goal.returns
-returns c = tree-linked _ _ _ _ _ _ _ c.tree_settings_of-settings.ensures c.fit_tree-answer.ensures c.tree_told_of.ensures
+returns c =
+    tree-linked _ _ _ _ _ _ _ c.tree_settings_of-settings.ensures c.fit_tree-answer.ensures c.tree_told_of.ensures

@@ -4,4 +4,5 @@ use Rattle.rules.specs.Answers.{size_told}
 use Rattle.exports.proofs.models.tailboardy_model_size.Goals as goal
 
 pub returns : goal.returns
-returns c = c.size_told_of.ensures ∙ ap size_told c.model_size-reply.ensures
+returns c =
+    c.size_told_of.ensures ∙ ap size_told c.model_size-reply.ensures

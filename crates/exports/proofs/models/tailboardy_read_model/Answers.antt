@@ -4,4 +4,5 @@ use Rattle.exports.specs.Calls.{answer-told}
 use Rattle.exports.proofs.models.tailboardy_read_model.Goals as goal
 
 pub returns : goal.returns
-returns c = answer-told model_told c.read_model-reply.ensures c.model_told_of.ensures
+returns c =
+    answer-told model_told c.read_model-reply.ensures c.model_told_of.ensures

@@ -4,4 +4,5 @@ use Rattle.exports.specs.Calls.{answer-told}
 use Rattle.exports.proofs.models.tailboardy_write_model.Goals as goal
 
 pub returns : goal.returns
-returns c = answer-told size_told c.write_model-reply.ensures c.size_told_of.ensures
+returns c =
+    answer-told size_told c.write_model-reply.ensures c.size_told_of.ensures

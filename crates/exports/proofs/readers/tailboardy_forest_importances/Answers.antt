@@ -4,4 +4,5 @@ use Rattle.exports.specs.Calls.{answer-told}
 use Rattle.exports.proofs.readers.tailboardy_forest_importances.Goals as goal
 
 pub returns : goal.returns
-returns c = answer-told reply_told c.forest_importances-reply.ensures c.number_of.ensures
+returns c =
+    answer-told reply_told c.forest_importances-reply.ensures c.number_of.ensures

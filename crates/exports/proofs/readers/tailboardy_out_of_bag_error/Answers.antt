@@ -4,4 +4,5 @@ use Rattle.rules.specs.Answers.{error_told}
 use Rattle.exports.proofs.readers.tailboardy_out_of_bag_error.Goals as goal
 
 pub returns : goal.returns
-returns c = c.error_told_of.ensures ∙ ap error_told c.out_of_bag_error-reply.ensures
+returns c =
+    c.error_told_of.ensures ∙ ap error_told c.out_of_bag_error-reply.ensures

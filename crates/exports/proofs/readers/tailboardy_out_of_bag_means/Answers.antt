@@ -4,4 +4,5 @@ use Rattle.exports.specs.Calls.{answer-told}
 use Rattle.exports.proofs.readers.tailboardy_out_of_bag_means.Goals as goal
 
 pub returns : goal.returns
-returns c = answer-told reply_told c.out_of_bag_means-reply.ensures c.number_of.ensures
+returns c =
+    answer-told reply_told c.out_of_bag_means-reply.ensures c.number_of.ensures

@@ -3,4 +3,5 @@ use Rattle.exports.specs.Calls.{importances-linked}
 use Rattle.exports.proofs.readers.tailboardy_tree_importances.Goals as goal
 
 pub returns : goal.returns
-returns c = importances-linked _ _ _ c.scale_of-by.ensures c.tree_importances-reply.ensures c.number_of.ensures
+returns c =
+    importances-linked _ _ _ c.scale_of-by.ensures c.tree_importances-reply.ensures c.number_of.ensures

@@ -8,7 +8,8 @@ use Rattle.means.proofs.sums.add_tree.Given as goal
 
 abbrev pub invariant-loop-i : goal.invariant-loop-i
 invariant-loop-i l =
-    (l.i ≤ l.rows) × Further (with_tree l.counts l.base (leaf_at l.features l.values (entries_at (columns_of l.value l.feature l.threshold l.score l.truechild l.falsechild) l.a l.n))) 0 l.i l.initial.out l.out
+    (l.i ≤ l.rows) × Further (with_tree l.counts l.base (leaf_at l.features l.values
+    (entries_at (columns_of l.value l.feature l.threshold l.score l.truechild l.falsechild) l.a l.n))) 0 l.i l.initial.out l.out
 
 abbrev pub decreases-loop-i : goal.decreases-loop-i
 decreases-loop-i l = l.end - l.i

@@ -20,12 +20,23 @@ add_trees-requires c =
     }
 
 pub divide-requires : goal.divide-requires
-divide-requires c = (c.requires.few, c.requires.trees.lying.started.few, (ap length c.add_trees.ensures ∙ length-rewritten ((sums_all c.args.shape.rows c.args.shape.features c.args.values.now c.args.counts.now ((table_of c.args.trees c.args.starts.now (columns_of c.args.value.now c.args.feature.now c.args.threshold.now c.args.score.now c.args.truechild.now c.args.falsechild.now))))) 0 c.args.shape.rows c.zero_f64.new.s ∙ (c.zero_f64.auto.s ∙ c.requires.room)))
+divide-requires c = (
+  c.requires.few,
+  c.requires.trees.lying.started.few,
+  (ap length c.add_trees.ensures ∙ length-rewritten
+      (sums_all c.args.shape.rows c.args.shape.features c.args.values.now c.args.counts.now
+      (table_of c.args.trees c.args.starts.now (columns_of c.args.value.now c.args.feature.now c.args.threshold.now c.args.score.now c.args.truechild.now c.args.falsechild.now))) 0
+      c.args.shape.rows c.zero_f64.new.s ∙ (c.zero_f64.auto.s ∙ c.requires.room)),
+)
 
 pub returns : goal.returns
 returns c =
     let n = c.args.shape.rows in
     c.divide.ensures
     ∙ ap (rewritten (λ k x. div binary64 x (float (out_number n c.args.trees c.args.counts.now k))) 0 n)
-    (c.add_trees.ensures ∙ ap (rewritten ((sums_all c.args.shape.rows c.args.shape.features c.args.values.now c.args.counts.now ((table_of c.args.trees c.args.starts.now (columns_of c.args.value.now c.args.feature.now c.args.threshold.now c.args.score.now c.args.truechild.now c.args.falsechild.now))))) 0 n) c.zero_f64.ensures)
-    ∙ means-are c.args.shape c.args.values.now c.args.counts.now ((table_of c.args.trees c.args.starts.now (columns_of c.args.value.now c.args.feature.now c.args.threshold.now c.args.score.now c.args.truechild.now c.args.falsechild.now))) c.args.out.now c.requires.room
+    (c.add_trees.ensures ∙ ap (rewritten (sums_all c.args.shape.rows c.args.shape.features c.args.values.now c.args.counts.now
+    (table_of c.args.trees c.args.starts.now (columns_of c.args.value.now c.args.feature.now c.args.threshold.now c.args.score.now c.args.truechild.now c.args.falsechild.now))) 0
+    n) c.zero_f64.ensures)
+    ∙ means-are c.args.shape c.args.values.now c.args.counts.now
+    (table_of c.args.trees c.args.starts.now (columns_of c.args.value.now c.args.feature.now c.args.threshold.now c.args.score.now c.args.truechild.now c.args.falsechild.now))
+    c.args.out.now c.requires.room

@@ -21,4 +21,5 @@ pub float_from_bits-result : goal.float_from_bits-result
 float_from_bits-result c = no_nan c.args.n c.if-n-gt9218868437227405312.false
 
 pub returns-then-n-gt9218868437227405312 : goal.returns-then-n-gt9218868437227405312
-returns-then-n-gt9218868437227405312 c = unfold of_bits div in is-nan c.args.n c.if-n-gt9218868437227405312.true
+returns-then-n-gt9218868437227405312 c =
+    unfold of_bits div in is-nan c.args.n c.if-n-gt9218868437227405312.true

@@ -4,4 +4,5 @@ use Rattle.c_types.specs.Nodes.{child-below}
 use Rattle.replay.proofs.nodes.read.Goals as goal
 
 pub node_told_of-requires : goal.node_told_of-requires
-node_told_of-requires c = child-below _ _ _ c.read_node-r.ensures (omega (arith, c.type_inv.falsechild c.args.k))
+node_told_of-requires c =
+    child-below _ _ _ c.read_node-r.ensures (omega (arith, c.type_inv.falsechild c.args.k))

@@ -18,4 +18,5 @@ pub float_to_bits-result : goal.float_to_bits-result
 float_to_bits-result c = no_nan c.args.x c.if-x.false
 
 pub returns-then-x : goal.returns-then-x
-returns-then-x c = of_nan ∙ ap (to_bits binary64) (sym (differs_from_itself c.args.x (subst T (sym c.if-x.true) tt)))
+returns-then-x c =
+    of_nan ∙ ap (to_bits binary64) (sym (differs_from_itself c.args.x (subst T (sym c.if-x.true) tt)))

@@ -10,7 +10,7 @@ use Rattle.search.proofs.best.best_in.Goals as goal
 pub returns-then-col-eq0 : goal.returns-then-col-eq0
 returns-then-col-eq0 c =
     let a = c.args in
-    (best_none (element_of a.features ((tables_of c.args.values.now c.args.targets.now c.args.weights.now c.args.counts.now))) a.col.now c.if-col-eq0.true a.p a.a a.j a.h.held, inl refl)
+    (best_none (element_of a.features (tables_of c.args.values.now c.args.targets.now c.args.weights.now c.args.counts.now)) a.col.now c.if-col-eq0.true a.p a.a a.j a.h.held, inl refl)
 
 pub value_here-first-requires : goal.value_here-first-requires
 value_here-first-requires c = (record { below = c.requires.rows; wide = c.requires.shape.0.wide; one = c.requires.shape.1 }, omega (arith, c.if-col-eq0.false))

@@ -30,4 +30,5 @@ pub run_anew-requires-2 : goal.run_anew-requires-2
 run_anew-requires-2 c = c.requires
 
 pub returns : goal.returns
-returns c = c.run_anew-2.ensures
+returns c =
+    c.run_anew-2.ensures

@@ -30,9 +30,9 @@ step_of-v-requires c =
     let a = c.args in
     let l = c.loop-i in
     let e =
-    cell-here a.features ((tables_of c.args.values.now c.args.targets.now c.args.weights.now c.args.counts.now)) a.j (get_or a.col.now l.i 0) c.cell_of-e.ensures
+    cell-here a.features (tables_of c.args.values.now c.args.targets.now c.args.weights.now c.args.counts.now) a.j (get_or a.col.now l.i 0) c.cell_of-e.ensures
     c.wide.ensures c.wide-in-loop-i.ensures in
-    turn-fits (element_of a.features ((tables_of c.args.values.now c.args.targets.now c.args.weights.now c.args.counts.now))) a.col.now l.i c.loop-i-test.true a.j
+    turn-fits (element_of a.features (tables_of c.args.values.now c.args.targets.now c.args.weights.now c.args.counts.now)) a.col.now l.i c.loop-i-test.true a.j
     l.v.count a.a.count e l.invariant.1
 
 pub loop-i-smaller : goal.loop-i-smaller
@@ -44,19 +44,22 @@ loop-i-preserved c =
     let a = c.args in
     let l = c.loop-i in
     let e =
-    cell-here a.features ((tables_of c.args.values.now c.args.targets.now c.args.weights.now c.args.counts.now)) a.j (get_or a.col.now l.i 0) c.cell_of-e.ensures
+    cell-here a.features (tables_of c.args.values.now c.args.targets.now c.args.weights.now c.args.counts.now) a.j (get_or a.col.now l.i 0) c.cell_of-e.ensures
     c.wide.ensures c.wide-in-loop-i.ensures in
     let k : Cut → ℕ → Cut = cuts_in a.p.height a.features a.values.now a.j a.col.now in
     let s : (b : Cut) → sweep_of (k b) c.step_of-v.result ≡ step_in a.p a.a a.j (sweep_of (k b) l.v) c.cell_of-e.result = λ b.
-    c.step_of-v.ensures.1 a.j (k b) (turn-cut a.features ((tables_of c.args.values.now c.args.targets.now c.args.weights.now c.args.counts.now)) a.j a.col.now l.i e l.invariant.3 a.p.height b) in (
+    c.step_of-v.ensures.1 a.j (k b) (turn-cut a.features (tables_of c.args.values.now c.args.targets.now c.args.weights.now c.args.counts.now) a.j a.col.now l.i e l.invariant.3
+    a.p.height b) in (
       omega (arith, c.loop-i-test.true),
-      turn-room (element_of a.features ((tables_of c.args.values.now c.args.targets.now c.args.weights.now c.args.counts.now))) a.col.now l.i c.loop-i-test.true a.p a.a a.j
+      turn-room (element_of a.features (tables_of c.args.values.now c.args.targets.now c.args.weights.now c.args.counts.now)) a.col.now l.i c.loop-i-test.true a.p a.a a.j
           (sweep_of (k (earlier_of Nothing)) l.v) a.a.count e (s (earlier_of Nothing)) l.invariant.1,
-      turn-stood a.features ((tables_of c.args.values.now c.args.targets.now c.args.weights.now c.args.counts.now)) a.j a.col.now l.i c.loop-i-test.true a.w.spot l.v c.step_of-v.result
+      turn-stood a.features (tables_of c.args.values.now c.args.targets.now c.args.weights.now c.args.counts.now) a.j a.col.now l.i c.loop-i-test.true a.w.spot l.v
+          c.step_of-v.result
           c.cell_of-e.result e l.invariant.3 c.step_of-v.ensures.0 l.invariant.2,
-      turn-run a.features ((tables_of c.args.values.now c.args.targets.now c.args.weights.now c.args.counts.now)) a.j a.col.now l.i e l.invariant.3 (ap (λ (w : Sweep). w.last) (s (earlier_of Nothing))),
+      turn-run a.features (tables_of c.args.values.now c.args.targets.now c.args.weights.now c.args.counts.now) a.j a.col.now l.i e l.invariant.3
+          (ap (λ (w : Sweep). w.last) (s (earlier_of Nothing))),
       λ b.
-          turn-sweep (element_of a.features ((tables_of c.args.values.now c.args.targets.now c.args.weights.now c.args.counts.now))) a.col.now l.i c.loop-i-test.true a.p a.a a.j
+          turn-sweep (element_of a.features (tables_of c.args.values.now c.args.targets.now c.args.weights.now c.args.counts.now)) a.col.now l.i c.loop-i-test.true a.p a.a a.j
           (sweep_of (k b) l.v) e (s b) ∙ l.invariant.4 b,
     )
 
@@ -65,6 +68,6 @@ returns c =
     let a = c.args in
     let l = c.loop-i in (
       l.invariant.2,
-      λ b. sym (turn_end (element_of a.features ((tables_of c.args.values.now c.args.targets.now c.args.weights.now c.args.counts.now))) a.col.now l.i c.loop-i-test.false
+      λ b. sym (turn_end (element_of a.features (tables_of c.args.values.now c.args.targets.now c.args.weights.now c.args.counts.now)) a.col.now l.i c.loop-i-test.false
           a.p a.a a.j (sweep_of (cuts_in a.p.height a.features a.values.now a.j a.col.now b) l.v)) ∙ l.invariant.4 b,
     )

@@ -13,8 +13,10 @@ invariant-loop-i l =
     × (l.v.count + tally (map (element_of l.features (tables_of l.values l.targets l.weights l.counts)) (drop l.i l.col)) ≤ l.a.count)
     × Stood (cell l.features l.values l.j) l.col l.initial.v.spot l.v.spot
     × (l.v.last ≡ run_at (cell l.features l.values l.j) l.col l.i)
-    × ((b : Cut) → sweep l.p (bare l.a) l.j (sweep_of (cuts_in l.p.height l.features l.values l.j l.col b) l.v) (map (element_of l.features (tables_of l.values l.targets l.weights l.counts)) (drop l.i
-    l.col)) ≡ sweep l.p (bare l.a) l.j (sweep_of (cuts_in l.p.height l.features l.values l.j l.col b) l.initial.v) (map (element_of l.features (tables_of l.values l.targets l.weights l.counts)) l.col))
+    × ((b : Cut) → sweep l.p (bare l.a) l.j (sweep_of (cuts_in l.p.height l.features l.values l.j l.col b) l.v)
+    (map (element_of l.features (tables_of l.values l.targets l.weights l.counts)) (drop l.i
+    l.col)) ≡ sweep l.p (bare l.a) l.j (sweep_of (cuts_in l.p.height l.features l.values l.j l.col b) l.initial.v)
+    (map (element_of l.features (tables_of l.values l.targets l.weights l.counts)) l.col))
 
 abbrev pub decreases-loop-i : goal.decreases-loop-i
 decreases-loop-i l = length l.col - l.i

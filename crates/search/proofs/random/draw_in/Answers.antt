@@ -9,7 +9,7 @@ use Rattle.search.proofs.random.draw_in.Goals as goal
 pub returns-then-thresholds-m : goal.returns-then-thresholds-m
 returns-then-thresholds-m c =
     let a = c.args in (
-      λ W s. draw-none a.p a.a a.j a.h.held (map (element_of a.features ((tables_of c.args.values.now c.args.targets.now c.args.weights.now c.args.counts.now))) a.col.now) W a.thresholds.now s a.m
+      λ W s. draw-none a.p a.a a.j a.h.held (map (element_of a.features (tables_of c.args.values.now c.args.targets.now c.args.weights.now c.args.counts.now)) a.col.now) W a.thresholds.now s a.m
           a.lo a.hi c.if-thresholds-m.true,
       tt,
     )
@@ -26,7 +26,7 @@ overflow_add-result c = omega (arith, c.if-thresholds-m.false, c.well_formed.1.1
 pub returns-then-in_reach : goal.returns-then-in_reach
 returns-then-in_reach c =
     let a = c.args in
-    let es = map (element_of a.features ((tables_of c.args.values.now c.args.targets.now c.args.weights.now c.args.counts.now))) a.col.now in
+    let es = map (element_of a.features (tables_of c.args.values.now c.args.targets.now c.args.weights.now c.args.counts.now)) a.col.now in
     let g = c.spot_of-spot.ensures in
     let s = c.judge_spot-next.ensures in
     let side = c.true_side-s in
@@ -42,7 +42,7 @@ returns-then-in_reach c =
 pub returns : goal.returns
 returns c =
     let a = c.args in (
-      λ W s. draw-out a.p a.a a.j a.h.held (map (element_of a.features ((tables_of c.args.values.now c.args.targets.now c.args.weights.now c.args.counts.now))) a.col.now) W a.thresholds.now s a.m
+      λ W s. draw-out a.p a.a a.j a.h.held (map (element_of a.features (tables_of c.args.values.now c.args.targets.now c.args.weights.now c.args.counts.now)) a.col.now) W a.thresholds.now s a.m
           a.lo a.hi c.if-thresholds-m.false (sym c.in_reach.ensures ∙ c.if-in_reach.false),
       tt,
     )

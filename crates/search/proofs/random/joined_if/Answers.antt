@@ -13,4 +13,5 @@ returns-then-e-t c =
 
 pub returns : goal.returns
 unfolding side_step
-returns c = simp c.if-e-t.false
+returns c =
+    simp c.if-e-t.false

@@ -9,7 +9,7 @@ use Rattle.search.proofs.random.random_in.Goals as goal
 pub returns-then-n-eq0 : goal.returns-then-n-eq0
 returns-then-n-eq0 c =
     let a = c.args in (
-      λ W s. random-none (element_of a.features ((tables_of c.args.values.now c.args.targets.now c.args.weights.now c.args.counts.now))) a.col.now c.if-n-eq0.true a.p (bare a.a) a.j
+      λ W s. random-none (element_of a.features (tables_of c.args.values.now c.args.targets.now c.args.weights.now c.args.counts.now)) a.col.now c.if-n-eq0.true a.p (bare a.a) a.j
           (record { best = a.h.held; left = left W a.thresholds.now s a.m }),
       inl refl,
     )

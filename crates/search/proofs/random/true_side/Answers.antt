@@ -15,7 +15,7 @@ loop-i-init c =
       omega arith,
       omega (arith, c.requires.room, ap (λ (z : Side). z.count) e),
       ap (λ z. onto (record { feature = a.j; threshold = a.t }) (record { side = z; rows = 0 }) (map (element_of
-          a.features ((tables_of c.args.values.now c.args.targets.now c.args.weights.now c.args.counts.now))) a.col.now)) e,
+          a.features (tables_of c.args.values.now c.args.targets.now c.args.weights.now c.args.counts.now)) a.col.now)) e,
       omega arith,
     )
 
@@ -33,8 +33,9 @@ joined_if-s-requires c =
     let l = c.loop-i in (
       omega (
         arith,
-        turn-fits (element_of a.features ((tables_of c.args.values.now c.args.targets.now c.args.weights.now c.args.counts.now))) a.col.now l.i c.loop-i-test.true
-            a.j l.s.side.count a.most (cell-here a.features ((tables_of c.args.values.now c.args.targets.now c.args.weights.now c.args.counts.now)) a.j (get_or a.col.now l.i 0) c.cell_of-e.ensures
+        turn-fits (element_of a.features (tables_of c.args.values.now c.args.targets.now c.args.weights.now c.args.counts.now)) a.col.now l.i c.loop-i-test.true
+            a.j l.s.side.count a.most (cell-here a.features (tables_of c.args.values.now c.args.targets.now c.args.weights.now c.args.counts.now) a.j (get_or a.col.now l.i 0)
+            c.cell_of-e.ensures
             c.wide.ensures c.wide-in-loop-i.ensures) l.invariant.1,
         c.ranges.most,
       ),
@@ -49,14 +50,14 @@ loop-i-preserved c =
     let a = c.args in
     let l = c.loop-i in
     let e =
-    cell-here a.features ((tables_of c.args.values.now c.args.targets.now c.args.weights.now c.args.counts.now)) a.j (get_or a.col.now l.i 0) c.cell_of-e.ensures
+    cell-here a.features (tables_of c.args.values.now c.args.targets.now c.args.weights.now c.args.counts.now) a.j (get_or a.col.now l.i 0) c.cell_of-e.ensures
     c.wide.ensures c.wide-in-loop-i.ensures in
     let most =
-    turn-most (element_of a.features ((tables_of c.args.values.now c.args.targets.now c.args.weights.now c.args.counts.now))) a.col.now l.i c.loop-i-test.true a.j a.t l.s a.most e
+    turn-most (element_of a.features (tables_of c.args.values.now c.args.targets.now c.args.weights.now c.args.counts.now)) a.col.now l.i c.loop-i-test.true a.j a.t l.s a.most e
     c.joined_if-s.ensures l.invariant.1 l.invariant.3 in (
       omega arith,
       most.0,
-      turn-side (element_of a.features ((tables_of c.args.values.now c.args.targets.now c.args.weights.now c.args.counts.now))) a.col.now l.i c.loop-i-test.true a.j a.t l.s e
+      turn-side (element_of a.features (tables_of c.args.values.now c.args.targets.now c.args.weights.now c.args.counts.now)) a.col.now l.i c.loop-i-test.true a.j a.t l.s e
           c.joined_if-s.ensures ∙ l.invariant.2,
       most.1,
     )
@@ -65,7 +66,8 @@ pub returns : goal.returns
 returns c =
     let a = c.args in
     let l = c.loop-i in (
-      side-end (element_of a.features ((tables_of c.args.values.now c.args.targets.now c.args.weights.now c.args.counts.now))) a.col.now l.i c.loop-i-test.false (record { feature = a.j; threshold = a.t })
+      side-end (element_of a.features (tables_of c.args.values.now c.args.targets.now c.args.weights.now c.args.counts.now)) a.col.now l.i c.loop-i-test.false
+          (record { feature = a.j; threshold = a.t })
           l.s l.invariant.2,
       omega (arith, l.invariant.1),
       omega (arith, l.invariant.3, l.invariant.0),

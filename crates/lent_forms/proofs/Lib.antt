@@ -1,0 +1,2 @@
+-- Laws of the two forms that rest on how a push is defined.
+pub mod Pushes
