@@ -1,6 +1,6 @@
 // Kind 2: a fit of a forest.
-use crate::rooms::{Check, Verdict};
-use crate::{calls, rooms};
+use crate::compared::{Check, Verdict};
+use crate::{calls, compared};
 use rules::{Refusal, Settings, Shape, Tried};
 
 // The start table and the six report columns.
@@ -16,13 +16,13 @@ fn reports<'a>(
     wordsused: &'a [u32],
     thresholdsused: &'a [u32],
 ) -> Check {
-    let d = rooms::words(answer, lengths, c, starts);
-    let e = rooms::words(answer, lengths, d, nodes);
-    let f = rooms::words(answer, lengths, e, depth);
-    let g = rooms::reals(answer, lengths, f, mass);
-    let h = rooms::words(answer, lengths, g, searches);
-    let i = rooms::words(answer, lengths, h, wordsused);
-    rooms::words(answer, lengths, i, thresholdsused)
+    let d = compared::words(answer, lengths, c, starts);
+    let e = compared::words(answer, lengths, d, nodes);
+    let f = compared::words(answer, lengths, e, depth);
+    let g = compared::reals(answer, lengths, f, mass);
+    let h = compared::words(answer, lengths, g, searches);
+    let i = compared::words(answer, lengths, h, wordsused);
+    compared::words(answer, lengths, i, thresholdsused)
 }
 
 fn compare<'a>(
@@ -50,9 +50,9 @@ fn compare<'a>(
     wholes: &'a [[u32; 6]],
     triples: &'a [[f64; 3]],
 ) -> Verdict {
-    let told = rooms::told_of(t);
-    let c = rooms::first(4);
-    let d = rooms::nodes(
+    let told = compared::told_of(t);
+    let c = compared::first(4);
+    let d = compared::nodes(
         answer, lengths, c, value, feature, threshold, score, truechild, falsechild, nodecount,
         nodemass,
     );
@@ -68,8 +68,8 @@ fn compare<'a>(
         wordsused,
         thresholdsused,
     );
-    let f = rooms::work(answer, lengths, e, order, scratch, flags, wholes, triples);
-    rooms::judged(answer, &told, f)
+    let f = compared::work(answer, lengths, e, order, scratch, flags, wholes, triples);
+    compared::judged(answer, &told, f)
 }
 
 // Lends rooms of nines.
@@ -111,26 +111,26 @@ fn fit(
     let mut wholes = [[9u32; 6]; 64];
     let mut triples = [[9.0; 3]; 64];
     let a = forest_fit::fit_forest(
-        rooms::lent_reals(lengths, 0, &mut value),
-        rooms::lent_words(lengths, 1, &mut feature),
-        rooms::lent_reals(lengths, 2, &mut threshold),
-        rooms::lent_reals(lengths, 3, &mut score),
-        rooms::lent_words(lengths, 4, &mut truechild),
-        rooms::lent_words(lengths, 5, &mut falsechild),
-        rooms::lent_words(lengths, 6, &mut nodecount),
-        rooms::lent_reals(lengths, 7, &mut nodemass),
-        rooms::lent_words(lengths, 8, &mut starts),
-        rooms::lent_words(lengths, 9, &mut nodes),
-        rooms::lent_words(lengths, 10, &mut depth),
-        rooms::lent_reals(lengths, 11, &mut mass),
-        rooms::lent_words(lengths, 12, &mut searches),
-        rooms::lent_words(lengths, 13, &mut wordsused),
-        rooms::lent_words(lengths, 14, &mut thresholdsused),
-        rooms::lent_words(lengths, 15, &mut order),
-        rooms::lent_words(lengths, 16, &mut scratch),
-        rooms::lent_flags(lengths, 17, &mut flags),
-        rooms::lent_wholes(lengths, 18, &mut wholes),
-        rooms::lent_triples(lengths, 18, &mut triples),
+        compared::lent_reals(lengths, 0, &mut value),
+        compared::lent_words(lengths, 1, &mut feature),
+        compared::lent_reals(lengths, 2, &mut threshold),
+        compared::lent_reals(lengths, 3, &mut score),
+        compared::lent_words(lengths, 4, &mut truechild),
+        compared::lent_words(lengths, 5, &mut falsechild),
+        compared::lent_words(lengths, 6, &mut nodecount),
+        compared::lent_reals(lengths, 7, &mut nodemass),
+        compared::lent_words(lengths, 8, &mut starts),
+        compared::lent_words(lengths, 9, &mut nodes),
+        compared::lent_words(lengths, 10, &mut depth),
+        compared::lent_reals(lengths, 11, &mut mass),
+        compared::lent_words(lengths, 12, &mut searches),
+        compared::lent_words(lengths, 13, &mut wordsused),
+        compared::lent_words(lengths, 14, &mut thresholdsused),
+        compared::lent_words(lengths, 15, &mut order),
+        compared::lent_words(lengths, 16, &mut scratch),
+        compared::lent_flags(lengths, 17, &mut flags),
+        compared::lent_wholes(lengths, 18, &mut wholes),
+        compared::lent_triples(lengths, 18, &mut triples),
         values,
         targets,
         weights,

@@ -3,14 +3,14 @@
 #![tactic(auto)]
 
 mod calls;
+mod compared;
 mod forest_fits;
 mod lines;
 mod nodes;
 mod readers;
-mod rooms;
 mod tree_fits;
 
-use crate::rooms::Verdict;
+use crate::compared::Verdict;
 
 // No line has more numbers.
 const LONGEST: usize = 512;

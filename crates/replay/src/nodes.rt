@@ -1,8 +1,8 @@
 // Kind 13: a node read out.
 ghost use Rattle.std.specs.Prelude.{◌≡◌, length};
 
-use crate::rooms::Verdict;
-use crate::{calls, rooms};
+use crate::compared::Verdict;
+use crate::{calls, compared};
 use rules::NodeTold;
 
 fn told_of(t: NodeTold) -> [usize; 8]
@@ -10,11 +10,11 @@ fn told_of(t: NodeTold) -> [usize; 8]
 {
     [
         t.number as usize,
-        rooms::flag(t.there),
-        rooms::pattern(t.value),
+        compared::flag(t.there),
+        compared::pattern(t.value),
         t.feature as usize,
-        rooms::pattern(t.threshold),
-        rooms::pattern(t.score),
+        compared::pattern(t.threshold),
+        compared::pattern(t.score),
         t.truechild as usize,
         t.falsechild as usize,
     ]
@@ -53,5 +53,5 @@ pub fn replay(call: &[usize], reals: &[f64], words: &[u32], answer: &[usize]) ->
         asked[0],
     );
     let told = told_of(t);
-    rooms::judged(answer, &told, rooms::first(8))
+    compared::judged(answer, &told, compared::first(8))
 }

@@ -1,7 +1,7 @@
 // Kinds 3 to 12: readers and checks.
 use crate::calls::Columns;
-use crate::rooms::Verdict;
-use crate::{calls, rooms};
+use crate::compared::Verdict;
+use crate::{calls, compared};
 use rules::{Reply, Scale, Shape};
 
 // The places of the lists, of the root mass and of the room's length.
@@ -118,12 +118,12 @@ fn lend(
 // Kinds 3 to 8 leave a room.
 fn compare(kind: usize, answer: &[usize], lengths: &[usize], r: Reply, out: &[f64]) -> Verdict {
     let told = [c_types::number_of(r) as usize];
-    let c = rooms::first(1);
+    let c = compared::first(1);
     if 8 < kind {
-        return rooms::judged(answer, &told, c);
+        return compared::judged(answer, &told, c);
     }
-    let d = rooms::reals(answer, lengths, c, out);
-    rooms::judged(answer, &told, d)
+    let d = compared::reals(answer, lengths, c, out);
+    compared::judged(answer, &told, d)
 }
 
 pub fn replay(
@@ -145,7 +145,7 @@ pub fn replay(
         p,
         reals,
         words,
-        rooms::lent_reals(lengths, 0, &mut out),
+        compared::lent_reals(lengths, 0, &mut out),
     );
     compare(kind, answer, lengths, r, &out)
 }
@@ -164,8 +164,12 @@ pub fn replay_error(call: &[usize], reals: &[f64], answer: &[usize]) -> Verdict 
         calls::reals(reals, p.means, p.room),
     );
     let t = c_types::error_told_of(r);
-    let told = [t.number as usize, rooms::pattern(t.error), t.rows as usize];
-    rooms::judged(answer, &told, rooms::first(3))
+    let told = [
+        t.number as usize,
+        compared::pattern(t.error),
+        t.rows as usize,
+    ];
+    compared::judged(answer, &told, compared::first(3))
 }
 
 // ---- the check of listings
@@ -181,6 +185,6 @@ pub fn replay_listings(call: &[usize], reals: &[f64], words: &[u32], answer: &[u
         calls::reals(reals, p.values, p.counts),
         calls::words(words, p.listings, p.columns.value),
     );
-    let told = rooms::told_of(c_types::check_told_of(c));
-    rooms::judged(answer, &told, rooms::first(4))
+    let told = compared::told_of(c_types::check_told_of(c));
+    compared::judged(answer, &told, compared::first(4))
 }

@@ -1,8 +1,8 @@
 // Kind 1: a fit of one tree.
 ghost use Rattle.std.specs.Prelude.{◌≡◌, length};
 
-use crate::rooms::Verdict;
-use crate::{calls, rooms};
+use crate::compared::Verdict;
+use crate::{calls, compared};
 use rules::{Settings, Shape, TreeTold};
 
 fn told_of(t: TreeTold) -> [usize; 10]
@@ -15,7 +15,7 @@ fn told_of(t: TreeTold) -> [usize; 10]
         t.row as usize,
         t.nodes as usize,
         t.depth as usize,
-        rooms::pattern(t.mass),
+        compared::pattern(t.mass),
         t.searches as usize,
         t.words as usize,
         t.thresholds as usize,
@@ -41,13 +41,13 @@ fn compare<'a>(
     triples: &'a [[f64; 3]],
 ) -> Verdict {
     let told = told_of(t);
-    let c = rooms::first(10);
-    let d = rooms::nodes(
+    let c = compared::first(10);
+    let d = compared::nodes(
         answer, lengths, c, value, feature, threshold, score, truechild, falsechild, nodecount,
         nodemass,
     );
-    let e = rooms::work(answer, lengths, d, order, scratch, flags, wholes, triples);
-    rooms::judged(answer, &told, e)
+    let e = compared::work(answer, lengths, d, order, scratch, flags, wholes, triples);
+    compared::judged(answer, &told, e)
 }
 
 // Lends rooms of nines.
@@ -79,19 +79,19 @@ fn fit(
     let mut wholes = [[9u32; 6]; 64];
     let mut triples = [[9.0; 3]; 64];
     let a = tree_fit::fit_tree(
-        rooms::lent_reals(lengths, 0, &mut value),
-        rooms::lent_words(lengths, 1, &mut feature),
-        rooms::lent_reals(lengths, 2, &mut threshold),
-        rooms::lent_reals(lengths, 3, &mut score),
-        rooms::lent_words(lengths, 4, &mut truechild),
-        rooms::lent_words(lengths, 5, &mut falsechild),
-        rooms::lent_words(lengths, 6, &mut nodecount),
-        rooms::lent_reals(lengths, 7, &mut nodemass),
-        rooms::lent_words(lengths, 8, &mut order),
-        rooms::lent_words(lengths, 9, &mut scratch),
-        rooms::lent_flags(lengths, 10, &mut flags),
-        rooms::lent_wholes(lengths, 11, &mut wholes),
-        rooms::lent_triples(lengths, 11, &mut triples),
+        compared::lent_reals(lengths, 0, &mut value),
+        compared::lent_words(lengths, 1, &mut feature),
+        compared::lent_reals(lengths, 2, &mut threshold),
+        compared::lent_reals(lengths, 3, &mut score),
+        compared::lent_words(lengths, 4, &mut truechild),
+        compared::lent_words(lengths, 5, &mut falsechild),
+        compared::lent_words(lengths, 6, &mut nodecount),
+        compared::lent_reals(lengths, 7, &mut nodemass),
+        compared::lent_words(lengths, 8, &mut order),
+        compared::lent_words(lengths, 9, &mut scratch),
+        compared::lent_flags(lengths, 10, &mut flags),
+        compared::lent_wholes(lengths, 11, &mut wholes),
+        compared::lent_triples(lengths, 11, &mut triples),
         values,
         targets,
         weights,

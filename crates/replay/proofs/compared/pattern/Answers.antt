@@ -1,8 +1,8 @@
--- `replay::rooms::pattern` meets its contract. A NaN, and nothing else, differs from itself. Assumes nothing.
+-- `replay::compared::pattern` meets its contract. A NaN, and nothing else, differs from itself. Assumes nothing.
 use Rattle.std.proofs.Common.{◌≡◌, refl, sym, ap, ◌∙◌, subst, false, not, true≢false, T, Float}
 use lib.Ieee.{nan, inf, fin, is_nan, to_bits, binary64, ne}
 use lib.Ieee.Compare.{differs_from_itself, nan_differs}
-use Rattle.replay.proofs.rooms.pattern.Goals as goal
+use Rattle.replay.proofs.compared.pattern.Goals as goal
 
 no_nan : (x : Float) → ne x x ≡ false → T (not (is_nan x))
 unfolding is_nan

@@ -1,6 +1,6 @@
--- `replay::rooms::wrong_number` is safe and ends: i is within what is told. Assumes nothing.
+-- `replay::compared::wrong_number` is safe and ends: i is within what is told. Assumes nothing.
 use Rattle.std.proofs.Common.{◌≤◌, ◌-◌, length}
-use Rattle.replay.proofs.rooms.wrong_number.Given as goal
+use Rattle.replay.proofs.compared.wrong_number.Given as goal
 
 abbrev pub invariant-loop-i : goal.invariant-loop-i
 invariant-loop-i l = l.i ≤ length l.told

@@ -1,6 +1,6 @@
--- `replay::rooms::same_waiting` is safe and ends: i is within the list. Assumes nothing.
+-- `replay::compared::same_waiting` is safe and ends: i is within the list. Assumes nothing.
 use Rattle.std.proofs.Common.{◌≤◌, ◌-◌}
-use Rattle.replay.proofs.rooms.same_waiting.Given as goal
+use Rattle.replay.proofs.compared.same_waiting.Given as goal
 
 abbrev pub invariant-loop-i : goal.invariant-loop-i
 invariant-loop-i l = l.i ≤ l.n

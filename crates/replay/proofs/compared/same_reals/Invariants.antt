@@ -1,6 +1,6 @@
--- `replay::rooms::same_flags` is safe and ends: i is within the room. Assumes nothing.
+-- `replay::compared::same_reals` is safe and ends: i is within the room. Assumes nothing.
 use Rattle.std.proofs.Common.{◌≤◌, ◌-◌}
-use Rattle.replay.proofs.rooms.same_flags.Given as goal
+use Rattle.replay.proofs.compared.same_reals.Given as goal
 
 abbrev pub invariant-loop-i : goal.invariant-loop-i
 invariant-loop-i l = l.i ≤ l.n
