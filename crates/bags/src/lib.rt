@@ -8,20 +8,16 @@ ghost use Rattle.bags.specs.Bags.{is_out, Numberable, OutNumbered};
 pub fn is_out(counts: &[u32], at: usize) -> bool
     ensures { result ≡ is_out counts.now at }
 {
-    if at < counts.len() {
-        counts[at] == 0
-    } else {
-        true
-    }
+    at >= counts.len() || counts[at] == 0
 }
 
 fn out_mark(counts: &[u32], at: usize) -> u32
     ensures { result ≡ cond (is_out counts.now at) 1 0 }
 {
-    if is_out(counts, at) { 1 } else { 0 }
+    is_out(counts, at) as u32
 }
 
-// Of how many trees' bags row i is out.
+// Of how many trees' bags row i is out. Counted in a loop: in a chain the place of a count would need a bound from the range's items.
 pub fn out_number(rows: usize, trees: usize, counts: &[u32], i: usize) -> u32
     requires { Numberable rows trees i }
     ensures { OutNumbered rows trees counts.now i result }
@@ -30,11 +26,9 @@ pub fn out_number(rows: usize, trees: usize, counts: &[u32], i: usize) -> u32
         return trees as u32;
     }
     let mut number: u32 = 0;
-    let mut t: usize = 0;
-    while t < trees {
+    for t in 0..trees {
         let at = t * rows + i;
         number += out_mark(counts, at);
-        t += 1;
     }
     number
 }

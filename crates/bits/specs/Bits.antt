@@ -1,40 +1,29 @@
--- Patterns of floats, and laws of bytes met one at a time. Assumes nothing.
-use Prim.Native.Nat.{ℕ, suc, ◌+◌, ◌-◌, ◌*◌, ◌/◌, ◌%◌, ◌^◌, ◌<◌, ◌≤◌}
-use Rattle.std.proofs.Common.{add-zero, not-le_of_lt, ◌∙◌, subst, true≢false, drop-cons, pow-add, pow_mono, lt→ltb, ltb→lt}
+-- Patterns of floats, and bytes put into a word or taken out of it. Assumes nothing.
+use Prim.Native.Nat.{ℕ, zero, suc, ◌+◌, ◌-◌, ◌*◌, ◌/◌, ◌%◌, ◌<◌, ◌≤◌}
+use Rattle.std.proofs.Common.{not-le_of_lt, ◌∙◌, subst, add-one, drop-drop, length-append, lt→ltb, ltb→lt}
+use Rattle.std.proofs.lemmas.List.{append-nil, drop-replicate, drop_all, length-drop, length-replicate, length-take-le, take_all}
 use native.Mathlib.Omega.{arith}
-use Rattle.std.specs.Prelude.{◌≡◌, refl, Bool, true, false, not, ◌||◌, cond, List, length, set, take, drop, T, eqb, Float}
+use Rattle.std.specs.Prelude.{◌≡◌, refl, true, not, ◌||◌, List, [], ◌∷◌, ◌++◌, length, set, take, drop, replicate, T, eqb, Float}
 use Rattle.std.proofs.Math.Path.{sym, ap}
 use Rattle.std.proofs.Math.ListN.{get_or}
+use Rattle.std.proofs.Math.Seq.{take-suc-set}
 use Rattle.std.proofs.Math.Dec.{not_T}
+use Rattle.std.specs.Int.{w64, from_le_bytes}
 use Rattle.std.specs.Float.{nan, inf, fin, binary64}
-use Rattle.std.specs.Float.Ieee.{is_nan, nan_bits, ne, of_bits, to_bits}
+use Rattle.std.specs.Float.Ieee.{is_nan, nan_bits, of_bits}
 use Rattle.std.specs.Float.Ieee.Bits.{nan_bits_is, nan_bits_above}
-use Rattle.std.specs.Float.Ieee.Compare.{differs_from_itself, nan_differs}
+use mathlib.Core.List.{append_assoc}
+use borrow.Rule.Slice.PartMut.{put_mid}
 use Rattle.rules.specs.Words.{stretch}
 use Rattle.rules.specs.Bytes.{bytes_of, number_in, the_nan, good_pattern}
 use Rattle.lemmas.specs.Lists.{is_true, is_false}
-use Rattle.lemmas.specs.ByteNumbers.{pattern_of}
-use Rattle.lemmas.specs.Spliced.{spliced, spliced-none, spliced-next}
+use Rattle.lemmas.specs.ByteNumbers.{bytes-long}
+use Rattle.lemmas.specs.Spliced.{spliced}
 
 -- k bytes from place at on, few enough for a number of 64 bits
 pub record Stretches (at k : ℕ) (bytes : List ℕ) : Type 0 where
   pub few : k ≤ 8
   pub inside : at + k ≤ length bytes
-
--- ---- a NaN differs from itself, and nothing else does
-
-pub no_nan : (x : Float) → ne x x ≡ false → T (not (is_nan x))
-unfolding is_nan
-no_nan nan h = absurd (true≢false (sym nan_differs ∙ h))
-no_nan (inf s) h = tt
-no_nan (fin s m e) h = tt
-
-pub nan-written : (x : Float) → ne x x ≡ true → the_nan ≡ pattern_of x
-unfolding is_nan
-nan-written x h = ap pattern_of (sym (differs_from_itself x (subst T (sym h) tt)))
-
-pub other-written : (x : Float) → ne x x ≡ false → to_bits binary64 x ≡ pattern_of x
-other-written x h = sym (ap (λ b. cond b the_nan (to_bits binary64 x)) (is_false (is_nan x) (no_nan x h)))
 
 -- ---- patterns of NaNs: above that of an infinity, but for the sign
 
@@ -50,94 +39,88 @@ only_nan nan h = refl
 only_nan (inf s) h = absurd (subst T (sym h) tt)
 only_nan (fin s m e) h = absurd (subst T (sym h) tt)
 
-pub nan-good : (n : ℕ) (b : Bool) → 0x7ff0_0000_0000_0000 < n % 0x8000_0000_0000_0000 → b ≡ eqb n the_nan → b ≡ good_pattern n
+pub nan-good : (n : ℕ) → 0x7ff0_0000_0000_0000 < n % 0x8000_0000_0000_0000 → eqb n the_nan ≡ good_pattern n
 unfolding good_pattern
-nan-good n b h e = e ∙ ap (λ z. not z || eqb n the_nan) (sym (nan_pattern n h))
+nan-good n h = ap (λ z. not z || eqb n the_nan) (sym (nan_pattern n h))
 
 pub other-good : (n : ℕ) → n % 0x8000_0000_0000_0000 ≤ 0x7ff0_0000_0000_0000 → true ≡ good_pattern n
 unfolding good_pattern
 other-good n h = ap (λ z. not z || eqb n the_nan) (sym (sym (nan_bits_is binary64 n) ∙ is_false (nan_bits binary64 n) (other-pattern n h)))
 
--- ---- a number read: m is what the bytes from the i-th on say, and as small as they are few
+-- ---- a number read: what is past the last byte is 0
 
-module _ (bytes : List ℕ) (at k : ℕ) where
-  abbrev pub said_from : ℕ → ℕ
-  said_from i = number_in (stretch (at + i) (k - i) bytes)
+zeros-in : (m : ℕ) → number_in (replicate m 0) ≡ 0
+unfolding number_in
+zeros-in zero = refl
+zeros-in (suc m) = ap (λ n. n * 256 + 0) (zeros-in m)
 
-  pub said-start : 0 ≡ said_from k
-  unfolding number_in
-  said-start = sym (ap (λ n. number_in (take n (drop (at + k) bytes))) (none k))
-    where
-      none : (k : ℕ) → k - k ≡ 0
-      none k = omega arith
+zeros-after : (bs : List ℕ) (m : ℕ) → number_in (bs ++ replicate m 0) ≡ number_in bs
+unfolding number_in
+zeros-after [] m = zeros-in m
+zeros-after (b ∷ bs) m = ap (λ n. n * 256 + b) (zeros-after bs m)
 
-  pub said-next : (i : ℕ) → 0 < i → i ≤ k → at + k ≤ length bytes → said_from i * 256 + get_or bytes (at + (i - 1)) 0 ≡ said_from (i - 1)
-  unfolding number_in
-  said-next i p h g =
-      sym
-      ((λ j. number_in (take (more i k p h j) (drop-cons bytes (at + (i - 1)) 0 (omega arith) j)))
-      ∙ ap (λ n. number_in (take (k - i) (drop n bytes)) * 256 + get_or bytes (at + (i - 1)) 0) (back at i p))
-    where
-      more : (i k : ℕ) → 0 < i → i ≤ k → k - (i - 1) ≡ suc (k - i)
-      more i k p h = omega arith
+byte-first : (i : ℕ) (bs : List ℕ) → number_in (drop i bs) ≡ number_in (drop (suc i) bs) * 256 + get_or bs i 0
+unfolding number_in
+byte-first zero [] = refl
+byte-first zero (b ∷ bs) = refl
+byte-first (suc i) [] = refl
+byte-first (suc i) (b ∷ bs) = byte-first i bs
 
-      back : (at i : ℕ) → 0 < i → suc (at + (i - 1)) ≡ at + i
-      back at i p = omega arith
+word-in : (bs : List ℕ) → length bs ≤ 8 → from_le_bytes w64 bs ≡ number_in bs
+unfolding number_in
+word-in bs h =
+    let none : number_in (drop 8 bs) ≡ 0 = ap number_in (drop_all 8 bs h) in
+    omega (arith, none, byte-first 0 bs, byte-first 1 bs, byte-first 2 bs, byte-first 3 bs, byte-first 4 bs, byte-first 5 bs, byte-first 6 bs, byte-first 7 bs)
 
-  pub said-end : (i : ℕ) → i ≤ 0 → said_from i ≡ number_in (stretch at k bytes)
-  said-end i h = λ j. number_in (stretch (start at i h j) (all i k h j) bytes)
-    where
-      start : (at i : ℕ) → i ≤ 0 → at + i ≡ at
-      start at i h = omega arith
-
-      all : (i k : ℕ) → i ≤ 0 → k - i ≡ k
-      all i k h = omega arith
-
--- one byte more
-pub said-grows : (m b i k : ℕ) → 0 < i → i ≤ k → m < 2 ^ (8 * (k - i)) → b < 256 → m * 256 + b < 2 ^ (8 * (k - (i - 1)))
-said-grows m b i k p h g small =
-    subst (λ n. m * 256 + b < 2 ^ n) (sym (eight i k p h)) (subst (λ z. m * 256 + b < z) (sym (pow-add 2 (8 * (k - i)) 8)) (more (2 ^ (8 * (k - i))) g))
+-- bytes in front of a word of zeros
+pub word-read : (at k : ℕ) (bytes : List ℕ) → Stretches at k bytes → {new : List ℕ} → new ≡ stretch at (at + k - at) bytes
+    → from_le_bytes w64 (put_mid 0 k (replicate 8 0) new) ≡ number_in (stretch at k bytes)
+word-read at k bytes h {new} e =
+    word-in (put_mid 0 k (replicate 8 0) new) (omega (arith, ap length shape, length-append new (replicate (8 - k) 0), length-replicate {A = ℕ} (8 - k) 0, long, h.few))
+    ∙ ap number_in shape
+    ∙ zeros-after new (8 - k)
+    ∙ ap number_in same
   where
-    eight : (i k : ℕ) → 0 < i → i ≤ k → 8 * (k - (i - 1)) ≡ 8 * (k - i) + 8
-    eight i k p h = omega arith
+    same : new ≡ stretch at k bytes
+    same = let k-is : at + k - at ≡ k = omega arith in e ∙ ap (λ m. stretch at m bytes) k-is
 
-    more : (p : ℕ) → m < p → m * 256 + b < p * 256
-    more p g = omega arith
+    long : length new ≡ k
+    long = ap length same ∙ length-take-le k (drop at bytes) (omega (arith, length-drop at bytes, h.inside))
 
-pub said_fits : (i k : ℕ) → k ≤ 8 → 2 ^ (8 * (k - i)) ≤ 2 ^ 64
-said_fits i k h = pow_mono (few i k h)
+    shape : put_mid 0 k (replicate 8 0) new ≡ new ++ replicate (8 - k) 0
+    shape = rw (drop-replicate {X = ℕ} k 8 0) refl
+
+-- ---- a number written: the bytes before the i-th are, and what is left of n is m
+
+pub put-next : (k i m : ℕ) (out : List ℕ) → i < k → i < length out → take (i + 1) (set out i (m % 256)) ++ bytes_of (k - (i + 1)) (m / 256) ≡ take i out ++ bytes_of (k - i) m
+unfolding bytes_of
+put-next k i m out h g =
+    (λ j. take (add-one i j) (set out i (m % 256)) ++ bytes_of (k - (i + 1)) (m / 256))
+    ∙ ap (λ l. l ++ bytes_of (k - (i + 1)) (m / 256)) (take-suc-set out i (m % 256) g)
+    ∙ append_assoc (take i out) (m % 256 ∷ []) (bytes_of (k - (i + 1)) (m / 256))
+    ∙ ap (λ n. take i out ++ bytes_of n m) (sym more)
   where
-    few : (i k : ℕ) → k ≤ 8 → 8 * (k - i) ≤ 64
-    few i k h = omega arith
+    more : k - i ≡ suc (k - (i + 1))
+    more = omega arith
 
--- ---- a number written: i bytes are, and what is left of n is m
+pub put-end : (k i m : ℕ) (out : List ℕ) → k ≤ i → length out ≡ k → out ≡ take i out ++ bytes_of (k - i) m
+unfolding bytes_of
+put-end k i m out h long =
+    sym (take_all i out (omega (arith, h, long))) ∙ sym (append-nil (take i out)) ∙ ap (λ n. take i out ++ bytes_of n m) (sym none)
+  where
+    none : k - i ≡ 0
+    none = omega arith
 
-module _ (at k : ℕ) where
-  abbrev pub put_from : ℕ → ℕ → List ℕ → List ℕ
-  put_from i m out = spliced (at + i) (bytes_of (k - i) m) out
+-- into a part of a list
+pub put-spliced : (at k n : ℕ) (out : List ℕ) → at + k ≤ length out → {new : List ℕ} → new ≡ bytes_of (length (stretch at (at + k - at) out)) n
+    → put_mid at (at + k - at) out new ≡ spliced at (bytes_of k n) out
+unfolding spliced
+put-spliced at k n out h e =
+    (λ i. put_mid at (k-is i) out ((e ∙ ap (λ l. bytes_of l n) (ap (λ m. length (stretch at m out)) k-is ∙ long)) i))
+    ∙ ap (λ l. take at out ++ (bytes_of k n ++ l)) (drop-drop k at out ∙ ap (λ m. drop (at + m) out) (sym (bytes-long k n)))
+  where
+    k-is : at + k - at ≡ k
+    k-is = omega arith
 
-  pub put-start : (n : ℕ) (out : List ℕ) → put_from 0 n out ≡ spliced at (bytes_of k n) out
-  put-start n out = λ j. spliced (add-zero at j) (bytes_of (whole k j) n) out
-    where
-      whole : (k : ℕ) → k - 0 ≡ k
-      whole k = omega arith
-
-  pub put_next : (i m : ℕ) (out : List ℕ) → i < k → at + i < length out → put_from (i + 1) (m / 256) (set out (at + i) (m % 256)) ≡ put_from i m out
-  unfolding bytes_of
-  put_next i m out h g =
-      (λ j. spliced (up at i j) (bytes_of (k - (i + 1)) (m / 256)) (set out (at + i) (m % 256)))
-      ∙ spliced-next (at + i) (m % 256) (bytes_of (k - (i + 1)) (m / 256)) out g
-      ∙ ap (λ n. spliced (at + i) (bytes_of n m) out) (sym (more i k h))
-    where
-      up : (at i : ℕ) → at + (i + 1) ≡ at + i + 1
-      up at i = omega arith
-
-      more : (i k : ℕ) → i < k → k - i ≡ suc (k - (i + 1))
-      more i k h = omega arith
-
-  pub put-end : (i m : ℕ) (out : List ℕ) → k ≤ i → put_from i m out ≡ out
-  unfolding bytes_of
-  put-end i m out h = ap (λ n. spliced (at + i) (bytes_of n m) out) (none i k h) ∙ spliced-none (at + i) out
-    where
-      none : (i k : ℕ) → k ≤ i → k - i ≡ 0
-      none i k h = omega arith
+    long : length (stretch at k out) ≡ k
+    long = length-take-le k (drop at out) (omega (arith, length-drop at out, h))

@@ -10,14 +10,14 @@ ghost use Rattle.bits.specs.Bits.{Stretches};
 
 // ---- floats as patterns
 
-// The pattern that a float is written as. Only a NaN differs from itself.
+// The pattern that a float is written as.
 pub fn pattern_of(x: f64) -> u64
     ensures { result ≡ pattern_of x }
 {
-    if x != x {
+    if x.is_nan() {
         0x7ff8000000000000
     } else {
-        f64::to_bits(x)
+        x.to_bits()
     }
 }
 
@@ -25,11 +25,7 @@ pub fn pattern_of(x: f64) -> u64
 pub fn pattern_good(n: u64) -> bool
     ensures { result ≡ good_pattern n }
 {
-    if n % 0x8000000000000000 > 0x7ff0000000000000 {
-        n == 0x7ff8000000000000
-    } else {
-        true
-    }
+    n % 0x8000000000000000 <= 0x7ff0000000000000 || n == 0x7ff8000000000000
 }
 
 // The float of any pattern.
@@ -37,7 +33,7 @@ pub fn float_of(n: u64) -> f64
     ensures { result ≡ float_of n }
 {
     if n % 0x8000000000000000 > 0x7ff0000000000000 {
-        0.0 / 0.0
+        f64::NAN
     } else {
         f64::from_bits(n)
     }
@@ -50,14 +46,20 @@ pub fn number_at(bytes: &[u8], at: usize, k: usize) -> u64
     requires { Stretches at k bytes.now }
     ensures { result ≡ number_in (stretch at k bytes.now) }
 {
-    let mut n: u64 = 0;
-    let mut i: usize = k;
-    while 0 < i {
-        i -= 1;
-        let b = bytes[at + i] as u64;
-        n = n * 256 + b;
+    let mut word = [0; 8];
+    word[..k].copy_from_slice(&bytes[at..at + k]);
+    u64::from_le_bytes(word)
+}
+
+// The lowest bytes of n, as many as out is long, be it more than eight: a part of `to_le_bytes` would ask of callers that it is not.
+fn put_bytes(out: &mut [u8], n: u64)
+    ensures { out.new ≡ bytes_of (length out.old) n }
+{
+    let mut rest = n;
+    for b in out.iter_mut() {
+        *b = (rest % 256) as u8;
+        rest /= 256;
     }
-    n
 }
 
 // The k lowest bytes of n from place at on.
@@ -65,13 +67,7 @@ pub fn put_number(out: &mut [u8], at: usize, k: usize, n: u64)
     requires { at + k ≤ length out.old }
     ensures { out.new ≡ spliced at (bytes_of k n) out.old }
 {
-    let mut m = n;
-    let mut i: usize = 0;
-    while i < k {
-        out[at + i] = (m % 256) as u8;
-        m = m / 256;
-        i += 1;
-    }
+    put_bytes(&mut out[at..at + k], n);
 }
 
 pub fn put_float(out: &mut [u8], at: usize, x: f64)

@@ -1,4 +1,4 @@
--- plain numbers, put together
+-- a node that is not there
 pub mod Plain
 -- a node read out, as plain numbers
 pub mod Nodes

@@ -1,5 +1,5 @@
 -- A node read out, as plain numbers. The number after its true child's is its false child's, which stands in a column, so it does not wrap. Assumes nothing.
-use Rattle.std.specs.Prelude.{ℕ, zero, suc, ◌+◌, ◌<◌, ◌≡◌, Bool, cond, [], ◌∷◌}
+use Rattle.std.specs.Prelude.{ℕ, zero, suc, ◌+◌, ◌<◌, ◌≡◌, Bool, cond, [], ◌∷◌, Ok, Err, Some, None}
 use Rattle.std.proofs.Common.{zero-add, add-one, sym, ◌∙◌, ltb→lt}
 use native.Mathlib.Omega.{arith}
 use Rattle.std.proofs.Math.Path.{refl, ap, subst}
@@ -10,7 +10,7 @@ use Rattle.rules.specs.declared.Kind.{Kind}
 use Rattle.rules.specs.declared.Kind.TheVariants.{Leaf, Split}
 use Rattle.rules.specs.declared.Fork.{Fork}
 use Rattle.rules.specs.declared.Node.{Node}
-use Rattle.rules.specs.declared.NodeReply.{NodeReply}
+use Rattle.rules.specs.Results.{NodeReply}
 use Rattle.rules.specs.Lent.{Columns, Entry, shortest, entry_at, entries_at, leaf_entry}
 use Rattle.rules.specs.Checks.{first_failed, features_in, test}
 use Rattle.rules.specs.Table.{is_leaf, good_tree, tree_in, tree_table_tests, node_of, node_read, read_node}
@@ -31,9 +31,9 @@ true_child_of Leaf = 0
 true_child_of (Split f) = f.children
 
 abbrev pub child_of : NodeReply → ℕ
-child_of (NodeReply.Refused n) = 0
-child_of NodeReply.Missing = 0
-child_of (NodeReply.Read m) = true_child_of m.kind
+child_of (Err n) = 0
+child_of (Ok None) = 0
+child_of (Ok (Some m)) = true_child_of m.kind
 
 module _ (features : ℕ) (c : Columns) (k : ℕ) where
   entry-child : get_or c.false_child k 0 < 4294967296 → T (good_tree features (tree_in c)) → k < shortest c → true_child_of (node_of (entry_at c k)).kind < 4294967295
@@ -58,7 +58,7 @@ module _ (features : ℕ) (c : Columns) (k : ℕ) where
   unfolding read_node node_read tree_table_tests
   child-below told room = subst (λ r. child_of r < 4294967295) (sym told) (go (first_failed (tree_table_tests features c)) refl)
     where
-      there : T (good_tree features (tree_in c)) → (b : Bool) → ltb k (shortest c) ≡ b → child_of (cond b (NodeReply.Read (node_of (entry_at c k))) NodeReply.Missing) < 4294967295
+      there : T (good_tree features (tree_in c)) → (b : Bool) → ltb k (shortest c) ≡ b → child_of (cond b (Ok (Some (node_of (entry_at c k)))) (Ok None)) < 4294967295
       there good true e = entry-child room good (ltb→lt k (shortest c) (subst T (sym e) tt))
       there good false e = omega arith
 
@@ -71,12 +71,12 @@ module _ (features : ℕ) (c : Columns) (k : ℕ) where
 
 -- ---- a node told, by its kind
 
-pub leaf-told : (m : Node) → m.kind ≡ Leaf → record { number = 0; there = true; entry = leaf_entry m.value } ≡ node_told (NodeReply.Read m)
+pub leaf-told : (m : Node) → m.kind ≡ Leaf → record { number = 0; there = true; entry = leaf_entry m.value } ≡ node_told (Ok (Some m))
 unfolding entry_of
 leaf-told m e = λ i. record { number = 0; there = true; entry = entry_of m.value (sym e i) }
 
 pub split-told : (m : Node) (f : Fork) → m.kind ≡ Split f
-    → record { number = 0; there = true; entry = entry_is m.value f.cut.feature f.cut.threshold f.score f.children (f.children + 1) } ≡ node_told (NodeReply.Read m)
+    → record { number = 0; there = true; entry = entry_is m.value f.cut.feature f.cut.threshold f.score f.children (f.children + 1) } ≡ node_told (Ok (Some m))
 unfolding entry_of
 split-told m f e =
     (λ i. record { number = 0; there = true; entry = entry_is m.value f.cut.feature f.cut.threshold f.score f.children (add-one f.children i) })

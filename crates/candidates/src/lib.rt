@@ -11,7 +11,7 @@ use criterion::Side;
 use rules::{Cut, Held, Params};
 
 // What is held, by what decides: whether there is a cut, its proxy, and its place: 0 if it is an earlier column's, else one more than the place of the first row past it.
-// A place is chosen without a branch, which the values beside it could not be; they are read again after the column.
+// A place is chosen without a branch, which the values beside it could not be; they are read again after the column. For that speed it is a flag beside values, and no Option.
 #[derive(Clone, Copy)]
 pub struct Spot {
     pub held: bool,
@@ -19,7 +19,7 @@ pub struct Spot {
     pub place: usize,
 }
 
-// The candidate that a search holds, if any, and how many rows of its column are on the true side.
+// The candidate that a search holds, if any, and how many rows of its column are on the true side. They stand beside `Held` and not in it: that is a type of the rules.
 #[derive(Clone, Copy)]
 pub struct Candidate {
     pub held: Held,
@@ -29,23 +29,18 @@ pub struct Candidate {
 // ---- which node is searched
 
 // Whether a node is searched: its level is below the limit, and its count reaches the least split.
+#[tactic(auto, unfolding(rules::specs::Growth::searchable))]
 pub fn is_searched(p: Params, level: u32, a: Side) -> bool
     ensures { result ≡ searchable p level (bare a) }
 {
-    if level < p.limit {
-        return p.split <= a.count;
-    }
-    false
+    level < p.limit && p.split <= a.count
 }
 
 // Whether one of two children is.
 pub fn either_searched(p: Params, level: u32, a: Side, b: Side) -> bool
     ensures { result ≡ (searchable p level (bare a) || searchable p level (bare b)) }
 {
-    if is_searched(p, level, a) {
-        return true;
-    }
-    is_searched(p, level, b)
+    is_searched(p, level, a) || is_searched(p, level, b)
 }
 
 // ---- which threshold counts
@@ -54,34 +49,31 @@ pub fn either_searched(p: Params, level: u32, a: Side, b: Side) -> bool
 pub fn in_reach(lo: f64, t: f64, hi: f64) -> bool
     ensures { result ≡ (le lo t && lt t hi) }
 {
-    if lo <= t {
-        return t < hi;
-    }
-    false
+    lo <= t && t < hi
 }
 
 // The value of a run of equals after e: v goes on as its first, or e begins a new one.
 pub fn run_on(v: f64, e: f64) -> f64
     ensures { result ≡ cond (eq e v) v e }
 {
-    if e == v {
-        return v;
-    }
-    e
+    if e == v { v } else { e }
 }
 
 // ---- which candidate is held
 
+// What a column's sweep begins with: the proxy of what is held, at the place of an earlier column. It is no conversion, since the cut stays behind.
+#[tactic(auto, unfolding(crate::specs::Held::held_of))]
 pub fn spot_of(h: Held) -> Spot
-    ensures { (result.place ≡ 0) × ((c : ℕ → Cut) → c 0 ≡ earlier_of h → held_of c result ≡ h) }
+    ensures earlier { result.place ≡ 0 }
+    ensures same { (c : ℕ → Cut) → c 0 ≡ earlier_of h → held_of c result ≡ h }
 {
     match h {
-        Held::Nothing => Spot {
+        None => Spot {
             held: false,
             proxy: 0.0,
             place: 0,
         },
-        Held::Holds(_, q) => Spot {
+        Some((_, q)) => Spot {
             held: true,
             proxy: q,
             place: 0,
@@ -100,34 +92,24 @@ pub fn anew(s: Spot) -> Spot
     }
 }
 
-// The greater proxy of two, the held one first.
+// The greater proxy of two, the held one first: also where one is a NaN, of which `max` gives the other.
 pub fn greater(p: f64, q: f64) -> f64
     ensures { result ≡ cond (lt p q) q p }
 {
-    if p < q {
-        return q;
-    }
-    p
+    if p < q { q } else { p }
 }
 
-pub fn pick(b: bool, n: usize, m: usize) -> usize
-    ensures { result ≡ cond b n m }
-{
-    if b {
-        return n;
-    }
-    m
-}
-
-// A candidate at a place, of proxy q, against what is held.
+// A candidate at a place, of proxy q, against what is held. The place is chosen without a branch once it is compiled. It returns early for speed: from one expression the compiler makes the test of `held` after the choice, and a sweep took a twentieth longer.
+#[tactic(auto, unfolding(crate::specs::Held::held_of, rules::specs::Search::better))]
 pub fn better_spot(s: Spot, place: usize, q: f64) -> Spot
-    ensures { Moved s place result × ((c : ℕ → Cut) → held_of c result ≡ better (held_of c s) (c place) q) }
+    ensures moved { Moved s place result }
+    ensures held { (c : ℕ → Cut) → held_of c result ≡ better (held_of c s) (c place) q }
 {
     if s.held {
         return Spot {
             held: true,
             proxy: greater(s.proxy, q),
-            place: pick(s.proxy < q, place, s.place),
+            place: if s.proxy < q { place } else { s.place },
         };
     }
     Spot {
@@ -142,11 +124,11 @@ pub fn held_at(h: Candidate, s: Spot, c: Cut) -> Candidate
     ensures { HeldAt h s c result }
 {
     if s.place == 0 {
-        return h;
-    }
-    let n = s.place - 1;
-    Candidate {
-        held: Held::Holds(c, s.proxy),
-        rows: n,
+        h
+    } else {
+        Candidate {
+            held: Some((c, s.proxy)),
+            rows: s.place - 1,
+        }
     }
 }

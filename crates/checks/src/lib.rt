@@ -1,10 +1,10 @@
 // The checks of all calls. They read shared slices and lengths alone, so that a refusal leaves all that was lent as it was.
 #![tactic(auto)]
 
-ghost use Rattle.std.specs.Prelude.{◌≡◌, true};
-ghost use Rattle.rules.specs.Checks.{numbered, replies, within, rows_in, features_in, trees_in, shape_in, values_long, listings_long};
+ghost use Rattle.std.specs.Prelude.{◌≡◌, true, [], ◌∷◌};
+ghost use Rattle.rules.specs.Checks.{test, checked, within, rows_in, features_in, trees_in, shape_in, values_long, listings_long};
 
-use rules::{Checked, Refusal, Reply, Shape};
+use rules::{Checked, Refusal, Shape};
 
 pub mod forest;
 pub mod inputs;
@@ -33,35 +33,30 @@ pub struct ReportLengths {
     pub thresholds: usize,
 }
 
-// A refusal that tells its number alone.
-pub fn refused(number: u32) -> Checked
-    ensures { result ≡ Checked.Refused (numbered number) }
+// A check that tells its number alone where it fails.
+#[tactic(auto, unfolding(rules::specs::Checks::checked))]
+pub fn need(number: u32, passes: bool) -> Checked
+    ensures { result ≡ checked (test number passes ∷ []) }
 {
-    Checked::Refused(Refusal {
-        number,
-        part: 0,
-        place: 0,
-        row: 0,
-    })
-}
-
-// The answer of a call that only checks tables.
-pub fn reply_of(n: u32) -> Reply
-    ensures { result ≡ replies n }
-{
-    if n == 0 {
-        Reply::Done
+    if passes {
+        Ok(())
     } else {
-        Reply::Refused(n)
+        Err(Refusal {
+            number,
+            part: 0,
+            place: 0,
+            row: 0,
+        })
     }
 }
 
 // ---- ranges
 
+#[tactic(auto, unfolding(rules::specs::Checks::within))]
 fn in_range(top: usize, n: usize) -> bool
     ensures { result ≡ within top n }
 {
-    if 1 <= n { n <= top } else { false }
+    1 <= n && n <= top
 }
 
 pub fn rows_in(n: usize) -> bool
@@ -85,11 +80,7 @@ pub fn trees_in(n: usize) -> bool
 pub fn shape_in(shape: Shape) -> bool
     ensures { result ≡ shape_in shape }
 {
-    if rows_in(shape.rows) {
-        features_in(shape.features)
-    } else {
-        false
-    }
+    rows_in(shape.rows) && features_in(shape.features)
 }
 
 // ---- lengths
@@ -98,14 +89,12 @@ pub fn values_long(shape: Shape, values: &[f64]) -> bool
     requires { shape_in shape ≡ true }
     ensures { result ≡ values_long shape values.now }
 {
-    let cells = shape.rows * shape.features;
-    values.len() == cells
+    values.len() == shape.rows * shape.features
 }
 
 pub fn listings_long(shape: Shape, listings: &[u32]) -> bool
     requires { shape_in shape ≡ true }
     ensures { result ≡ listings_long shape listings.now }
 {
-    let cells = shape.features * shape.rows;
-    listings.len() == cells
+    listings.len() == shape.features * shape.rows
 }

@@ -7,9 +7,9 @@ ghost use Rattle.rules.specs.Lent.{mass_in, kept_in};
 ghost use Rattle.rules.specs.Checks.{good_weight};
 ghost use Rattle.rules.specs.Totals.{empty, take_in, less, value_of, proxy, score};
 ghost use Rattle.rules.specs.Forest.{tried_of};
-ghost use Rattle.rules.specs.declared.Tried.TheVariants.{Unsaid};
 ghost use Rattle.criterion.specs.Bounds.{Between, Weighed};
 ghost use Rattle.criterion.specs.Sides.{side_on, joined};
+ghost use Rattle.criterion.specs.Gaps.{gap_over};
 
 use rules::{Height, Totals, Tried};
 
@@ -29,6 +29,7 @@ pub fn no_rows() -> Totals
     }
 }
 
+#[tactic(auto, unfolding(rules::specs::Totals::take_in))]
 pub fn take_in(t: Totals, y: f64, m: f64) -> Totals
     ensures { result ≡ take_in t y m }
 {
@@ -38,25 +39,28 @@ pub fn take_in(t: Totals, y: f64, m: f64) -> Totals
     }
 }
 
+#[tactic(auto, unfolding(rules::specs::Search::totals_of, rules::specs::Words::total))]
 pub fn no_side() -> Side
     ensures { result ≡ side_on [] }
 {
-    let totals = no_rows();
-    Side { totals, count: 0 }
+    Side {
+        totals: no_rows(),
+        count: 0,
+    }
 }
 
+#[tactic(auto, unfolding(crate::specs::Sides::joined))]
 pub fn join(s: Side, y: f64, m: f64, k: u32) -> Side
     requires { s.count + k < 4294967296 }
     ensures { result ≡ joined s y m k }
 {
-    let t = s.totals;
-    let more = take_in(t, y, m);
     Side {
-        totals: more,
+        totals: take_in(s.totals, y, m),
         count: s.count + k,
     }
 }
 
+#[tactic(auto, unfolding(rules::specs::Totals::less))]
 pub fn less_of(t: Totals, u: Totals) -> Totals
     ensures { result ≡ less t u }
 {
@@ -66,37 +70,37 @@ pub fn less_of(t: Totals, u: Totals) -> Totals
     }
 }
 
+#[tactic(auto, unfolding(rules::specs::Totals::value_of))]
 pub fn value_of(t: Totals) -> f64
     ensures { result ≡ value_of t }
 {
     if t.mass > 0.0 { t.sum / t.mass } else { 0.0 }
 }
 
-// Tested as `<= 0`, so that a NaN mass passes.
+// The square of the gap between two sides over a divisor; 0 where a side has no mass, tested as `<= 0`, so that a NaN mass passes.
+#[tactic(auto, unfolding(crate::specs::Gaps::gap_over, rules::specs::Totals::massless, rules::specs::Totals::gap))]
+fn gap_over(t: Totals, f: Totals, divisor: f64) -> f64
+    ensures { result ≡ gap_over t f divisor }
+{
+    if t.mass <= 0.0 || f.mass <= 0.0 {
+        return 0.0;
+    }
+    let d = t.sum * f.mass - f.sum * t.mass;
+    d * d / divisor
+}
+
+#[tactic(auto, unfolding(crate::specs::Gaps::gap_over, rules::specs::Totals::proxy))]
 pub fn proxy_of(t: Totals, f: Totals) -> f64
     ensures { result ≡ proxy t f }
 {
-    if t.mass <= 0.0 {
-        return 0.0;
-    }
-    if f.mass <= 0.0 {
-        return 0.0;
-    }
-    let d = t.sum * f.mass - f.sum * t.mass;
-    d * d / (t.mass * f.mass)
+    gap_over(t, f, t.mass * f.mass)
 }
 
+#[tactic(auto, unfolding(crate::specs::Gaps::gap_over, rules::specs::Totals::score))]
 pub fn score_of(t: Totals, f: Totals, m: f64) -> f64
     ensures { result ≡ score t f m }
 {
-    if t.mass <= 0.0 {
-        return 0.0;
-    }
-    if f.mass <= 0.0 {
-        return 0.0;
-    }
-    let d = t.sum * f.mass - f.sum * t.mass;
-    d * d / (t.mass * f.mass * m)
+    gap_over(t, f, t.mass * f.mass * m)
 }
 
 // On every p and x the definition's; for either choice, for finite p below x, it is at least p and below x.
@@ -116,59 +120,50 @@ pub fn threshold_of(height: Height, p: f64, x: f64) -> f64
 pub fn is_finite(x: f64) -> bool
     ensures { result ≡ finite x }
 {
-    x - x == 0.0
+    x.is_finite()
 }
 
+#[tactic(auto, unfolding(rules::specs::Checks::good_weight))]
 pub fn weight_good(w: f64) -> bool
     ensures { result ≡ good_weight w }
 {
-    if is_finite(w) { !(w < 0.0) } else { false }
+    is_finite(w) && !(w < 0.0)
 }
 
 // The mass of row i; no weights at all is an empty slice.
+#[tactic(auto, using(crate::specs::Weights::unweighted_is), unfolding(rules::specs::Lent::mass_in, rules::specs::Lent::count_in))]
 pub fn mass_of(weights: &[f64], counts: &[u32], i: usize) -> f64
     requires { Weighed i weights.now counts.now }
     ensures { result ≡ mass_in weights.now counts.now i }
 {
     let m = slices::float_of(counts[i]);
-    if weights.len() == 0 {
-        return m;
+    if weights.is_empty() {
+        m
+    } else {
+        m * weights[i]
     }
-    m * weights[i]
 }
 
 // Whether a tree keeps row i.
+#[tactic(auto, using(crate::specs::Weights::unweighted_is), unfolding(rules::specs::Lent::kept_in, rules::specs::Lent::count_in))]
 pub fn is_kept(weights: &[f64], counts: &[u32], i: usize) -> bool
     requires { Weighed i weights.now counts.now }
     ensures { result ≡ kept_in weights.now counts.now i }
 {
-    if counts[i] == 0 {
-        return false;
-    }
-    if weights.len() == 0 {
-        return true;
-    }
-    weights[i] > 0.0
+    counts[i] > 0 && (weights.is_empty() || weights[i] > 0.0)
 }
 
 // The floor of the root.
 pub fn root_of(n: u32) -> u32
     requires { n ≤ 1024 }
-    ensures { result ≡ tried_of n Unsaid }
+    ensures { result ≡ tried_of n None }
 {
-    let mut r: u32 = 0;
-    while (r + 1) * (r + 1) <= n {
-        r += 1;
-    }
-    r
+    n.isqrt()
 }
 
 pub fn tried_of(features: u32, tried: Tried) -> u32
     requires { features ≤ 1024 }
     ensures { result ≡ tried_of features tried }
 {
-    match tried {
-        Tried::Unsaid => root_of(features),
-        Tried::Number(n) => n,
-    }
+    tried.unwrap_or_else(|| root_of(features))
 }

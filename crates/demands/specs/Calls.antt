@@ -1,13 +1,11 @@
 -- The demands of the calls themselves. A call's contract says that its outcome, the answer and every lent slice after it, equals the definition's, and asks nothing
 -- of its caller. So what holds of the definitions holds of any outcomes that meet these equations, and the outcomes of proved code do. Assumes nothing.
-use Rattle.std.specs.Prelude.{ℕ, ◌<◌, ◌≡◌, List, length, Float}
+use Rattle.std.specs.Prelude.{ℕ, ◌<◌, ◌≡◌, List, length, Float, Ok, Err}
 use Rattle.std.proofs.Math.Path.{sym, ap}
 use Rattle.std.proofs.Common.{◌∙◌, subst}
 use Rattle.rules.specs.declared.Report.{Report}
 use Rattle.rules.specs.declared.Place.{Place}
-use Rattle.rules.specs.declared.TreeAnswer.{TreeAnswer}
-use Rattle.rules.specs.declared.ForestAnswer.{ForestAnswer}
-use Rattle.rules.specs.declared.Reply.{Reply}
+use Rattle.rules.specs.Results.{TreeAnswer, ForestAnswer, Reply}
 use Rattle.rules.specs.Lent.{Data, WaitingForm, WaitingRoom, waiting_room, TreeRooms, ForestRooms, Outcome, entries_at}
 use Rattle.rules.specs.Fit.{entries, TreeCall, one_tree_of, grown_tree, fit_tree}
 use Rattle.rules.specs.Forest.{ForestCall, one_tree_at, fit_forest}
@@ -22,6 +20,7 @@ use Rattle.demands.specs.OutOfBag.{retarget, ButOne, SameMean, ok_same, own-targ
 use Rattle.demands.specs.Refusals.{Unrefused, TreeZero, tree-bad}
 use Rattle.demands.specs.ItsTrees.{SameTree}
 use Rattle.demands.specs.Walks.{table_after, tree-left, beside-left}
+use Rattle.rules.specs.declared.FitError.{FitError}
 
 module _ {W : Type 0} (K : WaitingForm W) where
   -- ---- demand 3: two calls that fit one tree, alike but for rows that the tree leaves out
@@ -38,7 +37,7 @@ module _ {W : Type 0} (K : WaitingForm W) where
     calls-answer = (λ i. (met i).answer) ∙ same.answers ∙ (λ i. (sym met' i).answer)
 
     -- where they answer with a tree, the nodes that they wrote are the same, and so are the counts and masses beside them
-    pub calls-write : (r : Report) → x.answer ≡ TreeAnswer.Grown r
+    pub calls-write : (r : Report) → x.answer ≡ Ok r
         → (entries_at x.rooms.nodes 0 r.nodes ≡ entries_at y.rooms.nodes 0 r.nodes) × (behind_at x.rooms.behind 0 r.nodes ≡ behind_at y.rooms.behind 0 r.nodes)
     unfolding grown_tree
     calls-write r h = (
@@ -66,7 +65,7 @@ module _ {W : Type 0} (K : WaitingForm W) where
 
   -- two calls that fit a forest and both answer: each tree that leaves out the rows in which they differ is the same
   pub calls-trees : (C : ForestCall) (E : Data) (R R' : ForestRooms W) (x y : Outcome ForestAnswer (ForestRooms W)) → x ≡ fit_forest K C R → y ≡ fit_forest K (over_all C E) R'
-      → x.answer ≡ ForestAnswer.Grown → y.answer ≡ ForestAnswer.Grown → (t : ℕ) → t < C.trees → Alike (one_tree_at C t) C.given.inputs E → SameTree x.rooms t y.rooms t
+      → x.answer ≡ Ok tt → y.answer ≡ Ok tt → (t : ℕ) → t < C.trees → Alike (one_tree_at C t) C.given.inputs E → SameTree x.rooms t y.rooms t
   calls-trees C E R R' x y met met' h h' t l like =
       subst (λ (o : Outcome ForestAnswer (ForestRooms W)). SameTree o.rooms t y.rooms t) (sym met)
       (subst (λ (o : Outcome ForestAnswer (ForestRooms W)). SameTree (fit_forest K C R).rooms t o.rooms t) (sym met')
@@ -79,7 +78,7 @@ module _ {W : Type 0} (K : WaitingForm W) where
   Read C R out m = m ≡ out_of_bag_means C.shape C.given.inputs.values C.given.counts (table_after C R) out
 
   pub calls-mean : (C : ForestCall) (ys : List Float) (i : ℕ) → i < C.shape.rows → ButOne i C.given.inputs.targets ys → Binary64 C.given.inputs.values → (R R' : ForestRooms W)
-      → (x y : Outcome ForestAnswer (ForestRooms W)) → x ≡ fit_forest K C R → y ≡ fit_forest K (retarget C ys) R' → x.answer ≡ ForestAnswer.Grown → y.answer ≡ ForestAnswer.Grown
+      → (x y : Outcome ForestAnswer (ForestRooms W)) → x ≡ fit_forest K C R → y ≡ fit_forest K (retarget C ys) R' → x.answer ≡ Ok tt → y.answer ≡ Ok tt
       → (out out' : List Float) → length out ≡ C.shape.rows → length out' ≡ C.shape.rows
       → (m m' : Outcome Reply (List Float)) → Read C x.rooms out m → Read (retarget C ys) y.rooms out' m' → SameMean i m m'
   calls-mean C ys i b but held R R' x y met met' h h' out out' o o' m m' r r' =
@@ -90,11 +89,11 @@ module _ {W : Type 0} (K : WaitingForm W) where
 -- ---- a bad draw, in whatever rooms: both calls leave 0 at every place
 
 zero_left : (C : TreeCall) (R : TreeRooms WaitingRoom) (x : Outcome TreeAnswer (TreeRooms WaitingRoom)) → x ≡ fit_tree waiting_room C R → (d : Place) → x.answer
-    ≡ TreeAnswer.BadDraw d → TreeZero R x.rooms
+    ≡ Err (FitError.BadDraw d) → TreeZero R x.rooms
 zero_left C R x met d h = subst (λ (o : Outcome TreeAnswer (TreeRooms WaitingRoom)). TreeZero R o.rooms) (sym met) (tree-bad C R d ((λ i. (sym met i).answer) ∙ h))
 
 pub calls-clear : (C : TreeCall) (E : Data) (R R' : TreeRooms WaitingRoom) (x y : Outcome TreeAnswer (TreeRooms WaitingRoom)) → x ≡ fit_tree waiting_room C R → y ≡ fit_tree waiting_room (over C E) R'
-    → Alike (one_tree_of C) C.given.inputs E → Unrefused x.answer → Unrefused y.answer → (d : Place) → x.answer ≡ TreeAnswer.BadDraw d
+    → Alike (one_tree_of C) C.given.inputs E → Unrefused x.answer → Unrefused y.answer → (d : Place) → x.answer ≡ Err (FitError.BadDraw d)
     → TreeZero R x.rooms × TreeZero R' y.rooms
 calls-clear C E R R' x y met met' like u u' d h =
     (zero_left C R x met d h, zero_left (over C E) R' y met' d (sym (calls-answer waiting_room C E R R' x y met met' like u u') ∙ h))

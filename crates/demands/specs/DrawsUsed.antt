@@ -1,13 +1,12 @@
 -- Draws used are exact. Over any tapes that begin with as many words and thresholds as a fit of one tree reports used, and the same ones, it is the same fit: what lies
 -- beyond is never looked at, and may be cut off. With either cut to fewer, it is refusal 7. For more tape changes nothing (`growth-again` of crate lemmas), so a fit that
 -- answers over cut tapes is the whole fit, and has used no more than they hold. No check before growth looks at a tape. Assumes nothing.
-use Rattle.std.specs.Prelude.{ℕ, ◌-◌, ◌<◌, ◌≤◌, ◌≡◌, List, ◌++◌, length, take, drop, Float}
+use Rattle.std.specs.Prelude.{ℕ, ◌-◌, ◌<◌, ◌≤◌, ◌≡◌, List, ◌++◌, length, take, drop, Float, Ok, Err}
 use Rattle.std.proofs.Common.{le_refl, arith, ◌∙◌, subst, length-take, length-drop, take-take}
 use Rattle.std.proofs.Math.Path.{refl, sym, ap}
 use Rattle.std.proofs.lemmas.List.{take-append-le}
-use Rattle.rules.specs.declared.Checked.{Checked}
+use Rattle.rules.specs.Results.{Checked, TreeAnswer}
 use Rattle.rules.specs.declared.Report.{Report}
-use Rattle.rules.specs.declared.TreeAnswer.{TreeAnswer}
 use Rattle.rules.specs.Lent.{Data, OneTree, WaitingForm, TreeRooms, Outcome, kept, kept_rows, zero_columns, zero_behind, zero_work}
 use Rattle.rules.specs.Checks.{checked, room_for}
 use Rattle.rules.specs.Draws.{Out, bad, ok, bind, Tapes}
@@ -18,6 +17,7 @@ use Rattle.lemmas.specs.Outs.{Then, then-then, then-any, then-both, then-after, 
 use Rattle.lemmas.specs.Tapes.{Begins, used, growth, Again, growth-again}
 use Rattle.lemmas.specs.Answered.{TreeAnswered, tree-answered}
 use Rattle.demands.specs.Refused.{tree-some}
+use Rattle.rules.specs.declared.FitError.{FitError}
 
 -- ---- the statements
 
@@ -34,7 +34,7 @@ abbrev pub Refusal7 : {W : Type 0} → WaitingForm W → TreeRooms W → Outcome
 Refusal7 K R o =
     (s : ℕ)
     × (o ≡ record {
-      answer = TreeAnswer.BadDraw (record { tree = 0; search = s });
+      answer = Err (FitError.BadDraw (record { tree = 0; search = s }));
       rooms = record { nodes = zero_columns R.nodes; behind = zero_behind R.behind; work = zero_work K R.work };
     })
 
@@ -47,7 +47,7 @@ pub record Exact {W : Type 0} (K : WaitingForm W) (C : TreeCall) (R : TreeRooms 
   pub fewer_thresholds : (n m : ℕ) → m < r.thresholds → Refusal7 K R (fit_tree K (cut_to n m C) R)
 
 abbrev pub DrawsUsed : Type 1
-DrawsUsed = (W : Type 0) (K : WaitingForm W) (C : TreeCall) (R : TreeRooms W) (r : Report) → (fit_tree K C R).answer ≡ TreeAnswer.Grown r → Exact K C R r
+DrawsUsed = (W : Type 0) (K : WaitingForm W) (C : TreeCall) (R : TreeRooms W) (r : Report) → (fit_tree K C R).answer ≡ Ok r → Exact K C R r
 
 -- a bad draw of the one tree, as it is told
 abbrev pub Tells7 : {R : Type 0} → Outcome Told R → Type 0
@@ -133,7 +133,7 @@ fit_cut F D t e n m = then-after (fit G D) _ _ (then-both (fit G D) _ _ (fit-wit
 
 -- ---- of a call
 
-module _ {W : Type 0} (K : WaitingForm W) (C : TreeCall) (R : TreeRooms W) (t : Tree) (passed : checked (tree_tests K C R) ≡ Checked.Passed) (grew : fit (one_tree_of C) C.given.inputs ≡ ok t) where
+module _ {W : Type 0} (K : WaitingForm W) (C : TreeCall) (R : TreeRooms W) (t : Tree) (passed : checked (tree_tests K C R) ≡ (Ok tt)) (grew : fit (one_tree_of C) C.given.inputs ≡ ok t) where
   begins : (ws : List ℕ) (ts : List Float) → Begins t.report.words C.words ws → Begins t.report.thresholds C.thresholds ts → fit_tree K (taped C ws ts) R ≡ fit_tree K C R
   unfolding fit_tree tree_tests grown_tree one_tree_of room_for kept_rows kept
   begins ws ts h k = ap (λ o. tree_ends K (checked (tree_tests K C R)) o R) (then-of (SameOver (one_tree_of C) _) _ t grew (fit-again (one_tree_of C) _) ws ts h k ∙ sym grew)
@@ -165,15 +165,15 @@ draws-used W K C R r h =
 
 -- no refusal is told of a grown tree alone
 told_grown : {W : Type 0} (K : WaitingForm W) (C : TreeCall) (R : TreeRooms W) → (tree_told (fit_tree K C R).answer).refusal.number ≡ 0
-    → (fit_tree K C R).answer ≡ TreeAnswer.Grown (tree_told (fit_tree K C R).answer).report
+    → (fit_tree K C R).answer ≡ Ok (tree_told (fit_tree K C R).answer).report
 unfolding fit_tree tree_ends tree_done
 told_grown K C R h = go (checked (tree_tests K C R)) refl (grown_tree C) h
   where
     go : (k : Checked) → checked (tree_tests K C R) ≡ k → (o : Out Tree) → (tree_told (tree_ends K k o R).answer).refusal.number ≡ 0
-        → (tree_ends K k o R).answer ≡ TreeAnswer.Grown (tree_told (tree_ends K k o R).answer).report
-    go Checked.Passed q (bad s) h = absurd (omega arith)
-    go Checked.Passed q (ok t) h = refl
-    go (Checked.Refused r) q o h = absurd (tree-some K C R r q h)
+        → (tree_ends K k o R).answer ≡ Ok (tree_told (tree_ends K k o R).answer).report
+    go (Ok _) q (bad s) h = absurd (omega arith)
+    go (Ok _) q (ok t) h = refl
+    go (Err r) q o h = absurd (tree-some K C R r q h)
 
 pub calls-exact : CallsExact
 unfolding fit_tree

@@ -2,7 +2,7 @@
 -- with a refusal error and number are told as 0. Where every row has a mean, the sum is divided by the number of all rows, and that is the number told; elsewhere the error is not below
 -- that sum divided by the number of all rows. It is never below 0: it is a sum of squares over a number of rows. And where each row's mean is its target, a finite one, or the row has
 -- none, it is 0. Assumes nothing.
-use Rattle.std.specs.Prelude.{ℕ, zero, suc, ◌+◌, ◌<◌, ◌≤◌, ◌≡◌, refl, ◌⊎◌, Bool, true, false, not, ◌&&◌, cond, List, [], ◌∷◌, length, get_or, T, ltb, leb, eqb, Float}
+use Rattle.std.specs.Prelude.{ℕ, zero, suc, ◌+◌, ◌<◌, ◌≤◌, ◌≡◌, refl, ◌⊎◌, Bool, true, false, not, ◌&&◌, cond, List, [], ◌∷◌, length, get_or, T, ltb, leb, eqb, Float, Ok, Err}
 use Rattle.std.proofs.Common.{suc-le-suc, zero-lt-suc, arith, sym, ap, ◌∙◌, subst, inl, inr, ltb→lt, leb→le, eqb→eq, eq-eqb, lt-ltb, le-leb}
 use Rattle.std.specs.Float.{nan, binary64}
 use Rattle.std.specs.Float.Ieee.{add, sub, mul, div, lt, is_nan, of_int, of_bits}
@@ -11,9 +11,7 @@ use Rattle.std.specs.Float.Ieee.Scale.{finite}
 use Rattle.floats.specs.Zero.{sub-none, zero-div64}
 use Rattle.floats.specs.Count.{count-above, by-more}
 use Rattle.floats.specs.Sign.{side, round-side, add-side, square-side, div-side, not-below}
-use Rattle.rules.specs.declared.Checked.{Checked}
 use Rattle.rules.specs.declared.Figure.{Figure}
-use Rattle.rules.specs.declared.ErrorReply.{ErrorReply}
 use Rattle.rules.specs.Words.{nought, float, keep, put_if}
 use Rattle.rules.specs.Checks.{test, numbered, checked, number_of, first_failed, within}
 use Rattle.rules.specs.Answers.{error_told}
@@ -24,7 +22,7 @@ use Rattle.lemmas.specs.Passed.{past}
 -- ---- the statements
 
 abbrev pub SomeRows : Type 0
-SomeRows = (rows : ℕ) (ys ms : List Float) (f : Figure) → out_of_bag_error rows ys ms ≡ ErrorReply.Error f → (1 ≤ f.rows) × (f.rows ≤ rows)
+SomeRows = (rows : ℕ) (ys ms : List Float) (f : Figure) → out_of_bag_error rows ys ms ≡ Ok f → (1 ≤ f.rows) × (f.rows ≤ rows)
 
 -- one target and one mean, which may be NaN, for each of 1 to 65,535 rows
 pub record InOrder (rows : ℕ) (ys ms : List Float) : Type 0 where
@@ -37,14 +35,14 @@ abbrev pub has_mean : List Float → ℕ → Bool
 has_mean ms i = not (is_nan (get_or ms i nan))
 
 abbrev pub NoMean : Type 0
-NoMean = (rows : ℕ) (ys ms : List Float) → InOrder rows ys ms → ((i : ℕ) → i < rows → has_mean ms i ≡ false) → out_of_bag_error rows ys ms ≡ ErrorReply.Refused 18
+NoMean = (rows : ℕ) (ys ms : List Float) → InOrder rows ys ms → ((i : ℕ) → i < rows → has_mean ms i ≡ false) → out_of_bag_error rows ys ms ≡ Err 18
 
 abbrev pub OneMean : Type 0
-OneMean = (rows : ℕ) (ys ms : List Float) → InOrder rows ys ms → (i : ℕ) → i < rows → has_mean ms i ≡ true → out_of_bag_error rows ys ms ≡ ErrorReply.Error (figure ys ms)
+OneMean = (rows : ℕ) (ys ms : List Float) → InOrder rows ys ms → (i : ℕ) → i < rows → has_mean ms i ≡ true → out_of_bag_error rows ys ms ≡ Ok (figure ys ms)
 
 abbrev pub RefusedZero : Type 0
 RefusedZero =
-    (rows : ℕ) (ys ms : List Float) (n : ℕ) → out_of_bag_error rows ys ms ≡ ErrorReply.Refused n
+    (rows : ℕ) (ys ms : List Float) (n : ℕ) → out_of_bag_error rows ys ms ≡ Err n
     → error_told (out_of_bag_error rows ys ms) ≡ record { number = n; error = nought; rows = 0 }
 
 -- the sum, divided by the number of all rows
@@ -54,13 +52,13 @@ over_all rows ys ms = div binary64 (add_squares nought ys ms) (float rows)
 abbrev pub AllMeans : Type 0
 AllMeans =
     (rows : ℕ) (ys ms : List Float) → InOrder rows ys ms → ((i : ℕ) → i < rows → has_mean ms i ≡ true)
-    → out_of_bag_error rows ys ms ≡ ErrorReply.Error (record { error = over_all rows ys ms; rows = rows })
+    → out_of_bag_error rows ys ms ≡ Ok (record { error = over_all rows ys ms; rows = rows })
 
 abbrev pub NeverLower : Type 0
-NeverLower = (rows : ℕ) (ys ms : List Float) (f : Figure) → out_of_bag_error rows ys ms ≡ ErrorReply.Error f → lt f.error (over_all rows ys ms) ≡ false
+NeverLower = (rows : ℕ) (ys ms : List Float) (f : Figure) → out_of_bag_error rows ys ms ≡ Ok f → lt f.error (over_all rows ys ms) ≡ false
 
 abbrev pub NeverBelow : Type 0
-NeverBelow = (rows : ℕ) (ys ms : List Float) (f : Figure) → out_of_bag_error rows ys ms ≡ ErrorReply.Error f → lt f.error nought ≡ false
+NeverBelow = (rows : ℕ) (ys ms : List Float) (f : Figure) → out_of_bag_error rows ys ms ≡ Ok f → lt f.error nought ≡ false
 
 -- row i has no mean, or it is its target
 abbrev pub Met : List Float → List Float → ℕ → Type 0
@@ -68,13 +66,13 @@ Met ys ms i = (get_or ms i nan ≡ nan) ⊎ ((get_or ms i nan ≡ get_or ys i na
 
 abbrev pub NoneOff : Type 0
 NoneOff =
-    (rows : ℕ) (ys ms : List Float) → ((i : ℕ) → i < rows → Met ys ms i) → (f : Figure) → out_of_bag_error rows ys ms ≡ ErrorReply.Error f
+    (rows : ℕ) (ys ms : List Float) → ((i : ℕ) → i < rows → Met ys ms i) → (f : Figure) → out_of_bag_error rows ys ms ≡ Ok f
     → f.error ≡ nought
 
 -- ---- what an answer tells of the call
 
 -- the figure that an answer holds
-errs-is : (k : ℕ) (x f : Figure) → errs k x ≡ ErrorReply.Error f → (k ≡ 0) × (x ≡ f)
+errs-is : (k : ℕ) (x f : Figure) → errs k x ≡ Ok f → (k ≡ 0) × (x ≡ f)
 unfolding errs
 errs-is zero x f h = (refl, cc)
 errs-is (suc k) x f h = let z : ◌≡◌ {A = ℕ} 0 1 = cc in absurd (omega arith)
@@ -87,7 +85,7 @@ record Answered (rows : ℕ) (ys ms : List Float) (f : Figure) : Type 0 where
   most : rows_with_mean ms ≤ rows
   is : figure ys ms ≡ f
 
-answered : (rows : ℕ) (ys ms : List Float) (f : Figure) → out_of_bag_error rows ys ms ≡ ErrorReply.Error f → Answered rows ys ms f
+answered : (rows : ℕ) (ys ms : List Float) (f : Figure) → out_of_bag_error rows ys ms ≡ Ok f → Answered rows ys ms f
 unfolding out_of_bag_error error_tests within rows_with_mean
 answered rows ys ms f h =
     let (q, x) = errs-is (first_failed (error_tests rows ys ms)) (figure ys ms) f h in
@@ -106,7 +104,7 @@ answered rows ys ms f h =
 
 -- the answer of a call that is in order, by the last test
 in_order : (rows : ℕ) (ys ms : List Float) → InOrder rows ys ms → (b : Bool) → ltb 0 (rows_with_mean ms) ≡ b
-    → out_of_bag_error rows ys ms ≡ errs (number_of (cond b Checked.Passed (Checked.Refused (numbered 18)))) (figure ys ms)
+    → out_of_bag_error rows ys ms ≡ errs (number_of (cond b (Ok tt) (Err (numbered 18)))) (figure ys ms)
 unfolding out_of_bag_error error_tests checked within
 in_order rows ys ms o b e =
     λ i. errs (first_failed (test 1 (le-leb 1 rows o.some i && le-leb rows 65535 o.few i)
@@ -150,7 +148,7 @@ unfolding figure errs
 all-means rows ys ms o h =
     let all = all-counted ms (λ i b. h i (subst (λ n. i < n) o.means b)) ∙ o.means in
     in_order rows ys ms o true (lt-ltb 0 (rows_with_mean ms) (omega (arith, all, o.some)))
-    ∙ ap (λ n. ErrorReply.Error (record { error = div binary64 (add_squares nought ys ms) (float n); rows = n })) all
+    ∙ ap (λ n. Ok (record { error = div binary64 (add_squares nought ys ms) (float n); rows = n })) all
 
 pub refused-zero : RefusedZero
 refused-zero rows ys ms n h = ap error_told h

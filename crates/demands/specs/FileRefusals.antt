@@ -2,7 +2,7 @@
 -- and the place: by 14 at the start of a field that runs past the end, so that fewer than 8 bytes are left; by 15, 16 and 17 at a byte of the file; by 6 at 0. An answer is told as number 0.
 -- The size and the writer tell no bytes where they refuse. The writer needs as many bytes as the size that is told, and no more. Assumes nothing.
 use Prim.Native.Nat.{ℕ, zero, suc, ◌+◌, ◌<◌, ◌≤◌}
-use Rattle.std.proofs.Common.{arith, sym, ap, ◌∙◌, subst, inl, inr}
+use Rattle.std.proofs.Common.{arith, sym, ap, ◌∙◌, subst, inl, inr, Ok, Err}
 use Rattle.std.specs.Prelude.{◌≡◌, ◌⊎◌, Bool, cond, List, [], ◌∷◌, T, eqb}
 use Rattle.std.proofs.Math.Path.{refl}
 use Rattle.std.proofs.Math.Bool.{true, false}
@@ -11,8 +11,7 @@ use Rattle.std.proofs.Math.Dec.{leb, ltb}
 use borrow.Author.Tests.{leb-true, leb-false, eqb-false}
 use Rattle.rules.specs.declared.Misread.{Misread}
 use Rattle.rules.specs.declared.Sizes.{Sizes}
-use Rattle.rules.specs.declared.ModelReply.{ModelReply}
-use Rattle.rules.specs.declared.SizeReply.{SizeReply}
+use Rattle.rules.specs.Results.{ModelReply, SizeReply}
 use Rattle.rules.specs.Words.{member, stretch, front}
 use Rattle.rules.specs.Lent.{Entry, Outcome, outcome_of, leaf_entry}
 use Rattle.rules.specs.Checks.{Test, features_in, trees_in}
@@ -47,30 +46,30 @@ pub record NoRoom (bs : List ℕ) (R : TableRooms) (m : Misread) : Type 0 where
   pub place : m.place ≡ 0
 
 abbrev pub FileRefused : Type 0
-FileRefused = (bs : List ℕ) (R : TableRooms) (m : Misread) → (read_model bs R).answer ≡ ModelReply.Refused m → ((read_model bs R).rooms ≡ R) × (Misreads bs m ⊎ NoRoom bs R m)
+FileRefused = (bs : List ℕ) (R : TableRooms) (m : Misread) → (read_model bs R).answer ≡ Err m → ((read_model bs R).rooms ≡ R) × (Misreads bs m ⊎ NoRoom bs R m)
 
 pub record FileApart (a : ModelReply) : Type 0 where
-  pub refused : (m : Misread) → a ≡ ModelReply.Refused m → (1 ≤ m.number) × (model_told a ≡ record { number = m.number; place = m.place; features = 0; trees = 0; nodes = 0 })
-  pub read : (s : Sizes) → a ≡ ModelReply.Read s → model_told a ≡ record { number = 0; place = 0; features = s.features; trees = s.trees; nodes = s.nodes }
+  pub refused : (m : Misread) → a ≡ Err m → (1 ≤ m.number) × (model_told a ≡ record { number = m.number; place = m.place; features = 0; trees = 0; nodes = 0 })
+  pub read : (s : Sizes) → a ≡ Ok s → model_told a ≡ record { number = 0; place = 0; features = s.features; trees = s.trees; nodes = s.nodes }
 
 abbrev pub FilesApart : Type 0
 FilesApart = (bs : List ℕ) (R : TableRooms) → FileApart (read_model bs R).answer
 
 -- of the size and of the writer
 pub record SizeApart (a : SizeReply) : Type 0 where
-  pub refused : (n : ℕ) → a ≡ SizeReply.Refused n → (1 ≤ n) × (size_told a ≡ record { number = n; bytes = 0 })
-  pub bytes : (n : ℕ) → a ≡ SizeReply.Bytes n → size_told a ≡ record { number = 0; bytes = n }
+  pub refused : (n : ℕ) → a ≡ Err n → (1 ≤ n) × (size_told a ≡ record { number = n; bytes = 0 })
+  pub bytes : (n : ℕ) → a ≡ Ok n → size_told a ≡ record { number = 0; bytes = n }
 
 abbrev pub SizesApart : Type 0
 SizesApart = (features : ℕ) (F : ForestTable) → SizeApart (model_size features F) × ((out : List ℕ) → SizeApart (write_model features F out).answer)
 
 -- the size that is told is what the writer needs
 pub record SizeIsRoom (features : ℕ) (F : ForestTable) (n : ℕ) : Type 0 where
-  pub enough : (out : List ℕ) → n ≤ length out → write_model features F out ≡ outcome_of (SizeReply.Bytes n) (front (file_of features (trees_of F)) out)
-  pub short : (out : List ℕ) → length out < n → write_model features F out ≡ outcome_of (SizeReply.Refused 6) out
+  pub enough : (out : List ℕ) → n ≤ length out → write_model features F out ≡ outcome_of (Ok n) (front (file_of features (trees_of F)) out)
+  pub short : (out : List ℕ) → length out < n → write_model features F out ≡ outcome_of (Err 6) out
 
 abbrev pub SizesAreRooms : Type 0
-SizesAreRooms = (features : ℕ) (F : ForestTable) (n : ℕ) → model_size features F ≡ SizeReply.Bytes n → SizeIsRoom features F n
+SizesAreRooms = (features : ℕ) (F : ForestTable) (n : ℕ) → model_size features F ≡ Ok n → SizeIsRoom features F n
 
 -- ---- every field is refused where it begins
 
@@ -166,30 +165,30 @@ module _ (bs : List ℕ) where
 -- ---- the reader of files
 
 abbrev misread_in : Misread → ModelReply → Misread
-misread_in m (ModelReply.Refused k) = k
-misread_in m (ModelReply.Read s) = m
+misread_in m (Err k) = k
+misread_in m (Ok s) = m
 
 abbrev IsRefused : ModelReply → Type 0
-IsRefused (ModelReply.Refused m) = Unit {0}
-IsRefused (ModelReply.Read s) = ⊥
+IsRefused (Err m) = Unit {0}
+IsRefused (Ok s) = ⊥
 
 pub file-refused : FileRefused
 unfolding read_model reading
 file-refused bs R m h = go (model_in bs) refl h
   where
-    go : (f : Field Model) → model_in bs ≡ f → (reading f R).answer ≡ ModelReply.Refused m → ((reading f R).rooms ≡ R) × (Misreads bs m ⊎ NoRoom bs R m)
+    go : (f : Field Model) → model_in bs ≡ f → (reading f R).answer ≡ Err m → ((reading f R).rooms ≡ R) × (Misreads bs m ⊎ NoRoom bs R m)
     go (misread k) q h =
         let e : k ≡ m = ap (misread_in m) h in
         (refl, inl (q ∙ ap misread e, subst (λ w. Place bs w.number w.place) e (subst (Sane bs) q (sane-model bs))))
     go (says M end) q h = room (rooms_enough M.trees R) refl h
       where
         done : Outcome ModelReply TableRooms
-        done = outcome_of (ModelReply.Read (sizes_of M)) (filled_by M.trees R)
+        done = outcome_of (Ok (sizes_of M)) (filled_by M.trees R)
 
         none : Outcome ModelReply TableRooms
-        none = outcome_of (ModelReply.Refused (record { number = 6; place = 0 })) R
+        none = outcome_of (Err (record { number = 6; place = 0 })) R
 
-        room : (b : Bool) → rooms_enough M.trees R ≡ b → (cond b done none).answer ≡ ModelReply.Refused m → ((cond b done none).rooms ≡ R) × (Misreads bs m ⊎ NoRoom bs R m)
+        room : (b : Bool) → rooms_enough M.trees R ≡ b → (cond b done none).answer ≡ Err m → ((cond b done none).rooms ≡ R) × (Misreads bs m ⊎ NoRoom bs R m)
         room true e h = absurd (subst IsRefused (sym h) tt)
         room false e h =
             let k = ap (misread_in m) h in
@@ -217,7 +216,7 @@ pub sizes-are-rooms : SizesAreRooms
 sizes-are-rooms features F n h =
     let (p, e) = size-answered features F n h in
     record {
-      enough = λ out l. write_done features F p out (subst (λ m. m ≤ length out) e l) ∙ ap (λ m. outcome_of (SizeReply.Bytes m) (front (file_of features (trees_of F)) out)) (sym e);
+      enough = λ out l. write_done features F p out (subst (λ m. m ≤ length out) e l) ∙ ap (λ m. outcome_of (Ok m) (front (file_of features (trees_of F)) out)) (sym e);
       short = λ out l. write-short features F p out (subst (λ m. length out < m) e l);
     }
 

@@ -1,9 +1,7 @@
 -- Every split of a fit that answers leaves both sides filled, and with the least leaf: in the tree that was grown, each of a split's two children has a count of at
 -- least 1 and at least the least leaf, and together they have the split's. Assumes nothing.
-use Rattle.std.specs.Prelude.{◌≡◌}
+use Rattle.std.specs.Prelude.{◌≡◌, Ok}
 use Rattle.rules.specs.declared.Report.{Report}
-use Rattle.rules.specs.declared.TreeAnswer.{TreeAnswer}
-use Rattle.rules.specs.declared.ForestAnswer.{ForestAnswer}
 use Rattle.rules.specs.Lent.{WaitingForm, TreeRooms, ForestRooms}
 use Rattle.rules.specs.Draws.{ok}
 use Rattle.rules.specs.Fit.{Tree, fit, params_of, TreeCall, one_tree_of, grown_tree, fit_tree}
@@ -17,12 +15,12 @@ use Rattle.lemmas.specs.Answered.{tree-answered, tree-listed, forest-answered, t
 
 abbrev pub TreeFilled : Type 1
 TreeFilled =
-    (W : Type 0) (K : WaitingForm W) (C : TreeCall) (R : TreeRooms W) (r : Report) → Binary64 C.given.inputs.values → (fit_tree K C R).answer ≡ TreeAnswer.Grown r
+    (W : Type 0) (K : WaitingForm W) (C : TreeCall) (R : TreeRooms W) (r : Report) → Binary64 C.given.inputs.values → (fit_tree K C R).answer ≡ Ok r
     → (t : Tree) → grown_tree C ≡ ok t → Stands (one_tree_of C).params t.nodes
 
 abbrev pub ForestFilled : Type 1
 ForestFilled =
-    (W : Type 0) (K : WaitingForm W) (C : ForestCall) (R : ForestRooms W) (h : (fit_forest K C R).answer ≡ ForestAnswer.Grown) → Binary64 C.given.inputs.values
+    (W : Type 0) (K : WaitingForm W) (C : ForestCall) (R : ForestRooms W) (h : (fit_forest K C R).answer ≡ (Ok tt)) → Binary64 C.given.inputs.values
     → Every (λ (t : Tree). Stands (params_of C.settings (tried_of C.shape.features C.tried) C.shape.features) t.nodes) (forest-answered K C R h).trees
 
 pub tree-filled : TreeFilled

@@ -5,13 +5,11 @@ use Prim.Native.Nat.{ℕ, zero, suc, ◌+◌, ◌<◌, ◌≤◌}
 use Rattle.std.proofs.Math.Decide.{ℕ_discrete}
 use native.Mathlib.Omega.{arith}
 use Rattle.std.proofs.Math.Path.{◌≡◌, refl, sym, ap}
-use Rattle.std.proofs.Common.{◌∙◌}
+use Rattle.std.proofs.Common.{◌∙◌, Ok, Err}
 use Rattle.std.specs.Prelude.{◌≢◌, ◌↔◌, map}
-use Rattle.rules.specs.declared.Checked.{Checked}
+use Rattle.rules.specs.Results.{TreeAnswer}
 use Rattle.rules.specs.declared.Report.{Report}
 use Rattle.rules.specs.declared.Place.{Place}
-use Rattle.rules.specs.declared.TreeAnswer.{TreeAnswer}
-use Rattle.rules.specs.declared.ForestAnswer.{ForestAnswer}
 use Rattle.rules.specs.Words.{from}
 use Rattle.rules.specs.Lent.{Data, OneTree, WaitingForm, TreeRooms, ForestRooms, Outcome}
 use Rattle.rules.specs.Checks.{numbered, checked}
@@ -20,27 +18,28 @@ use Rattle.rules.specs.Fit.{Tree, fit, tree_done, fit_tree}
 use Rattle.rules.specs.Forest.{ForestCall, one_tree_at, each_tree, Forest, stopped, grown_all, with_tree, next_tree, grow_trees, grown_forest, forest_tests, forest_done, forest_ends, fit_forest}
 use Rattle.demands.specs.ItsTrees.{tree_call_at, own_rooms, own-fit, room-for-each, not-6}
 use Rattle.demands.specs.Refusals.{ForestUnrefused, forest-passes}
+use Rattle.rules.specs.declared.FitError.{FitError}
 
 -- ---- the statement
 
 -- tree t, fitted alone, meets a bad draw at search s, and none before it meets one
 pub record MeetsFirst {X : Type 0} (L : WaitingForm X) (C : ForestCall) (Q : ℕ → TreeRooms X) (t s : ℕ) : Type 0 where
   pub inside : t < C.trees
-  pub met : (fit_tree L (tree_call_at C t) (Q t)).answer ≡ TreeAnswer.BadDraw (record { tree = 0; search = s })
-  pub before : (u : ℕ) → u < t → (r : Report) × ((fit_tree L (tree_call_at C u) (Q u)).answer ≡ TreeAnswer.Grown r)
+  pub met : (fit_tree L (tree_call_at C t) (Q t)).answer ≡ Err (FitError.BadDraw (record { tree = 0; search = s }))
+  pub before : (u : ℕ) → u < t → (r : Report) × ((fit_tree L (tree_call_at C u) (Q u)).answer ≡ Ok r)
 
 -- each tree in rooms of its own, not too small
 abbrev pub FirstBad : Type 1
 FirstBad =
     (W X : Type 0) (K : WaitingForm W) (L : WaitingForm X) (C : ForestCall) (R : ForestRooms W) → ForestUnrefused (fit_forest K C R).answer
-    → (Q : ℕ → TreeRooms X) → ((t : ℕ) → t < C.trees → (fit_tree L (tree_call_at C t) (Q t)).answer ≢ TreeAnswer.Refused (numbered 6))
-    → (t s : ℕ) → ((fit_forest K C R).answer ≡ ForestAnswer.BadDraw (record { tree = t; search = s })) ↔ MeetsFirst L C Q t s
+    → (Q : ℕ → TreeRooms X) → ((t : ℕ) → t < C.trees → (fit_tree L (tree_call_at C t) (Q t)).answer ≢ Err (FitError.Refused (numbered 6)))
+    → (t s : ℕ) → ((fit_forest K C R).answer ≡ Err (FitError.BadDraw (record { tree = t; search = s }))) ↔ MeetsFirst L C Q t s
 
 -- as the forest's own are
 abbrev pub FirstBadAlone : Type 1
 FirstBadAlone =
     (W : Type 0) (K : WaitingForm W) (C : ForestCall) (R : ForestRooms W) → ForestUnrefused (fit_forest K C R).answer
-    → (t s : ℕ) → ((fit_forest K C R).answer ≡ ForestAnswer.BadDraw (record { tree = t; search = s })) ↔ MeetsFirst K C (λ u. own_rooms R) t s
+    → (t s : ℕ) → ((fit_forest K C R).answer ≡ Err (FitError.BadDraw (record { tree = t; search = s }))) ↔ MeetsFirst K C (λ u. own_rooms R) t s
 
 -- ---- n trees, grown one after another
 
@@ -97,17 +96,17 @@ module _ (F : ℕ → OneTree) (D : Data) where
           ap (with_tree x) (ih (record { above = omega (arith, e.above, z); below = omega (arith, e.below); met = e.met; before = λ u y w. e.before u (omega (arith, y)) w }))
 
 -- an answer tells what the growth came to
-bad-forest : {W : Type 0} (K : WaitingForm W) (R : ForestRooms W) (d : Place) (f : Forest) → (forest_done K f R).answer ≡ ForestAnswer.BadDraw d → f ≡ stopped d
+bad-forest : {W : Type 0} (K : WaitingForm W) (R : ForestRooms W) (d : Place) (f : Forest) → (forest_done K f R).answer ≡ Err (FitError.BadDraw d) → f ≡ stopped d
 unfolding forest_done
 bad-forest K R d (stopped e) h = cc
 bad-forest K R d (grown_all ts) h = let z : ◌≡◌ {A = ℕ} 0 1 = cc in absurd (omega arith)
 
-bad-tree : {X : Type 0} (L : WaitingForm X) (Q : TreeRooms X) (s : ℕ) (o : Out Tree) → (tree_done L o Q).answer ≡ TreeAnswer.BadDraw (record { tree = 0; search = s }) → o ≡ bad s
+bad-tree : {X : Type 0} (L : WaitingForm X) (Q : TreeRooms X) (s : ℕ) (o : Out Tree) → (tree_done L o Q).answer ≡ Err (FitError.BadDraw (record { tree = 0; search = s })) → o ≡ bad s
 unfolding tree_done
 bad-tree L Q s (bad b) h = let p : ◌≡◌ {A = Place} (record { tree = 0; search = b }) (record { tree = 0; search = s }) = cc in ap (λ (d : Place). bad d.search) p
 bad-tree L Q s (ok x) h = let z : ◌≡◌ {A = ℕ} 0 1 = cc in absurd (omega arith)
 
-grown-tree : {X : Type 0} (L : WaitingForm X) (Q : TreeRooms X) (r : Report) (o : Out Tree) → (tree_done L o Q).answer ≡ TreeAnswer.Grown r → (x : Tree) × (o ≡ ok x)
+grown-tree : {X : Type 0} (L : WaitingForm X) (Q : TreeRooms X) (r : Report) (o : Out Tree) → (tree_done L o Q).answer ≡ Ok r → (x : Tree) × (o ≡ ok x)
 unfolding tree_done
 grown-tree L Q r (bad b) h = let z : ◌≡◌ {A = ℕ} 0 1 = cc in absurd (omega arith)
 grown-tree L Q r (ok x) h = (x, refl)
@@ -116,13 +115,13 @@ pub first-bad : FirstBad
 unfolding fit_forest forest_ends forest_done grown_forest each_tree tree_done
 first-bad W X K L C R g Q n t s = (there, back)
   where
-    q : checked (forest_tests K C R) ≡ Checked.Passed
+    q : checked (forest_tests K C R) ≡ Ok tt
     q = forest-passes K C R g
 
     own : (u : ℕ) → u < C.trees → (fit_tree L (tree_call_at C u) (Q u)).answer ≡ (tree_done L (fit (one_tree_at C u) C.given.inputs) (Q u)).answer
     own u h = ap (λ (o : Outcome TreeAnswer (TreeRooms X)). o.answer) (own-fit K L C R q u h (Q u) (n u h))
 
-    there : (fit_forest K C R).answer ≡ ForestAnswer.BadDraw (record { tree = t; search = s }) → MeetsFirst L C Q t s
+    there : (fit_forest K C R).answer ≡ Err (FitError.BadDraw (record { tree = t; search = s })) → MeetsFirst L C Q t s
     there e =
         let st : Stops (one_tree_at C) C.given.inputs 0 C.trees t s = stops (one_tree_at C) C.given.inputs 0 C.trees t s
         (bad-forest K R _ (grown_forest C) ((λ i. (forest_ends K (sym q i) (grown_forest C) R).answer) ∙ e)) in
@@ -133,7 +132,7 @@ first-bad W X K L C R g Q n t s = (there, back)
           before = λ u l. let (x, f) = st.before u (omega arith) l in (x.report, own u (omega (arith, l, h)) ∙ ap (λ o. (tree_done L o (Q u)).answer) f);
         }
 
-    back : MeetsFirst L C Q t s → (fit_forest K C R).answer ≡ ForestAnswer.BadDraw (record { tree = t; search = s })
+    back : MeetsFirst L C Q t s → (fit_forest K C R).answer ≡ Err (FitError.BadDraw (record { tree = t; search = s }))
     back m =
         λ i. (forest_ends K (q i) (stops_so (one_tree_at C) C.given.inputs 0 C.trees t s (record {
           above = omega arith;

@@ -3,7 +3,7 @@
 -- cut to just that, the new starts in the tapes are the sums of the report columns. Where one tree's words or thresholds are cut shorter than it used, and no tree's before it,
 -- it is refusal 7 at that tree, whatever is left to those after it. It holds because a forest is its trees and each looks at no more than it uses; of the checks one alone
 -- asks for a tape, that of the starts in the tapes, and what is laid anew has good ones. Assumes nothing.
-use Rattle.std.specs.Prelude.{ℕ, suc, ◌-◌, ◌<◌, ◌≤◌, ◌≡◌, refl, ◌≢◌, ◌&&◌, get_or, set, take, leb, Float}
+use Rattle.std.specs.Prelude.{ℕ, suc, ◌-◌, ◌<◌, ◌≤◌, ◌≡◌, refl, ◌≢◌, ◌&&◌, get_or, set, take, leb, Float, Ok, Err}
 use Rattle.std.proofs.Common.{le_refl, zero-add, arith, ap, ◌∙◌, take-take, length-take-le, get_or-set_same, get_or-set_other, ext_get_or}
 use Rattle.std.proofs.Math.Path.{sym, subst}
 use mathlib.Core.List.{List, [], ◌∷◌, map, flatten}
@@ -12,11 +12,9 @@ use Rattle.std.proofs.lemmas.List.{length-map}
 use Rattle.std.proofs.Math.Dec.{T}
 use Rattle.std.specs.Float.Ieee.Fits.{and_l, and_i}
 use Rattle.rules.specs.declared.Refusal.{Refusal}
-use Rattle.rules.specs.declared.Checked.{Checked}
+use Rattle.rules.specs.Results.{Checked, ForestAnswer}
 use Rattle.rules.specs.declared.Report.{Report}
 use Rattle.rules.specs.declared.Place.{Place}
-use Rattle.rules.specs.declared.TreeAnswer.{TreeAnswer}
-use Rattle.rules.specs.declared.ForestAnswer.{ForestAnswer}
 use Rattle.rules.specs.Words.{from, front, filled, total}
 use Rattle.rules.specs.Lent.{Data, OneTree, Reports, WaitingForm, TreeRooms, ForestRooms, Outcome, kept, kept_rows, shortest_of_eight, zero_columns, zero_behind, zero_reports, zero_work}
 use Rattle.rules.specs.Checks.{numbered, checked, lengths, good_tape_starts, room_for}
@@ -38,14 +36,15 @@ use Rattle.demands.specs.Refusals.{ForestUnrefused, forest-passes}
 use Rattle.demands.specs.Refused.{forest-some}
 use Rattle.demands.specs.FirstBad.{first-bad-alone}
 use Rattle.demands.specs.DrawsUsed.{cut_to, Refusal7, Exact, fit-again, Within, fit-within, draws-used}
+use Rattle.rules.specs.declared.FitError.{FitError}
 
 -- ---- the statements
 
 -- each tree alone, in any rooms that are not too small
 abbrev pub EachExact : Type 1
 EachExact =
-    (W X : Type 0) (K : WaitingForm W) (L : WaitingForm X) (C : ForestCall) (R : ForestRooms W) → (fit_forest K C R).answer ≡ ForestAnswer.Grown
-    → (t : ℕ) → t < C.trees → (Q : TreeRooms X) → (fit_tree L (tree_call_at C t) Q).answer ≢ TreeAnswer.Refused (numbered 6)
+    (W X : Type 0) (K : WaitingForm W) (L : WaitingForm X) (C : ForestCall) (R : ForestRooms W) → (fit_forest K C R).answer ≡ Ok tt
+    → (t : ℕ) → t < C.trees → (Q : TreeRooms X) → (fit_tree L (tree_call_at C t) Q).answer ≢ Err (FitError.Refused (numbered 6))
     → Exact L (tree_call_at C t) Q (report_at (fit_forest K C R).rooms.reports t)
 
 -- tree t's parts of both tapes
@@ -85,7 +84,7 @@ abbrev pub BadAt : {W : Type 0} → WaitingForm W → ForestRooms W → ℕ → 
 BadAt K R t o =
     (s : ℕ)
     × (o ≡ record {
-      answer = ForestAnswer.BadDraw (record { tree = t; search = s });
+      answer = Err (FitError.BadDraw (record { tree = t; search = s }));
       rooms = record {
         nodes = zero_columns R.nodes;
         behind = zero_behind R.behind;
@@ -110,7 +109,7 @@ pub record ForestExact {W : Type 0} (K : WaitingForm W) (C : ForestCall) (R : Fo
 
 abbrev pub ForestDraws : Type 1
 ForestDraws =
-    (W : Type 0) (K : WaitingForm W) (C : ForestCall) (R : ForestRooms W) → (fit_forest K C R).answer ≡ ForestAnswer.Grown → ForestExact K C R (fit_forest K C R).rooms.reports
+    (W : Type 0) (K : WaitingForm W) (C : ForestCall) (R : ForestRooms W) → (fit_forest K C R).answer ≡ Ok tt → ForestExact K C R (fit_forest K C R).rooms.reports
 
 -- one less at place t
 abbrev pub less_at : ℕ → List ℕ → List ℕ
@@ -202,12 +201,12 @@ unfolding forest_done
 done-unrefused K (stopped d) R = tt
 done-unrefused K (grown_all ts) R = tt
 
-module _ {W : Type 0} (K : WaitingForm W) (C : ForestCall) (R : ForestRooms W) (q : checked (forest_tests K C R) ≡ Checked.Passed) (ws : List ℕ) (ts : List Float) (word_starts threshold_starts : List ℕ)
+module _ {W : Type 0} (K : WaitingForm W) (C : ForestCall) (R : ForestRooms W) (q : checked (forest_tests K C R) ≡ (Ok tt)) (ws : List ℕ) (ts : List Float) (word_starts threshold_starts : List ℕ)
     (good : T (tapes_good (retaped C ws ts word_starts threshold_starts))) where
   abbrev new : ForestCall
   new = retaped C ws ts word_starts threshold_starts
 
-  still-passes : checked (forest_tests K new R) ≡ Checked.Passed
+  still-passes : checked (forest_tests K new R) ≡ Ok tt
   unfolding forest_tests rooms_good each_tree one_tree_at room_for kept_rows kept
   still-passes =
       let (t₁, q₂) = past-test _ _ q in let (t₂, q₃) = past-test _ _ q₂ in let (t₃, q₄) = past-test _ _ q₃ in
@@ -226,12 +225,12 @@ module _ {W : Type 0} (K : WaitingForm W) (C : ForestCall) (R : ForestRooms W) (
 
 -- ---- a bad draw leaves all rooms zero
 
-all-zero : {W : Type 0} (K : WaitingForm W) (R : ForestRooms W) (d : Place) (k : Checked) (f : Forest) → (forest_ends K k f R).answer ≡ ForestAnswer.BadDraw d
+all-zero : {W : Type 0} (K : WaitingForm W) (R : ForestRooms W) (d : Place) (k : Checked) (f : Forest) → (forest_ends K k f R).answer ≡ Err (FitError.BadDraw d)
     → forest_ends K k f R ≡ forest_done K (stopped d) R
 unfolding forest_ends forest_done
-all-zero K R d Checked.Passed (stopped e) h = λ i. record { answer = h i; rooms = (forest_done K (stopped e) R).rooms }
-all-zero K R d Checked.Passed (grown_all ts) h = let z : ◌≡◌ {A = ℕ} 0 1 = cc in absurd (omega arith)
-all-zero K R d (Checked.Refused r) f h = let z : ◌≡◌ {A = ℕ} 0 1 = cc in absurd (omega arith)
+all-zero K R d (Ok _) (stopped e) h = λ i. record { answer = h i; rooms = (forest_done K (stopped e) R).rooms }
+all-zero K R d (Ok _) (grown_all ts) h = let z : ◌≡◌ {A = ℕ} 0 1 = cc in absurd (omega arith)
+all-zero K R d (Err r) f h = let z : ◌≡◌ {A = ℕ} 0 1 = cc in absurd (omega arith)
 
 -- ---- growth, tree after tree
 
@@ -240,11 +239,11 @@ unfolding grow_trees
 grow-same F G D k [] h = refl
 grow-same F G D k (t ∷ l) h = λ i. next_tree k (h.0 i) (grow-same F G D (suc k) l h.1 i)
 
-module _ {W : Type 0} (K : WaitingForm W) (C : ForestCall) (R : ForestRooms W) (g : (fit_forest K C R).answer ≡ ForestAnswer.Grown) where
+module _ {W : Type 0} (K : WaitingForm W) (C : ForestCall) (R : ForestRooms W) (g : (fit_forest K C R).answer ≡ (Ok tt)) where
   abbrev columns : Reports
   columns = (fit_forest K C R).rooms.reports
 
-  passed : checked (forest_tests K C R) ≡ Checked.Passed
+  passed : checked (forest_tests K C R) ≡ Ok tt
   passed = forest-passes K C R (subst ForestUnrefused (sym g) tt)
 
   answered : (t : ℕ) → t < C.trees → TreeAnswered K (tree_call_at C t) (own_rooms R) (report_at columns t)
@@ -284,7 +283,7 @@ module _ {W : Type 0} (K : WaitingForm W) (C : ForestCall) (R : ForestRooms W) (
   unfolding fit_forest forest_done
   short ns ms t h l m (s, e) = (s, all-zero K R _ (checked (forest_tests K (forest_cut ns ms C) R)) (grown_forest (forest_cut ns ms C)) meets)
     where
-      meets : (fit_forest K (forest_cut ns ms C) R).answer ≡ ForestAnswer.BadDraw (record { tree = t; search = s })
+      meets : (fit_forest K (forest_cut ns ms C) R).answer ≡ Err (FitError.BadDraw (record { tree = t; search = s }))
       meets =
           (first-bad-alone W K (forest_cut ns ms C) R (still-unrefused K C R passed _ _ _ _ (cut-good C ns ms)) t s).1
           (record {
@@ -334,14 +333,14 @@ forest-draws W K C R g =
     }
 
 -- no refusal is told of a grown forest alone
-told_grown : {W : Type 0} (K : WaitingForm W) (C : ForestCall) (R : ForestRooms W) → (forest_told (fit_forest K C R).answer).number ≡ 0 → (fit_forest K C R).answer ≡ ForestAnswer.Grown
+told_grown : {W : Type 0} (K : WaitingForm W) (C : ForestCall) (R : ForestRooms W) → (forest_told (fit_forest K C R).answer).number ≡ 0 → (fit_forest K C R).answer ≡ Ok tt
 unfolding fit_forest forest_ends forest_done
 told_grown K C R h = go (checked (forest_tests K C R)) refl (grown_forest C) h
   where
-    go : (k : Checked) → checked (forest_tests K C R) ≡ k → (f : Forest) → (forest_told (forest_ends K k f R).answer).number ≡ 0 → (forest_ends K k f R).answer ≡ ForestAnswer.Grown
-    go Checked.Passed q (stopped d) h = absurd (omega arith)
-    go Checked.Passed q (grown_all ts) h = refl
-    go (Checked.Refused r) q f h = absurd (forest-some K C R r q h)
+    go : (k : Checked) → checked (forest_tests K C R) ≡ k → (f : Forest) → (forest_told (forest_ends K k f R).answer).number ≡ 0 → (forest_ends K k f R).answer ≡ Ok tt
+    go (Ok _) q (stopped d) h = absurd (omega arith)
+    go (Ok _) q (grown_all ts) h = refl
+    go (Err r) q f h = absurd (forest-some K C R r q h)
 
 -- one less than there is at place t, and as many elsewhere
 less-there : (ns : List ℕ) (t : ℕ) → t < length ns → 0 < get_or ns t 0 → get_or (less_at t ns) t 0 < get_or ns t 0
@@ -367,7 +366,7 @@ forest-calls-exact W K C R x met none =
     c : Reports
     c = (fit_forest K C R).rooms.reports
 
-    g : (fit_forest K C R).answer ≡ ForestAnswer.Grown
+    g : (fit_forest K C R).answer ≡ Ok tt
     g = told_grown K C R ((λ i. (sym met i).answer.number) ∙ none)
 
     d : ForestExact K C R c

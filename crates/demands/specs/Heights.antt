@@ -3,14 +3,14 @@
 -- lower it is the lower of the two. The choice moves nothing but thresholds: the same rows go the same way, so the answer, every other column, counts and masses among them, and every other room are
 -- what they are under the other choice. And it moves nothing at all for the random splitter. In plain settings the flag `lower` alone decides: false, as in settings
 -- of zeros, is the midpoint. Assumes nothing.
-use Rattle.std.specs.Prelude.{ℕ, suc, ◌+◌, ◌<◌, ◌≡◌, ◌⊎◌, true, false, ◌&&◌, length, get_or, leb, Float}
+use Rattle.std.specs.Prelude.{ℕ, suc, ◌+◌, ◌<◌, ◌≡◌, ◌⊎◌, true, false, ◌&&◌, length, get_or, leb, Float, Ok, Err}
 use Rattle.std.proofs.Math.Path.{refl, sym, ap, subst}
 use Rattle.std.proofs.Common.{◌∙◌}
 use Rattle.std.proofs.Math.Logic.{inl, inr}
 use mathlib.Core.List.{List, [], ◌∷◌, ◌++◌, map, map-map, map-append}
 use Rattle.std.proofs.Math.Dec.{T}
 use Rattle.std.specs.Float.Ieee.{lt, le}
-use Rattle.rules.specs.declared.Checked.{Checked}
+use Rattle.rules.specs.Results.{Checked, TreeAnswer, ForestAnswer}
 use Rattle.rules.specs.declared.Params.{Params}
 use Rattle.rules.specs.declared.Settings.{Settings}
 use Rattle.rules.specs.declared.Height.{Height}
@@ -21,8 +21,6 @@ use Rattle.rules.specs.declared.Splitter.TheVariants.{Best, Random}
 use Rattle.rules.specs.declared.Kind.{Kind}
 use Rattle.rules.specs.declared.Kind.TheVariants.{Leaf, Split}
 use Rattle.rules.specs.declared.Report.{Report}
-use Rattle.rules.specs.declared.TreeAnswer.{TreeAnswer}
-use Rattle.rules.specs.declared.ForestAnswer.{ForestAnswer}
 use Rattle.rules.specs.Words.{from, front, joined, total}
 use Rattle.rules.specs.Totals.{value_of}
 use Rattle.rules.specs.Threshold.{threshold_between}
@@ -96,13 +94,13 @@ LeafOrMeasured F D e = (is_leaf e ≡ true) ⊎ Measured F D e
 abbrev pub TreeMeasured : Type 1
 TreeMeasured =
     (W : Type 0) (K : WaitingForm W) (C : TreeCall) (R : TreeRooms W) (r : Report) → Binary64 C.given.inputs.values → C.settings.splitter ≡ Best
-    → (fit_tree K C R).answer ≡ TreeAnswer.Grown r
+    → (fit_tree K C R).answer ≡ Ok r
     → Every (LeafOrMeasured (one_tree_of C) C.given.inputs) (entries_at (fit_tree K C R).rooms.nodes 0 r.nodes)
 
 -- of tree t of a forest
 abbrev pub ForestMeasured : Type 1
 ForestMeasured =
-    (W : Type 0) (K : WaitingForm W) (C : ForestCall) (R : ForestRooms W) (h : (fit_forest K C R).answer ≡ ForestAnswer.Grown) → Binary64 C.given.inputs.values
+    (W : Type 0) (K : WaitingForm W) (C : ForestCall) (R : ForestRooms W) (h : (fit_forest K C R).answer ≡ (Ok tt)) → Binary64 C.given.inputs.values
     → C.settings.splitter ≡ Best → (t : ℕ) (below : t < C.trees)
     → Every (LeafOrMeasured (one_tree_at C t) C.given.inputs) (entries (tree-at K C R (forest-answered K C R h) t below).tree.nodes)
 
@@ -246,7 +244,7 @@ tree-alone W K g C R held = go (checked (tree_tests K C R)) refl
     done (ok t) (ok t') h =
         λ i.
         record {
-          answer = TreeAnswer.Grown (sym h.2 i);
+          answer = Ok (sym h.2 i);
           rooms = record {
             nodes = sym (written_bare (entries t.nodes) (entries t'.nodes) R.nodes h.0) i;
             behind = sym (written_behind t.nodes t'.nodes R.behind h.3) i;
@@ -255,8 +253,8 @@ tree-alone W K g C R held = go (checked (tree_tests K C R)) refl
         }
 
     go : (n : Checked) → checked (tree_tests K C R) ≡ n → tree_bare (tree_ends K n (grown_tree (tree_cut g C)) R) ≡ tree_bare (tree_ends K n (grown_tree C) R)
-    go Checked.Passed q = done (grown_tree C) (grown_tree (tree_cut g C)) (fit-alike (one_tree_of C) C.given.inputs (tree-listed K C R held q).0 g)
-    go (Checked.Refused r) q = refl
+    go (Ok _) q = done (grown_tree C) (grown_tree (tree_cut g C)) (fit-alike (one_tree_of C) C.given.inputs (tree-listed K C R held q).0 g)
+    go (Err r) q = refl
 
 tree-unmoved : (W : Type 0) (K : WaitingForm W) (g : Height) (C : TreeCall) (R : TreeRooms W) → Binary64 C.given.inputs.values → C.settings.splitter ≡ Random
     → fit_tree K (tree_cut g C) R ≡ fit_tree K C R
@@ -264,8 +262,8 @@ unfolding fit_tree tree_tests tree_ends room_for kept_rows kept one_tree_of para
 tree-unmoved W K g C R held random = go (checked (tree_tests K C R)) refl
   where
     go : (n : Checked) → checked (tree_tests K C R) ≡ n → tree_ends K n (grown_tree (tree_cut g C)) R ≡ tree_ends K n (grown_tree C) R
-    go Checked.Passed q = ap (λ o. tree_done K o R) (sym (fit_same (one_tree_of C) C.given.inputs (tree-listed K C R held q).0 g random))
-    go (Checked.Refused r) q = refl
+    go (Ok _) q = ap (λ o. tree_done K o R) (sym (fit_same (one_tree_of C) C.given.inputs (tree-listed K C R held q).0 g random))
+    go (Err r) q = refl
 
 -- ---- of a forest, tree by tree
 
@@ -314,10 +312,10 @@ starts-same a (t ∷ ts) [] h = absurd h
 starts-same a (t ∷ ts) (t' ∷ ts') h = ap (λ l. a ∷ l) (ap (λ n. starts_from (a + n) ts) h.0.1 ∙ starts-same (a + length t'.nodes) ts ts' h.1)
 
 module _ {W : Type 0} (K : WaitingForm W) (g : Height) (C : ForestCall) (R : ForestRooms W) (held : Binary64 C.given.inputs.values) where
-  forest-listed : checked (forest_tests K C R) ≡ Checked.Passed → (t : ℕ) → Listed (one_tree_at C t) C.given.inputs
+  forest-listed : checked (forest_tests K C R) ≡ Ok tt → (t : ℕ) → Listed (one_tree_at C t) C.given.inputs
   forest-listed q t = let p = (forest-passed K C R q).passed in listed-right C.shape C.trees C.given p (one_tree_at C t) (forest-framed C p t) held
 
-  trees-alike : checked (forest_tests K C R) ≡ Checked.Passed → (k : ℕ) (l : List ℕ)
+  trees-alike : checked (forest_tests K C R) ≡ Ok tt → (k : ℕ) (l : List ℕ)
       → Forests (grow_trees k (map (one_tree_at C) l) C.given.inputs) (grow_trees k (map (one_tree_at (forest_cut g C)) l) C.given.inputs)
   unfolding grow_trees one_tree_at params_of
   trees-alike q k [] = tt
@@ -325,7 +323,7 @@ module _ {W : Type 0} (K : WaitingForm W) (g : Height) (C : ForestCall) (R : For
       next-alike k (fit (one_tree_at C t) C.given.inputs) (fit (one_tree_at (forest_cut g C) t) C.given.inputs) (fit-alike (one_tree_at C t) C.given.inputs (forest-listed q t) g) _ _
       (trees-alike q (suc k) l)
 
-  trees-same : checked (forest_tests K C R) ≡ Checked.Passed → C.settings.splitter ≡ Random → (k : ℕ) (l : List ℕ)
+  trees-same : checked (forest_tests K C R) ≡ Ok tt → C.settings.splitter ≡ Random → (k : ℕ) (l : List ℕ)
       → grow_trees k (map (one_tree_at C) l) C.given.inputs ≡ grow_trees k (map (one_tree_at (forest_cut g C)) l) C.given.inputs
   unfolding grow_trees one_tree_at params_of
   trees-same q random k [] = refl
@@ -353,7 +351,7 @@ module _ {W : Type 0} (K : WaitingForm W) (g : Height) (C : ForestCall) (R : For
   done-alike (grown_all ts) (grown_all ts') h =
       sym (λ i.
       record {
-        answer = ForestAnswer.Grown;
+        answer = Ok tt;
         rooms = record {
           nodes = written_bare (forest_entries ts) (forest_entries ts') R.nodes (entries-bare ts ts' h) i;
           behind = written_behind (forest_nodes ts) (forest_nodes ts') R.behind (nodes-behind ts ts' h) i;
@@ -368,16 +366,16 @@ module _ {W : Type 0} (K : WaitingForm W) (g : Height) (C : ForestCall) (R : For
   forest-alone = ap (λ l. forest_bare (forest_ends K (checked l) (grown_forest (forest_cut g C)) R)) tests_same ∙ go (checked (forest_tests K C R)) refl
     where
       go : (n : Checked) → checked (forest_tests K C R) ≡ n → forest_bare (forest_ends K n (grown_forest (forest_cut g C)) R) ≡ forest_bare (forest_ends K n (grown_forest C) R)
-      go Checked.Passed q = done-alike (grown_forest C) (grown_forest (forest_cut g C)) (trees-alike q 0 (from 0 C.trees))
-      go (Checked.Refused r) q = refl
+      go (Ok _) q = done-alike (grown_forest C) (grown_forest (forest_cut g C)) (trees-alike q 0 (from 0 C.trees))
+      go (Err r) q = refl
 
   forest-unmoved : C.settings.splitter ≡ Random → fit_forest K (forest_cut g C) R ≡ fit_forest K C R
   unfolding fit_forest forest_ends grown_forest each_tree
   forest-unmoved random = ap (λ l. forest_ends K (checked l) (grown_forest (forest_cut g C)) R) tests_same ∙ go (checked (forest_tests K C R)) refl
     where
       go : (n : Checked) → checked (forest_tests K C R) ≡ n → forest_ends K n (grown_forest (forest_cut g C)) R ≡ forest_ends K n (grown_forest C) R
-      go Checked.Passed q = ap (λ f. forest_done K f R) (sym (trees-same q random 0 (from 0 C.trees)))
-      go (Checked.Refused r) q = refl
+      go (Ok _) q = ap (λ f. forest_done K f R) (sym (trees-same q random 0 (from 0 C.trees)))
+      go (Err r) q = refl
 
 pub thresholds-alone : ThresholdsAlone
 thresholds-alone W K g = ((λ C R held. tree-alone W K g C R held), (λ C R held. forest-alone K g C R held))

@@ -1,7 +1,7 @@
 -- What importances must be. No tree of a forest has more say for larger scores: two forests of as many trees, of which each two have the same normalised importances
 -- when they are lent alone, have the same importances, however large the scores of the one and small those of the other. No importance of a tree stands on the other
 -- side of 0 than the scores of its feature: added, they are divided by what is above 0 or by nothing. And a tree without a split gives every feature 0, by any scale. Assumes nothing.
-use Rattle.std.specs.Prelude.{ℕ, zero, suc, ◌<◌, min, ◌≡◌, Bool, true, false, not, length, get_or, replicate, T, Float}
+use Rattle.std.specs.Prelude.{ℕ, zero, suc, ◌<◌, min, ◌≡◌, Bool, true, false, not, length, get_or, replicate, T, Float, Ok}
 use Rattle.std.proofs.Common.{zero-add, arith, sym, ◌∙◌, subst}
 use Rattle.std.proofs.Math.Path.{refl, ap}
 use mathlib.Core.List.{List, [], ◌∷◌, ◌++◌, map, append-nil}
@@ -16,7 +16,7 @@ use Rattle.floats.specs.Count.{lt_above}
 use Rattle.floats.specs.Sign.{div-side, not-below, not-above, below-side, above-side}
 use Rattle.rules.specs.declared.Scale.{Scale}
 use Rattle.rules.specs.declared.Scale.TheVariants.{Normalised, ByMass}
-use Rattle.rules.specs.declared.Reply.{Reply}
+use Rattle.rules.specs.Results.{Reply}
 use Rattle.rules.specs.Words.{nought, float, from, every, front}
 use Rattle.rules.specs.Lent.{Columns, Entry, Outcome, shortest, entries_at, write_entries}
 use Rattle.rules.specs.Checks.{first_failed, features_in, trees_in}
@@ -44,7 +44,7 @@ own_importances features F t = tree_importances features Normalised (alone F t) 
 abbrev pub SameSay : Type 0
 SameSay =
     (features : ℕ) (F G : ForestTable) (out : List Float)
-    → (forest_importances features F out).answer ≡ Reply.Done → (forest_importances features G out).answer ≡ Reply.Done
+    → (forest_importances features F out).answer ≡ Ok tt → (forest_importances features G out).answer ≡ Ok tt
     → F.trees ≡ G.trees → ((t : ℕ) → t < F.trees → own_importances features F t ≡ own_importances features G t)
     → forest_importances features F out ≡ forest_importances features G out
 
@@ -59,12 +59,12 @@ pub record Beside (s x : Float) : Type 0 where
 
 abbrev pub SameSide : Type 0
 SameSide =
-    (features : ℕ) (by : Scale) (c : Columns) (out : List Float) → (tree_importances features by c out).answer ≡ Reply.Done → (j : ℕ)
+    (features : ℕ) (by : Scale) (c : Columns) (out : List Float) → (tree_importances features by c out).answer ≡ Ok tt → (j : ℕ)
     → Beside (score_of features c j) (get_or (tree_importances features by c out).rooms j nan)
 
 abbrev pub NoSplit : Type 0
 NoSplit =
-    (features : ℕ) (by : Scale) (c : Columns) (out : List Float) → (tree_importances features by c out).answer ≡ Reply.Done → Every (λ e. is_leaf e ≡ true) (tree_in c)
+    (features : ℕ) (by : Scale) (c : Columns) (out : List Float) → (tree_importances features by c out).answer ≡ Ok tt → Every (λ e. is_leaf e ≡ true) (tree_in c)
     → (tree_importances features by c out).rooms ≡ replicate features nought
 
 -- ---- the same say
@@ -105,7 +105,7 @@ record Read (features : ℕ) (F : ForestTable) (out : List Float) : Type 0 where
   wide : T (features_in features)
   good : Every (λ es. T (good_tree features es)) (trees_of F)
 
-forest-read : (features : ℕ) (F : ForestTable) (out : List Float) → (forest_importances features F out).answer ≡ Reply.Done → Read features F out
+forest-read : (features : ℕ) (F : ForestTable) (out : List Float) → (forest_importances features F out).answer ≡ Ok tt → Read features F out
 unfolding forest_importances forest_importance_tests good_forest
 forest-read features F out done =
     let q = reads-done (first_failed (forest_importance_tests features F out)) _ out done in
@@ -177,7 +177,7 @@ beside-scaled Normalised v j = beside-divided (sum_from nought v) v j
 beside-scaled (ByMass m) v j = beside-divided m v j
 
 -- what an answer leaves
-left : (features : ℕ) (by : Scale) (c : Columns) (out : List Float) → (tree_importances features by c out).answer ≡ Reply.Done
+left : (features : ℕ) (by : Scale) (c : Columns) (out : List Float) → (tree_importances features by c out).answer ≡ Ok tt
     → (tree_importances features by c out).rooms ≡ scaled by (scores_of features (tree_in c))
 unfolding tree_importances reads
 left features by c out done =

@@ -2,7 +2,7 @@
 -- t's own parts of both tapes, in any rooms that are not too small: its nodes in all eight columns, and all six reports. No check but that of the room refuses that fit,
 -- and the forest's own rooms are enough for it. So trees can be grown some at a time: two forests over the same data, settings and weights that have a tree with the
 -- same counts and draws have the same tree. It holds because nothing is handed on from one tree to the next. Assumes nothing.
-use Rattle.std.specs.Prelude.{ℕ, suc, ◌-◌, ◌*◌, ◌<◌, ◌≤◌, ◌≡◌, refl, ◌≢◌, Bool, ◌&&◌, ◌||◌, length, take, drop, T, eqb}
+use Rattle.std.specs.Prelude.{ℕ, suc, ◌-◌, ◌*◌, ◌<◌, ◌≤◌, ◌≡◌, refl, ◌≢◌, Bool, ◌&&◌, ◌||◌, length, take, drop, T, eqb, Ok, Err}
 use Rattle.std.proofs.Common.{zero-add, one-mul, suc-mul, le_trans, arith, ◌∙◌, subst, le→leb}
 use Rattle.std.proofs.Math.Path.{sym, ap}
 use Rattle.std.proofs.Math.Bool.{true, false, cond}
@@ -11,10 +11,8 @@ use Rattle.std.proofs.Math.ListN.{get_or}
 use Rattle.std.proofs.Math.Dec.{leb}
 use Rattle.std.specs.Float.{nan}
 use Rattle.std.specs.Float.Ieee.Fits.{and_l, and_i}
-use Rattle.rules.specs.declared.Checked.{Checked}
+use Rattle.rules.specs.Results.{TreeAnswer}
 use Rattle.rules.specs.declared.Report.{Report}
-use Rattle.rules.specs.declared.TreeAnswer.{TreeAnswer}
-use Rattle.rules.specs.declared.ForestAnswer.{ForestAnswer}
 use Rattle.rules.specs.Words.{front, total}
 use Rattle.rules.specs.Lent.{OneTree, behind_of, Reports, WaitingForm, TreeRooms, ForestRooms, Outcome, unweighted, shortest_of_eight, entries_at}
 use Rattle.rules.specs.Checks.{Test, test, numbered, checked, shape_in, trees_in, values_long, listings_long, lengths, numbers_good, counts_good, counts_one, room_for, work_enough}
@@ -35,6 +33,7 @@ use Rattle.lemmas.specs.Beside.{behind_at, behind_tree, behind-written, tree-beh
 use Rattle.lemmas.specs.Answered.{report_or, GrewAt, ForestAnswered, forest-answered, trees-length, tree-at}
 use Rattle.demands.specs.Refusals.{Unrefused, ForestUnrefused, forest-passes}
 use Rattle.demands.specs.Parts.{tree-parts}
+use Rattle.rules.specs.declared.FitError.{FitError}
 
 -- ---- the statements
 
@@ -72,15 +71,15 @@ report_at c t =
 
 -- what the fit of one tree leaves is tree t of what a forest fit left: the report, and between two starts the nodes, with their counts and masses
 pub record IsTree {W X : Type 0} (left : ForestRooms W) (t : ℕ) (o : Outcome TreeAnswer (TreeRooms X)) : Type 0 where
-  pub answer : o.answer ≡ TreeAnswer.Grown (report_at left.reports t)
+  pub answer : o.answer ≡ Ok (report_at left.reports t)
   pub nodes : entries_at o.rooms.nodes 0 (get_or left.reports.nodes t 0) ≡ tree_at left.nodes left.starts t
   pub behind : behind_at o.rooms.behind 0 (get_or left.reports.nodes t 0) ≡ behind_tree left.behind left.starts t
 
 -- in any rooms that are not too small
 abbrev pub ItsTrees : Type 1
 ItsTrees =
-    (W X : Type 0) (K : WaitingForm W) (L : WaitingForm X) (C : ForestCall) (R : ForestRooms W) → (fit_forest K C R).answer ≡ ForestAnswer.Grown
-    → (t : ℕ) → t < C.trees → (Q : TreeRooms X) → (fit_tree L (tree_call_at C t) Q).answer ≢ TreeAnswer.Refused (numbered 6)
+    (W X : Type 0) (K : WaitingForm W) (L : WaitingForm X) (C : ForestCall) (R : ForestRooms W) → (fit_forest K C R).answer ≡ Ok tt
+    → (t : ℕ) → t < C.trees → (Q : TreeRooms X) → (fit_tree L (tree_call_at C t) Q).answer ≢ Err (FitError.Refused (numbered 6))
     → IsTree (fit_forest K C R).rooms t (fit_tree L (tree_call_at C t) Q)
 
 -- what is lent to a forest is not too small for any of its trees
@@ -101,7 +100,7 @@ pub record SameTree {W X : Type 0} (left : ForestRooms W) (t : ℕ) (other : For
 abbrev pub SomeAtATime : Type 1
 SomeAtATime =
     (W X : Type 0) (K : WaitingForm W) (L : WaitingForm X) (C E : ForestCall) (R : ForestRooms W) (Q : ForestRooms X)
-    → (fit_forest K C R).answer ≡ ForestAnswer.Grown → (fit_forest L E Q).answer ≡ ForestAnswer.Grown
+    → (fit_forest K C R).answer ≡ Ok tt → (fit_forest L E Q).answer ≡ Ok tt
     → (t u : ℕ) → t < C.trees → u < E.trees → tree_call_at C t ≡ tree_call_at E u → SameTree (fit_forest K C R).rooms t (fit_forest L E Q).rooms u
 
 -- ---- a tree's frame
@@ -129,7 +128,7 @@ frame_same C t =
 skips : (t : Test) (ts : List Test) → T t.passes → checked (t ∷ ts) ≡ checked ts
 skips t ts h = sym (goes_on t ts (is_true t.passes h) refl)
 
-last-check : (n : ℕ) (b : Bool) → checked (test n b ∷ []) ≡ cond b Checked.Passed (Checked.Refused (numbered n))
+last-check : (n : ℕ) (b : Bool) → checked (test n b ∷ []) ≡ cond b (Ok tt) (Err (numbered n))
 unfolding checked
 last-check n b = refl
 
@@ -144,12 +143,12 @@ lengths-own C t h long g =
     (ap (λ (F : OneTree). length F.counts) (frame_same C t) ∙ (tree-parts C g).counts.sizes t h ∙ sym (one-mul C.shape.rows))))
     (and_l (lengths C.shape C.trees C.given) (tapes_good C) g)
 
-module _ {W X : Type 0} (K : WaitingForm W) (L : WaitingForm X) (C : ForestCall) (R : ForestRooms W) (q : checked (forest_tests K C R) ≡ Checked.Passed) (t : ℕ) (h : t < C.trees) where
+module _ {W X : Type 0} (K : WaitingForm W) (L : WaitingForm X) (C : ForestCall) (R : ForestRooms W) (q : checked (forest_tests K C R) ≡ (Ok tt)) (t : ℕ) (h : t < C.trees) where
   abbrev enough : TreeRooms X → Bool
   enough Q = leb (room_for (one_tree_of (tree_call_at C t))) (shortest_of_eight Q.nodes Q.behind) && work_enough L C.shape Q.work
 
   -- all but the last pass
-  but-one : (Q : TreeRooms X) → checked (tree_tests L (tree_call_at C t) Q) ≡ cond (enough Q) Checked.Passed (Checked.Refused (numbered 6))
+  but-one : (Q : TreeRooms X) → checked (tree_tests L (tree_call_at C t) Q) ≡ cond (enough Q) (Ok tt) (Err (numbered 6))
   unfolding forest_tests tree_tests numbers_good counts_good
   but-one Q =
       let (t₁, q₂) = past-test _ _ q in let (t₂, q₃) = past-test _ _ q₂ in let (t₃, q₄) = past-test _ _ q₃ in
@@ -163,12 +162,12 @@ module _ {W X : Type 0} (K : WaitingForm W) (L : WaitingForm X) (C : ForestCall)
       ∙ last-check 6 (enough Q)
 
   -- so in rooms that are not too small it is the growth of the forest's frame
-  pub own-fit : (Q : TreeRooms X) → (fit_tree L (tree_call_at C t) Q).answer ≢ TreeAnswer.Refused (numbered 6)
+  pub own-fit : (Q : TreeRooms X) → (fit_tree L (tree_call_at C t) Q).answer ≢ Err (FitError.Refused (numbered 6))
       → fit_tree L (tree_call_at C t) Q ≡ tree_done L (fit (one_tree_at C t) C.given.inputs) Q
   unfolding fit_tree tree_ends grown_tree
   own-fit Q n = go (enough Q) (but-one Q)
     where
-      go : (b : Bool) → checked (tree_tests L (tree_call_at C t) Q) ≡ cond b Checked.Passed (Checked.Refused (numbered 6))
+      go : (b : Bool) → checked (tree_tests L (tree_call_at C t) Q) ≡ cond b (Ok tt) (Err (numbered 6))
           → fit_tree L (tree_call_at C t) Q ≡ tree_done L (fit (one_tree_at C t) C.given.inputs) Q
       go true e = λ i. tree_ends L (e i) (fit (frame_same C t i) C.given.inputs) Q
       go false e = absurd (n (λ i. (tree_ends L (e i) (grown_tree (tree_call_at C t)) Q).answer))
@@ -220,7 +219,7 @@ pub its-trees : ItsTrees
 unfolding tree_done
 its-trees W X K L C R g t h Q n =
     record {
-      answer = ap (λ (o : Outcome TreeAnswer (TreeRooms X)). o.answer) done ∙ ap TreeAnswer.Grown (sym (report-left K C R a t h));
+      answer = ap (λ (o : Outcome TreeAnswer (TreeRooms X)). o.answer) done ∙ ap Ok (sym (report-left K C R a t h));
       nodes =
           (λ i. entries_at (done i).rooms.nodes 0 (report-left K C R a t h i).nodes)
           ∙ tree-written u.tree Q.nodes long
@@ -254,10 +253,10 @@ pub room-for-each : RoomForEach
 unfolding fit_tree tree_ends each_tree
 room-for-each W K C R g t h =
     subst (λ n. Unrefused (tree_ends K n (grown_tree (tree_call_at C t)) (own_rooms R)).answer)
-    (sym (but-one K K C R q t h (own_rooms R) ∙ ap (λ b. cond b Checked.Passed (Checked.Refused (numbered 6))) (is_true (enough K K C R q t h (own_rooms R)) all)))
+    (sym (but-one K K C R q t h (own_rooms R) ∙ ap (λ b. cond b (Ok tt) (Err (numbered 6))) (is_true (enough K K C R q t h (own_rooms R)) all)))
     (done-unrefused K (grown_tree (tree_call_at C t)) (own_rooms R))
   where
-    q : checked (forest_tests K C R) ≡ Checked.Passed
+    q : checked (forest_tests K C R) ≡ Ok tt
     q = forest-passes K C R g
 
     p : ForestPassed K C R
@@ -273,10 +272,10 @@ room-for-each W K C R g t h =
 
 -- ---- so each tree of a forest that answers is had in the forest's own rooms
 
-pub not-6 : (a : TreeAnswer) → Unrefused a → a ≢ TreeAnswer.Refused (numbered 6)
+pub not-6 : (a : TreeAnswer) → Unrefused a → a ≢ Err (FitError.Refused (numbered 6))
 not-6 a h e = subst Unrefused e h
 
-pub tree-alone : {W : Type 0} (K : WaitingForm W) (C : ForestCall) (R : ForestRooms W) → (fit_forest K C R).answer ≡ ForestAnswer.Grown → (t : ℕ) → t < C.trees
+pub tree-alone : {W : Type 0} (K : WaitingForm W) (C : ForestCall) (R : ForestRooms W) → (fit_forest K C R).answer ≡ Ok tt → (t : ℕ) → t < C.trees
     → IsTree (fit_forest K C R).rooms t (fit_tree K (tree_call_at C t) (own_rooms R))
 tree-alone {W} K C R g t h =
     its-trees W W K K C R g t h (own_rooms R) (not-6 _ (room-for-each W K C R (subst ForestUnrefused (sym g) tt) t h))

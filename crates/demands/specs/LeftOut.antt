@@ -1,7 +1,7 @@
 -- Demand 3. Two fits of one tree, neither refused before growth, that are alike except in the targets and features of rows that the tree leaves out, each listing
 -- reading the same with those rows struck, grow the same nodes, with the same counts and masses, and report the same depth, root mass, searches and draws used, or meet the same bad draw.
 -- It holds because a left-out row adds a zero, of either sign, to totals that never come to -0. Assumes nothing.
-use Rattle.std.specs.Prelude.{ℕ, zero, suc, ◌+◌, ◌*◌, ◌<◌, ◌≤◌, ◌≡◌, Bool, not, ◌&&◌, ◌||◌, cond, get_or, T, ltb, Float}
+use Rattle.std.specs.Prelude.{ℕ, zero, suc, ◌+◌, ◌*◌, ◌<◌, ◌≤◌, ◌≡◌, Bool, not, ◌&&◌, ◌||◌, cond, get_or, T, ltb, Float, Ok}
 use Rattle.std.proofs.Common.{mul-pos, zero-lt-suc, le_trans, zero-add, arith, ◌∙◌, subst, true≢false, leb→le, lt→ltb, nltb→le, lit≤}
 use Rattle.std.proofs.Math.Path.{refl, sym, ap}
 use Rattle.std.proofs.Math.Bool.{true, false}
@@ -12,7 +12,6 @@ use Rattle.std.specs.Float.Ieee.Scale.{finite}
 use Rattle.std.specs.Float.Ieee.Fits.{add-fits, mul-fits, of_int-fits, up_pos, and_l, and_r}
 use Rattle.floats.specs.Zero.{is_zero, is_minus_zero, add-zero64, mul-zero64, count-zero, add-not-minus}
 use Rattle.floats.specs.Count.{mass-none, mass-weightless, above-lt}
-use Rattle.rules.specs.declared.Checked.{Checked}
 use Rattle.rules.specs.declared.Shape.{Shape}
 use Rattle.rules.specs.declared.Totals.{Totals}
 use Rattle.rules.specs.Words.{nought, float, from, keep}
@@ -215,8 +214,8 @@ module _ {W : Type 0} (K : WaitingForm W) where
   done-same (ok t) R R' = refl
 
   -- where the one is not refused in R, nor the other in any rooms, the other is not refused in R
-  passes-too : (C : TreeCall) (E : Data) (R R' : TreeRooms W) → checked (tree_tests K C R) ≡ Checked.Passed → checked (tree_tests K (over C E) R') ≡ Checked.Passed
-      → checked (tree_tests K (over C E) R) ≡ Checked.Passed
+  passes-too : (C : TreeCall) (E : Data) (R R' : TreeRooms W) → checked (tree_tests K C R) ≡ Ok tt → checked (tree_tests K (over C E) R') ≡ Ok tt
+      → checked (tree_tests K (over C E) R) ≡ Ok tt
   unfolding tree_tests one_tree_of
   passes-too C E R R' c₁ e₁ =
       let (x₁, c₂) = past-test _ _ c₁ in let (x₂, c₃) = past-test _ _ c₂ in let (x₃, c₄) = past-test _ _ c₃ in
@@ -236,10 +235,10 @@ demand3 W K C E R R' like h h' =
       outcomes = λ i. tree_ends K ((q ∙ sym (passes-too K C E R R' q q')) i) (same i) R;
     }
   where
-    q : checked (tree_tests K C R) ≡ Checked.Passed
+    q : checked (tree_tests K C R) ≡ Ok tt
     q = tree-passes K C R h
 
-    q' : checked (tree_tests K (over C E) R') ≡ Checked.Passed
+    q' : checked (tree_tests K (over C E) R') ≡ Ok tt
     q' = tree-passes K (over C E) R' h'
 
     same : grown_tree C ≡ grown_tree (over C E)

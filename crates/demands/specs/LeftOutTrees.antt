@@ -1,10 +1,9 @@
 -- Demand 3, of a forest's trees. Two forest fits that both answer, alike except in features, targets and listings: a tree for which these differ only in rows that it leaves out,
 -- each listing reading the same with those rows struck, is the same tree in what they leave, whatever the other trees are and wherever it lies: its report, and its nodes in all
 -- eight columns. It holds because each tree of a forest is what the fit of that tree alone gives. Assumes nothing.
-use Rattle.std.specs.Prelude.{ℕ, ◌<◌, ◌≡◌}
+use Rattle.std.specs.Prelude.{ℕ, ◌<◌, ◌≡◌, Ok}
 use Rattle.std.proofs.Common.{sym, subst}
-use Rattle.rules.specs.declared.TreeAnswer.{TreeAnswer}
-use Rattle.rules.specs.declared.ForestAnswer.{ForestAnswer}
+use Rattle.rules.specs.Results.{TreeAnswer}
 use Rattle.rules.specs.Lent.{Data, OneTree, WaitingForm, TreeRooms, ForestRooms, Outcome}
 use Rattle.rules.specs.Fit.{fit_tree}
 use Rattle.rules.specs.Forest.{ForestCall, one_tree_at, fit_forest}
@@ -31,7 +30,7 @@ over_all C E =
 
 abbrev pub LeftOutTrees : Type 1
 LeftOutTrees =
-    (W : Type 0) (K : WaitingForm W) (C : ForestCall) (E : Data) (R R' : ForestRooms W) → (fit_forest K C R).answer ≡ ForestAnswer.Grown → (fit_forest K (over_all C E) R').answer ≡ ForestAnswer.Grown
+    (W : Type 0) (K : WaitingForm W) (C : ForestCall) (E : Data) (R R' : ForestRooms W) → (fit_forest K C R).answer ≡ Ok tt → (fit_forest K (over_all C E) R').answer ≡ Ok tt
     → (t : ℕ) → t < C.trees → Alike (one_tree_at C t) C.given.inputs E → SameTree (fit_forest K C R).rooms t (fit_forest K (over_all C E) R').rooms t
 
 -- ---- each tree by itself

@@ -2,7 +2,7 @@
 -- where the tree is one node; and a tree that stays below its limit would have been the same, draw by draw, under any other that it stays below. Where no row is kept,
 -- nothing is searched: whatever the limit, the least split, the splitter and the tapes are, the tree is one leaf of value 0, count 0 and mass 0, and it uses no draw.
 -- Assumes nothing.
-use Rattle.std.specs.Prelude.{ℕ, ◌+◌, ◌<◌, ◌≤◌, max, ◌≡◌, ◌⊎◌, false, length}
+use Rattle.std.specs.Prelude.{ℕ, ◌+◌, ◌<◌, ◌≤◌, max, ◌≡◌, ◌⊎◌, false, length, Ok, Some, None, Option}
 use Rattle.std.proofs.Common.{zero-add, sym, ◌∙◌, inr}
 use Rattle.std.proofs.Math.Nat.{sub_self}
 use native.Mathlib.Omega.{arith}
@@ -10,13 +10,10 @@ use Rattle.std.proofs.Math.Path.{refl, ap, subst}
 use Rattle.std.proofs.Math.Logic.{inl}
 use mathlib.Core.List.{List, [], ◌∷◌, ◌++◌, map}
 use Rattle.std.specs.Float.Ieee.{lt, of_bits}
-use Rattle.rules.specs.declared.Checked.{Checked}
+use Rattle.rules.specs.Results.{TreeAnswer}
 use Rattle.rules.specs.declared.Params.{Params}
-use Rattle.rules.specs.declared.Depth.{Depth}
-use Rattle.rules.specs.declared.Depth.TheVariants.{Unlimited, AtMost}
 use Rattle.rules.specs.declared.Settings.{Settings}
 use Rattle.rules.specs.declared.Report.{Report}
-use Rattle.rules.specs.declared.TreeAnswer.{TreeAnswer}
 use Rattle.rules.specs.Words.{nought, from, front, total}
 use Rattle.rules.specs.Totals.{empty, value_of}
 use Rattle.rules.specs.Lent.{Data, OneTree, behind_of, WaitingForm, TreeRooms, ForestRooms, Outcome, kept, count_in, kept_rows, leaf_entry, write_entries, zero_work}
@@ -37,15 +34,15 @@ use Rattle.demands.specs.Refusals.{Unrefused, tree-passes}
 
 -- ---- the statements
 
-abbrev pub limited : Depth → Settings → Settings
+abbrev pub limited : Option ℕ → Settings → Settings
 limited d G = record { depth = d; leaf = G.leaf; split = G.split; splitter = G.splitter; height = G.height }
 
 -- the same call under another limit
-abbrev pub tree_under : Depth → TreeCall → TreeCall
+abbrev pub tree_under : Option ℕ → TreeCall → TreeCall
 tree_under d C =
     record { shape = C.shape; settings = limited d C.settings; tried = C.tried; given = C.given; words = C.words; thresholds = C.thresholds }
 
-abbrev pub forest_under : Depth → ForestCall → ForestCall
+abbrev pub forest_under : Option ℕ → ForestCall → ForestCall
 forest_under d C =
     record {
       shape = C.shape;
@@ -62,13 +59,13 @@ forest_under d C =
 abbrev pub NoLimit : Type 1
 NoLimit =
     (W : Type 0) (K : WaitingForm W)
-    → ((C : TreeCall) (R : TreeRooms W) → fit_tree K (tree_under Unlimited C) R ≡ fit_tree K (tree_under (AtMost 65535) C) R)
-    × ((C : ForestCall) (R : ForestRooms W) → fit_forest K (forest_under Unlimited C) R ≡ fit_forest K (forest_under (AtMost 65535) C) R)
+    → ((C : TreeCall) (R : TreeRooms W) → fit_tree K (tree_under None C) R ≡ fit_tree K (tree_under (Some 65535) C) R)
+    × ((C : ForestCall) (R : ForestRooms W) → fit_forest K (forest_under None C) R ≡ fit_forest K (forest_under (Some 65535) C) R)
 
 -- what a limit comes to
-abbrev pub most : Depth → ℕ
-most Unlimited = 65535
-most (AtMost d) = d
+abbrev pub most : Option ℕ → ℕ
+most None = 65535
+most (Some d) = d
 
 -- one node at depth 0, or a split
 abbrev pub OneOrSplit : ℕ → ℕ → Type 0
@@ -81,19 +78,19 @@ pub record Within (limit : ℕ) (r : Report) : Type 0 where
 
 abbrev pub WithinLimit : Type 1
 WithinLimit =
-    (W : Type 0) (K : WaitingForm W) (C : TreeCall) (R : TreeRooms W) (r : Report) → (fit_tree K C R).answer ≡ TreeAnswer.Grown r → Within (most C.settings.depth) r
+    (W : Type 0) (K : WaitingForm W) (C : TreeCall) (R : TreeRooms W) (r : Report) → (fit_tree K C R).answer ≡ Ok r → Within (most C.settings.depth) r
 
 -- the root has level 1, so that a limit of 1 is met by a tree of one node
 abbrev pub LimitUnmet : Type 1
 LimitUnmet =
-    (W : Type 0) (K : WaitingForm W) (C : TreeCall) (R : TreeRooms W) (r : Report) (d : Depth) → (fit_tree K C R).answer ≡ TreeAnswer.Grown r
+    (W : Type 0) (K : WaitingForm W) (C : TreeCall) (R : TreeRooms W) (r : Report) (d : Option ℕ) → (fit_tree K C R).answer ≡ Ok r
     → max 1 r.depth < most C.settings.depth → max 1 r.depth < most d → fit_tree K (tree_under d C) R ≡ fit_tree K C R
 
 -- one leaf of value 0 with nothing behind it, and nothing searched or drawn
 abbrev pub one_leaf : {W : Type 0} → WaitingForm W → TreeRooms W → Outcome TreeAnswer (TreeRooms W)
 one_leaf K R =
     record {
-      answer = TreeAnswer.Grown (record { nodes = 1; depth = 0; mass = nought; searches = 0; words = 0; thresholds = 0 });
+      answer = Ok (record { nodes = 1; depth = 0; mass = nought; searches = 0; words = 0; thresholds = 0 });
       rooms = record {
         nodes = write_entries (leaf_entry nought ∷ []) R.nodes;
         behind = behind_of (front (0 ∷ []) R.behind.count) (front (nought ∷ []) R.behind.mass);
@@ -151,10 +148,10 @@ fit-within F D =
     then-then (from_root F.params (search (tape F.params.features) F.params) (root F D) _) _ _ _ (growth-deep F.params _ (root F D) _)
     (λ s h. record { depth = h.1; nodes = h.2 })
 
-limit-most : (d : Depth) → limit_of d ≡ most d
+limit-most : (d : Option ℕ) → limit_of d ≡ most d
 unfolding limit_of
-limit-most Unlimited = refl
-limit-most (AtMost d) = refl
+limit-most None = refl
+limit-most (Some d) = refl
 
 pub within-limit : WithinLimit
 unfolding one_tree_of params_of
@@ -200,7 +197,7 @@ limit-unmet W K C R r d h u u' =
     (omega (arith, ap (λ (x : Report). x.depth) a.reported)) in
     λ i. tree_ends K (checked (tree_tests K C R)) ((same ∙ sym a.grew) i) R
   where
-    below : (d : Depth) → max 1 r.depth < most d → max 1 r.depth < limit_of d
+    below : (d : Option ℕ) → max 1 r.depth < most d → max 1 r.depth < limit_of d
     below d l = subst (λ n. max 1 r.depth < n) (sym (limit-most d)) l
 
 -- ---- nothing kept
@@ -237,7 +234,7 @@ nothing-kept W K C R none h = λ i. tree_ends K (q i) ((ap (grow_from F) (root-e
     D : Data
     D = C.given.inputs
 
-    q : checked (tree_tests K C R) ≡ Checked.Passed
+    q : checked (tree_tests K C R) ≡ Ok tt
     q = tree-passes K C R h
 
     accepts : Accepted F D

@@ -2,16 +2,14 @@
 -- column places in order, and at the place the first of the three tests that fails. With a row met before it tells the lowest row that the whole column lacks, and there is
 -- one. No other refusal before growth tells a place. Listings of the length that is asked have no fault exactly where every place is in order. And one refusal, 5, could
 -- stand for the three: it would be given exactly where one of them is, so nothing else of a fit depends on the places. Assumes nothing.
-use Rattle.std.specs.Prelude.{ℕ, ◌*◌, ◌<◌, ◌≤◌, ◌≡◌, ◌≢◌, Bool, ◌&&◌, ◌||◌, length, T, leb, eqb, Float}
+use Rattle.std.specs.Prelude.{ℕ, ◌*◌, ◌<◌, ◌≤◌, ◌≡◌, ◌≢◌, Bool, ◌&&◌, ◌||◌, length, T, leb, eqb, Float, Ok, Err}
 use Rattle.std.proofs.Common.{zero-add, arith, ◌∙◌, subst, true≢false, leb→le, eqb→eq, eqb-true, le-leb, ne_eqb, eq-eqb}
 use Rattle.std.proofs.Math.Path.{refl, sym, ap}
 use Rattle.std.proofs.Math.Bool.{true, false, cond}
 use mathlib.Core.List.{List, [], ◌∷◌, ◌++◌, append-nil}
 use Rattle.rules.specs.declared.Shape.{Shape}
 use Rattle.rules.specs.declared.Refusal.{Refusal}
-use Rattle.rules.specs.declared.Checked.{Checked}
-use Rattle.rules.specs.declared.TreeAnswer.{TreeAnswer}
-use Rattle.rules.specs.declared.ForestAnswer.{ForestAnswer}
+use Rattle.rules.specs.Results.{Checked}
 use Rattle.rules.specs.Words.{total}
 use Rattle.rules.specs.Lent.{Given, WaitingForm, TreeRooms, ForestRooms, cell, listing_at, unweighted, shortest_of_eight}
 use Rattle.rules.specs.Checks.{Test, test, numbered, checked, number_of, first_failed, shape_in, trees_in, values_long, listings_long, lengths, numbers_good, counts_good, counts_one, room_for, work_enough}
@@ -23,6 +21,7 @@ use Rattle.lemmas.specs.Passed.{IsPassed, and5}
 use Rattle.lemmas.specs.Faults.{listings_good, is_passed, listing-long, listings-sound}
 use Rattle.demands.specs.Refusals.{tree-refused, forest-refused}
 use Rattle.demands.specs.Places.{InOrder, Breaks, too_large, met_before, fallen, Lacks, lacks, FaultIn, Ends, column-ends, ColumnOf, Columns, columns-end}
+use Rattle.rules.specs.declared.FitError.{FitError}
 
 -- ---- the statements
 
@@ -43,12 +42,12 @@ pub record FirstFault (S : Shape) (xs : List Float) (ls : List ℕ) (r : Refusal
   pub untold : r.number ≢ 12 → r.row ≡ 0
 
 abbrev pub FaultFirst : Type 0
-FaultFirst = (S : Shape) (xs : List Float) (ls : List ℕ) → Long S ls → (r : Refusal) → checked (order_tests S xs ls) ≡ Checked.Refused r → FirstFault S xs ls r
+FaultFirst = (S : Shape) (xs : List Float) (ls : List ℕ) → Long S ls → (r : Refusal) → checked (order_tests S xs ls) ≡ Err r → FirstFault S xs ls r
 
 -- no fault exactly where every place is in order, and exactly where each row stands once and no value falls
 pub record NoFault (S : Shape) (xs : List Float) (ls : List ℕ) : Type 0 where
-  pub sound : checked (order_tests S xs ls) ≡ Checked.Passed → (j : ℕ) → j < S.features → (p : ℕ) → p < S.rows → InOrderAt S xs ls j p
-  pub whole : ((j : ℕ) → j < S.features → (p : ℕ) → p < S.rows → InOrderAt S xs ls j p) → checked (order_tests S xs ls) ≡ Checked.Passed
+  pub sound : checked (order_tests S xs ls) ≡ Ok tt → (j : ℕ) → j < S.features → (p : ℕ) → p < S.rows → InOrderAt S xs ls j p
+  pub whole : ((j : ℕ) → j < S.features → (p : ℕ) → p < S.rows → InOrderAt S xs ls j p) → checked (order_tests S xs ls) ≡ Ok tt
   pub good : is_passed (checked (order_tests S xs ls)) ≡ listings_good S xs ls
 
 abbrev pub FaultSound : Type 0
@@ -60,11 +59,11 @@ pub record Told (S : Shape) (xs : List Float) (ls : List ℕ) (r : Refusal) : Ty
   pub fault : 11 ≤ r.number → FirstFault S xs ls r
 
 pub record WhereTold : Type 1 where
-  pub tree : (W : Type 0) (K : WaitingForm W) (C : TreeCall) (R : TreeRooms W) (r : Refusal) → (fit_tree K C R).answer ≡ TreeAnswer.Refused r
+  pub tree : (W : Type 0) (K : WaitingForm W) (C : TreeCall) (R : TreeRooms W) (r : Refusal) → (fit_tree K C R).answer ≡ Err (FitError.Refused r)
       → Told C.shape C.given.inputs.values C.given.inputs.listings r
-  pub forest : (W : Type 0) (K : WaitingForm W) (C : ForestCall) (R : ForestRooms W) (r : Refusal) → (fit_forest K C R).answer ≡ ForestAnswer.Refused r
+  pub forest : (W : Type 0) (K : WaitingForm W) (C : ForestCall) (R : ForestRooms W) (r : Refusal) → (fit_forest K C R).answer ≡ Err (FitError.Refused r)
       → Told C.shape C.given.inputs.values C.given.inputs.listings r
-  pub listings : (S : Shape) (xs : List Float) (ls : List ℕ) (r : Refusal) → check_listings S xs ls ≡ Checked.Refused r → Told S xs ls r
+  pub listings : (S : Shape) (xs : List Float) (ls : List ℕ) (r : Refusal) → check_listings S xs ls ≡ Err r → Told S xs ls r
 
 -- one number for the three
 abbrev pub one_number : ℕ → ℕ
@@ -102,10 +101,10 @@ pub record OneForThree : Type 1 where
 -- ---- the first fault
 
 refusal-of : Refusal → Checked → Refusal
-refusal-of r Checked.Passed = r
-refusal-of r (Checked.Refused q) = q
+refusal-of r (Ok _) = r
+refusal-of r (Err q) = q
 
-same-refusal : (q r : Refusal) → Checked.Refused q ≡ Checked.Refused r → q ≡ r
+same-refusal : (q r : Refusal) → ◌≡◌ {A = Checked} (Err q) (Err r) → q ≡ r
 unfolding refusal-of
 same-refusal q r h = ap (refusal-of q) h
 
@@ -120,7 +119,7 @@ module _ (S : Shape) (xs : List Float) (ls : List ℕ) (long : Long S ls) where
   unfolding column_tests
   ends_at j = column-ends S.rows (cell S.features xs j) j (lowest_lacking S.rows (listing j)) (listing j)
 
-  sound-column : (j : ℕ) → j < S.features → checked (column_tests S xs ls j) ≡ Checked.Passed → (p : ℕ) → p < S.rows → InOrderAt S xs ls j p
+  sound-column : (j : ℕ) → j < S.features → checked (column_tests S xs ls j) ≡ Ok tt → (p : ℕ) → p < S.rows → InOrderAt S xs ls j p
   sound-column j h e p l = subst (EndsAt j) e (ends_at j) p (omega arith) (subst (λ n. p < n) (sym (listing-long S xs ls long j h)) l)
 
   ends-all : Columns (column_tests S xs ls) 0 S.features (checked (order_tests S xs ls))
@@ -178,16 +177,16 @@ fault-sound S xs ls long =
       good = listings-sound S xs ls long;
     }
   where
-    go : ((j : ℕ) → j < S.features → (p : ℕ) → p < S.rows → InOrderAt S xs ls j p) → (c : Checked) → checked (order_tests S xs ls) ≡ c → checked (order_tests S xs ls) ≡ Checked.Passed
-    go all Checked.Passed e = e
-    go all (Checked.Refused r) e =
+    go : ((j : ℕ) → j < S.features → (p : ℕ) → p < S.rows → InOrderAt S xs ls j p) → (c : Checked) → checked (order_tests S xs ls) ≡ c → checked (order_tests S xs ls) ≡ Ok tt
+    go all (Ok _) e = e
+    go all (Err r) e =
         let f = fault-first S xs ls long r e in
         absurd (broken _ _ _ _ _ f.breaks (all r.part f.column r.place f.place))
 
 -- ---- what is told, and one number for three
 
 module _ (S : Shape) (xs : List Float) (ls : List ℕ) where
-  plain : (n : ℕ) → T (leb n 10) → (r : Refusal) → Checked.Refused (numbered n) ≡ Checked.Refused r → Told S xs ls r
+  plain : (n : ℕ) → T (leb n 10) → (r : Refusal) → ◌≡◌ {A = Checked} (Err (numbered n)) (Err r) → Told S xs ls r
   plain n t r h = subst (Told S xs ls) (same-refusal (numbered n) r h) (record { other = λ l. refl; fault = λ l. absurd (omega (arith, l, leb→le n 10 t)) })
 
   -- each fault has one of the three numbers
@@ -199,37 +198,37 @@ module _ (S : Shape) (xs : List Float) (ls : List ℕ) where
       go (met_before o k q l s) = omega (arith, o)
       go (fallen o k new q l s) = omega (arith, o)
 
-  placed : Long S ls → (r : Refusal) → checked (order_tests S xs ls) ≡ Checked.Refused r → Told S xs ls r
+  placed : Long S ls → (r : Refusal) → checked (order_tests S xs ls) ≡ Err r → Told S xs ls r
   placed long r h =
       let f = fault-first S xs ls long r h in
       record { other = λ l. absurd (omega (arith, l, high r f)); fault = λ l. f }
 
   -- the listings' tests, and those after them
-  told-after : Long S ls → (ts : List Test) → ((r : Refusal) → checked ts ≡ Checked.Refused r → Told S xs ls r)
-      → (r : Refusal) → checked (order_tests S xs ls ++ ts) ≡ Checked.Refused r → Told S xs ls r
+  told-after : Long S ls → (ts : List Test) → ((r : Refusal) → checked ts ≡ Err r → Told S xs ls r)
+      → (r : Refusal) → checked (order_tests S xs ls ++ ts) ≡ Err r → Told S xs ls r
   told-after long ts later r h = go (checked (order_tests S xs ls)) refl (sym (checked-append (order_tests S xs ls) ts) ∙ h)
     where
-      go : (c : Checked) → checked (order_tests S xs ls) ≡ c → and_then c (checked ts) ≡ Checked.Refused r → Told S xs ls r
-      go Checked.Passed e h = later r h
-      go (Checked.Refused q) e h = placed long r (e ∙ h)
+      go : (c : Checked) → checked (order_tests S xs ls) ≡ c → and_then c (checked ts) ≡ Err r → Told S xs ls r
+      go (Ok _) e h = later r h
+      go (Err q) e h = placed long r (e ∙ h)
 
   one-after : Long S ls → (ts us : List Test) → as_one (checked ts) ≡ first_failed us → as_one (checked (order_tests S xs ls ++ ts)) ≡ first_failed (test 5 (listings_good S xs ls) ∷ us)
   unfolding checked
   one-after long ts us e =
       ap as_one (checked-append (order_tests S xs ls) ts) ∙ go (checked (order_tests S xs ls)) refl
-      ∙ ap (λ b. number_of (cond b (checked us) (Checked.Refused (numbered 5)))) (listings-sound S xs ls long)
+      ∙ ap (λ b. number_of (cond b (checked us) (Err (numbered 5)))) (listings-sound S xs ls long)
     where
       go : (c : Checked) → checked (order_tests S xs ls) ≡ c
-          → as_one (and_then c (checked ts)) ≡ number_of (cond (is_passed (checked (order_tests S xs ls))) (checked us) (Checked.Refused (numbered 5)))
-      go Checked.Passed q = e ∙ sym (ap (λ c. number_of (cond (is_passed c) (checked us) (Checked.Refused (numbered 5)))) q)
-      go (Checked.Refused r) q =
+          → as_one (and_then c (checked ts)) ≡ number_of (cond (is_passed (checked (order_tests S xs ls))) (checked us) (Err (numbered 5)))
+      go (Ok _) q = e ∙ sym (ap (λ c. number_of (cond (is_passed c) (checked us) (Err (numbered 5)))) q)
+      go (Err r) q =
           ap (λ b. cond b 5 r.number) (le-leb 11 r.number (high r (fault-first S xs ls long r q)))
-          ∙ sym (ap (λ c. number_of (cond (is_passed c) (checked us) (Checked.Refused (numbered 5)))) q)
+          ∙ sym (ap (λ c. number_of (cond (is_passed c) (checked us) (Err (numbered 5)))) q)
 
   module _ (ts : List Test) where
     -- the first four tests of a fit
-    told-four : (a b c d : Bool) → (b ≡ true → Long S ls) → ((r : Refusal) → checked ts ≡ Checked.Refused r → Told S xs ls r)
-        → (r : Refusal) → checked (test 1 a ∷ test 2 b ∷ test 3 c ∷ test 4 d ∷ order_tests S xs ls ++ ts) ≡ Checked.Refused r → Told S xs ls r
+    told-four : (a b c d : Bool) → (b ≡ true → Long S ls) → ((r : Refusal) → checked ts ≡ Err r → Told S xs ls r)
+        → (r : Refusal) → checked (test 1 a ∷ test 2 b ∷ test 3 c ∷ test 4 d ∷ order_tests S xs ls ++ ts) ≡ Err r → Told S xs ls r
     unfolding checked
     told-four false b c d long later r h = plain 1 tt r h
     told-four true false c d long later r h = plain 2 tt r h
@@ -247,7 +246,7 @@ module _ (S : Shape) (xs : List Float) (ls : List ℕ) where
     one-four true true true false long us e = refl
     one-four true true true true long us e = one-after (long refl) ts us e
 
-  told-six : (f : Bool) (r : Refusal) → checked (test 6 f ∷ []) ≡ Checked.Refused r → Told S xs ls r
+  told-six : (f : Bool) (r : Refusal) → checked (test 6 f ∷ []) ≡ Err r → Told S xs ls r
   unfolding checked
   told-six true r h = absurd (subst IsPassed h tt)
   told-six false r h = plain 6 tt r h
@@ -266,7 +265,7 @@ long_of S trees G h =
 
 -- the check of listings alone
 module _ (S : Shape) (xs : List Float) (ls : List ℕ) where
-  told-alone : (a b : Bool) → (b ≡ true → Long S ls) → (r : Refusal) → checked (test 1 a ∷ test 2 b ∷ order_tests S xs ls) ≡ Checked.Refused r → Told S xs ls r
+  told-alone : (a b : Bool) → (b ≡ true → Long S ls) → (r : Refusal) → checked (test 1 a ∷ test 2 b ∷ order_tests S xs ls) ≡ Err r → Told S xs ls r
   unfolding checked
   told-alone false b long r h = plain S xs ls 1 tt r h
   told-alone true false long r h = plain S xs ls 2 tt r h

@@ -1,15 +1,13 @@
 -- What a forest's means must be. A forest of one tree means what its tree predicts, a -0 told as +0, and one of two trees means the same whichever comes first. Out-of-bag
 -- means with no row in any bag are the forest's means. And a row that is in every bag has no out-of-bag mean: it is a NaN. Assumes nothing.
-use Rattle.std.specs.Prelude.{ℕ, zero, suc, ◌+◌, ◌-◌, ◌*◌, ◌<◌, ◌≡◌, refl, Bool, true, false, ◌&&◌, cond, List, [], ◌∷◌, map, length, get_or, replicate, T, leb, ltb, eqb, Float}
+use Rattle.std.specs.Prelude.{ℕ, zero, suc, ◌+◌, ◌-◌, ◌*◌, ◌<◌, ◌≡◌, refl, Bool, true, false, ◌&&◌, cond, List, [], ◌∷◌, map, length, get_or, replicate, T, leb, ltb, eqb, Float, Ok, Err}
 use Rattle.std.proofs.Common.{zero-add, le_refl, mul-pos, arith, sym, ap, ◌∙◌, subst, leb→le, le→leb, lt→ltb, eqb→eq}
 use Rattle.std.proofs.lemmas.List.{length-map, length-replicate}
 use Rattle.std.specs.Float.{nan, binary64}
 use Rattle.std.specs.Float.Ieee.{fits, add, div, of_int, of_bits}
 use Rattle.std.specs.Float.Ieee.Fits.{and_l, eq→eqb, add-fits}
 use Rattle.floats.specs.Sign.{plain, zero-add64, add-two64, div-one64}
-use Rattle.rules.specs.declared.Checked.{Checked}
 use Rattle.rules.specs.declared.Shape.{Shape}
-use Rattle.rules.specs.declared.Reply.{Reply}
 use Rattle.rules.specs.Words.{nought, float, from, every, along, along_from, put_if}
 use Rattle.rules.specs.Lent.{Columns, Entry, shortest, entry_at, entries_at, values_at}
 use Rattle.rules.specs.Checks.{Test, test, numbered, checked, number_of, first_failed, within, rows_in, trees_in, shape_in, values_long}
@@ -28,7 +26,7 @@ one_tree c = record { trees = 1; nodes = c; starts = 0 ∷ shortest c ∷ [] }
 
 pub record SameAsTree (S : Shape) (xs : List Float) (c : Columns) (out : List Float) : Type 0 where
   pub answer : (forest_means S xs (one_tree c) out).answer ≡ (predict_tree S xs c out).answer
-  pub means : (predict_tree S xs c out).answer ≡ Reply.Done → (forest_means S xs (one_tree c) out).rooms ≡ map plain (predict_tree S xs c out).rooms
+  pub means : (predict_tree S xs c out).answer ≡ Ok tt → (forest_means S xs (one_tree c) out).rooms ≡ map plain (predict_tree S xs c out).rooms
 
 abbrev pub OneTree : Type 0
 OneTree = (S : Shape) (xs : List Float) (c : Columns) (out : List Float) → Binary64 c.value → SameAsTree S xs c out
@@ -37,7 +35,7 @@ OneTree = (S : Shape) (xs : List Float) (c : Columns) (out : List Float) → Bin
 abbrev pub TwoTrees : Type 0
 TwoTrees =
     (S : Shape) (xs : List Float) (F G : ForestTable) (t u : List Entry) → trees_of F ≡ t ∷ u ∷ [] → trees_of G ≡ u ∷ t ∷ [] → Binary64 F.nodes.value → (out : List Float)
-    → (forest_means S xs F out).answer ≡ Reply.Done → (forest_means S xs G out).answer ≡ Reply.Done → forest_means S xs F out ≡ forest_means S xs G out
+    → (forest_means S xs F out).answer ≡ Ok tt → (forest_means S xs G out).answer ≡ Ok tt → forest_means S xs F out ≡ forest_means S xs G out
 
 abbrev pub InNoBag : Type 0
 InNoBag =
@@ -48,7 +46,7 @@ abbrev pub InEveryBag : Type 0
 InEveryBag =
     (S : Shape) (xs : List Float) (counts : List ℕ) (F : ForestTable) (out : List Float) (i : ℕ) → i < S.rows
     → ((t : ℕ) → t < F.trees → 0 < get_or counts (t * S.rows + i) 0)
-    → (out_of_bag_means S xs counts F out).answer ≡ Reply.Done → get_or (out_of_bag_means S xs counts F out).rooms i nan ≡ nan
+    → (out_of_bag_means S xs counts F out).answer ≡ Ok tt → get_or (out_of_bag_means S xs counts F out).rooms i nan ≡ nan
 
 -- ---- one tree
 
@@ -98,7 +96,7 @@ tests_same S xs c out =
     λ i. first_failed (test 1 (and-true (shape_in S) i) ∷ test 2 (values_long S xs) ∷ test 6 (and-true (eqb (length out) S.rows) i) ∷ test 8 (one-tree-good S.features c i) ∷ [])
 
 -- what a reader leaves, where it is not refused
-pub reads-done : (k : ℕ) (new old : List Float) → (reads k new old).answer ≡ Reply.Done → k ≡ 0
+pub reads-done : (k : ℕ) (new old : List Float) → (reads k new old).answer ≡ Ok tt → k ≡ 0
 unfolding reads
 reads-done zero new old h = refl
 reads-done (suc k) new old h = let z : ◌≡◌ {A = ℕ} 0 1 = cc in absurd (omega arith)
@@ -178,7 +176,7 @@ counts-pass : (b : Bool) (counts : List ℕ) (n : ℕ) (ts : List Test) → (T b
 unfolding checked
 counts-pass true counts n ts some long =
     λ i. number_of (cond (is_true (ltb 0 (length counts)) (lt→ltb 0 (length counts) (subst (λ k. 0 < k) (sym long) (some tt))) i)
-    (cond (is_true (eqb (length counts) n) (eq→eqb long) i) (checked ts) (Checked.Refused (numbered 10))) (Checked.Refused (numbered 9)))
+    (cond (is_true (eqb (length counts) n) (eq→eqb long) i) (checked ts) (Err (numbered 10))) (Err (numbered 9)))
 counts-pass false counts n ts some long = refl
 
 pub in-no-bag : InNoBag

@@ -3,15 +3,13 @@
 -- columns has at least as many places.
 -- The same of a forest, by the columns that it leaves: at each tree's place its root mass, words and searches; and the starts tell trees that lie one behind another,
 -- the sum of whose nodes is within the room. It holds of a forest because each of its trees is what the fit of that tree alone gives. Assumes nothing.
-use Rattle.std.specs.Prelude.{ℕ, zero, suc, ◌+◌, ◌-◌, ◌*◌, ◌<◌, ◌≤◌, ◌≡◌, refl, List, ◌++◌, map, length, get_or, T, eqb}
+use Rattle.std.specs.Prelude.{ℕ, zero, suc, ◌+◌, ◌-◌, ◌*◌, ◌<◌, ◌≤◌, ◌≡◌, refl, List, ◌++◌, map, length, get_or, T, eqb, Ok}
 use Rattle.std.proofs.Common.{add-zero, zero-add, arith, sym, ap, ◌∙◌, subst, append-nil, drop_of_length-le, eqb→eq}
 use Rattle.std.proofs.lemmas.Simd.{map-map}
 use Rattle.std.proofs.lemmas.List.{length-map}
 use Rattle.std.specs.Float.{nan}
 use Rattle.rules.specs.declared.Totals.{Totals}
 use Rattle.rules.specs.declared.Report.{Report}
-use Rattle.rules.specs.declared.TreeAnswer.{TreeAnswer}
-use Rattle.rules.specs.declared.ForestAnswer.{ForestAnswer}
 use Rattle.rules.specs.Words.{from, front, total}
 use Rattle.rules.specs.Totals.{empty, take_in}
 use Rattle.rules.specs.Lent.{Data, Given, OneTree, Reports, WaitingForm, TreeRooms, ForestRooms, shortest_of_eight, mass_in}
@@ -47,7 +45,7 @@ RootByNumber = (F : OneTree) (D : Data) → (root F D).totals ≡ totals_to (giv
 
 abbrev pub RootMass : Type 1
 RootMass =
-    (W : Type 0) (K : WaitingForm W) (C : TreeCall) (R : TreeRooms W) (r : Report) → (fit_tree K C R).answer ≡ TreeAnswer.Grown r
+    (W : Type 0) (K : WaitingForm W) (C : TreeCall) (R : TreeRooms W) (r : Report) → (fit_tree K C R).answer ≡ Ok r
     → r.mass ≡ (totals_to C.given C.shape.rows).mass
 
 -- of a tree that reports r, over so many features
@@ -56,22 +54,22 @@ pub record Counted (features : ℕ) (r : Report) : Type 0 where
   pub searches : r.searches ≤ r.nodes
 
 abbrev pub TreeNumbers : Type 1
-TreeNumbers = (W : Type 0) (K : WaitingForm W) (C : TreeCall) (R : TreeRooms W) (r : Report) → (fit_tree K C R).answer ≡ TreeAnswer.Grown r → Counted C.shape.features r
+TreeNumbers = (W : Type 0) (K : WaitingForm W) (C : TreeCall) (R : TreeRooms W) (r : Report) → (fit_tree K C R).answer ≡ Ok r → Counted C.shape.features r
 
 abbrev pub TreeRoom : Type 1
 TreeRoom =
-    (W : Type 0) (K : WaitingForm W) (C : TreeCall) (R : TreeRooms W) (r : Report) → Binary64 C.given.inputs.values → (fit_tree K C R).answer ≡ TreeAnswer.Grown r
+    (W : Type 0) (K : WaitingForm W) (C : TreeCall) (R : TreeRooms W) (r : Report) → Binary64 C.given.inputs.values → (fit_tree K C R).answer ≡ Ok r
     → (r.nodes ≤ room_for (one_tree_of C)) × (room_for (one_tree_of C) ≤ shortest_of_eight R.nodes R.behind)
 
 -- the same of a forest, by what its columns hold at each tree's place
 abbrev pub ForestMass : Type 1
 ForestMass =
-    (W : Type 0) (K : WaitingForm W) (C : ForestCall) (R : ForestRooms W) → (fit_forest K C R).answer ≡ ForestAnswer.Grown → (t : ℕ) → t < C.trees
+    (W : Type 0) (K : WaitingForm W) (C : ForestCall) (R : ForestRooms W) → (fit_forest K C R).answer ≡ Ok tt → (t : ℕ) → t < C.trees
     → get_or (fit_forest K C R).rooms.reports.mass t nan ≡ (totals_to (tree_call_at C t).given C.shape.rows).mass
 
 abbrev pub ForestNumbers : Type 1
 ForestNumbers =
-    (W : Type 0) (K : WaitingForm W) (C : ForestCall) (R : ForestRooms W) → (fit_forest K C R).answer ≡ ForestAnswer.Grown → (t : ℕ) → t < C.trees
+    (W : Type 0) (K : WaitingForm W) (C : ForestCall) (R : ForestRooms W) → (fit_forest K C R).answer ≡ Ok tt → (t : ℕ) → t < C.trees
     → Counted C.shape.features (report_at (fit_forest K C R).rooms.reports t)
 
 -- the trees lie one behind another from the first place on, each as long as the node column says, all of them together within the room
@@ -83,7 +81,7 @@ pub record Lies (trees room : ℕ) (starts nodes : List ℕ) : Type 0 where
 
 abbrev pub ForestRoom : Type 1
 ForestRoom =
-    (W : Type 0) (K : WaitingForm W) (C : ForestCall) (R : ForestRooms W) → Binary64 C.given.inputs.values → (fit_forest K C R).answer ≡ ForestAnswer.Grown
+    (W : Type 0) (K : WaitingForm W) (C : ForestCall) (R : ForestRooms W) → Binary64 C.given.inputs.values → (fit_forest K C R).answer ≡ Ok tt
     → Lies C.trees (shortest_of_eight R.nodes R.behind) (fit_forest K C R).rooms.starts (fit_forest K C R).rooms.reports.nodes
 
 -- ---- the root

@@ -5,18 +5,11 @@ use Rattle.std.specs.Prelude.{ℕ, ◌≡◌, Bool, List, Float}
 use Rattle.std.proofs.Common.{sym, ◌∙◌}
 use Rattle.rules.specs.declared.Shape.{Shape}
 use Rattle.rules.specs.declared.Scale.{Scale}
-use Rattle.rules.specs.declared.TreeAnswer.{TreeAnswer}
-use Rattle.rules.specs.declared.ForestAnswer.{ForestAnswer}
-use Rattle.rules.specs.declared.Reply.{Reply}
-use Rattle.rules.specs.declared.ErrorReply.{ErrorReply}
-use Rattle.rules.specs.declared.NodeReply.{NodeReply}
-use Rattle.rules.specs.declared.SizeReply.{SizeReply}
-use Rattle.rules.specs.declared.ModelReply.{ModelReply}
+use Rattle.rules.specs.Results.{TreeAnswer, ForestAnswer, Reply, ErrorReply, NodeReply, SizeReply, ModelReply, Checked}
 use Rattle.rules.specs.declared.TreeSettings.{TreeSettings}
 use Rattle.rules.specs.declared.ForestSettings.{ForestSettings}
 use Rattle.rules.specs.declared.TreeTold.{TreeTold}
 use Rattle.rules.specs.declared.Refusal.{Refusal}
-use Rattle.rules.specs.declared.Checked.{Checked}
 use Rattle.rules.specs.declared.ErrorTold.{ErrorTold}
 use Rattle.rules.specs.declared.NodeTold.{NodeTold}
 use Rattle.rules.specs.declared.SizeTold.{SizeTold}

@@ -1,7 +1,7 @@
 -- Demand 3's corollary. Two forest fits that both answer and differ in one row's target alone give that row the same out-of-bag mean, read with the fits' own
 -- counts and features; neither reading is refused. It holds because the trees that the mean is taken over leave the row out. Assumes nothing.
 use Prim.Native.Nat.{ℕ, zero, suc, ◌+◌, ◌*◌, ◌<◌, ◌≤◌}
-use Rattle.std.proofs.Common.{mul-pos, zero-add, sym, ◌∙◌, subst, get_or-take, lt→ltb, le→leb}
+use Rattle.std.proofs.Common.{mul-pos, zero-add, sym, ◌∙◌, subst, get_or-take, lt→ltb, le→leb, Ok}
 use Rattle.std.specs.Prelude.{◌≡◌, ◌≢◌, Bool, ◌&&◌, ◌||◌, length, drop, T, eqb, Float}
 use Rattle.std.proofs.Math.Path.{refl, ap}
 use Rattle.std.proofs.Math.Bool.{true, false, true≢false}
@@ -11,8 +11,7 @@ use Rattle.std.proofs.Math.Seq.{get_or-drop}
 use Rattle.std.proofs.Math.Dec.{ltb, eqb→eq, eqb_refl}
 use Rattle.std.specs.Float.Ieee.{nan, lt}
 use Rattle.std.specs.Float.Ieee.Fits.{and_i}
-use Rattle.rules.specs.declared.ForestAnswer.{ForestAnswer}
-use Rattle.rules.specs.declared.Reply.{Reply}
+use Rattle.rules.specs.Results.{Reply}
 use Rattle.rules.specs.Words.{nought, from, put_if}
 use Rattle.rules.specs.Lent.{WaitingForm, ForestRooms, Outcome, values_at, unweighted, kept, count_in, kept_in}
 use Rattle.rules.specs.Checks.{first_failed}
@@ -61,14 +60,14 @@ own_means K C R out =
     out_of_bag_means C.shape C.given.inputs.values C.given.counts (table_after C (fit_forest K C R).rooms) out
 
 pub record SameMean (i : ℕ) (m m' : Outcome Reply (List Float)) : Type 0 where
-  pub done : m.answer ≡ Reply.Done
-  pub done' : m'.answer ≡ Reply.Done
+  pub done : m.answer ≡ Ok tt
+  pub done' : m'.answer ≡ Ok tt
   pub mean : get_or m.rooms i nan ≡ get_or m'.rooms i nan
 
 abbrev pub OwnTarget : Type 1
 OwnTarget =
     (W : Type 0) (K : WaitingForm W) (C : ForestCall) (ys : List Float) (i : ℕ) → i < C.shape.rows → ButOne i C.given.inputs.targets ys
-    → Binary64 C.given.inputs.values → (R R' : ForestRooms W) → (fit_forest K C R).answer ≡ ForestAnswer.Grown → (fit_forest K (retarget C ys) R').answer ≡ ForestAnswer.Grown
+    → Binary64 C.given.inputs.values → (R R' : ForestRooms W) → (fit_forest K C R).answer ≡ Ok tt → (fit_forest K (retarget C ys) R').answer ≡ Ok tt
     → (out out' : List Float) → length out ≡ C.shape.rows → length out' ≡ C.shape.rows
     → SameMean i (own_means K C R out) (own_means K (retarget C ys) R' out')
 
@@ -124,7 +123,7 @@ module _ (C : ForestCall) (ys : List Float) (i : ℕ) (inside : i < C.shape.rows
 eq_test : (a b : ℕ) → a ≡ b → T (eqb a b)
 eq_test a b q = subst (λ x. T (eqb a x)) q (eqb_refl a)
 
-module _ {W : Type 0} (K : WaitingForm W) (C : ForestCall) (R : ForestRooms W) (held : Binary64 C.given.inputs.values) (h : (fit_forest K C R).answer ≡ ForestAnswer.Grown) where
+module _ {W : Type 0} (K : WaitingForm W) (C : ForestCall) (R : ForestRooms W) (held : Binary64 C.given.inputs.values) (h : (fit_forest K C R).answer ≡ (Ok tt)) where
   a : ForestAnswered K C R
   a = forest-answered K C R h
 
@@ -158,7 +157,7 @@ module _ {W : Type 0} (K : WaitingForm W) (C : ForestCall) (R : ForestRooms W) (
   abbrev mean : ℕ → Float
   mean i = out_of_bag_mean C.shape C.given.inputs.values C.given.counts (table_after C (fit_forest K C R).rooms) i
 
-  pub own-done : (out : List Float) → length out ≡ C.shape.rows → (own_means K C R out).answer ≡ Reply.Done
+  pub own-done : (out : List Float) → length out ≡ C.shape.rows → (own_means K C R out).answer ≡ Ok tt
   unfolding out_of_bag_means reads
   own-done out o = λ x. (reads (reads-well out o x) (map mean (from 0 C.shape.rows)) out).answer
 

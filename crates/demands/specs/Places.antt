@@ -1,6 +1,6 @@
 -- Walks along a listing by places: what each of its tests says, how a column ends, and that a row twice leaves another out. Assumes nothing.
 use Prim.Native.Nat.{ℕ, zero, suc, ◌+◌, ◌-◌, ◌<◌, ◌≤◌}
-use Rattle.std.proofs.Common.{zero-add, add-zero, le_refl, not-suc-le-zero, sym, ap, ◌∙◌, subst, true≢false, eq-eqb, ne_eqb, eqb-true, ltb-true, ltb-false}
+use Rattle.std.proofs.Common.{zero-add, add-zero, le_refl, not-suc-le-zero, sym, ap, ◌∙◌, subst, true≢false, eq-eqb, ne_eqb, eqb-true, ltb-true, ltb-false, Ok, Err}
 use Rattle.std.proofs.Math.Decide.{ℕ_discrete}
 use native.Mathlib.Omega.{arith}
 use Rattle.std.specs.Prelude.{◌≡◌, ◌≢◌, Bool, false, not, ◌||◌, cond, ltb, eqb, Float}
@@ -10,7 +10,7 @@ use mathlib.Core.List.{List, [], ◌∷◌}
 use Rattle.std.proofs.Math.ListN.{length, get_or}
 use Rattle.std.specs.Float.Ieee.{lt}
 use Rattle.rules.specs.declared.Refusal.{Refusal}
-use Rattle.rules.specs.declared.Checked.{Checked}
+use Rattle.rules.specs.Results.{Checked}
 use Rattle.rules.specs.Words.{from, joined, member, total}
 use Rattle.rules.specs.Checks.{Test, checked}
 use Rattle.rules.specs.Listing.{falls, lacking_from, lowest_lacking, fault, tests_from}
@@ -167,8 +167,8 @@ module _ (rows : ℕ) (value : ℕ → Float) (column lacking : ℕ) (w : List �
     pub row : r.row ≡ cond (eqb r.number 12) lacking 0
 
   abbrev pub Ends : ℕ → Checked → Type 0
-  Ends place Checked.Passed = (p : ℕ) → place ≤ p → p < length w → InOrder rows value w p
-  Ends place (Checked.Refused r) = FaultIn place r
+  Ends place (Ok _) = (p : ℕ) → place ≤ p → p < length w → InOrder rows value w p
+  Ends place (Err r) = FaultIn place r
 
   split : (place p : ℕ) → place ≤ p → InOrder rows value w place → (suc place ≤ p → InOrder rows value w p) → InOrder rows value w p
   split place p h here later = go (ℕ_discrete place p)
@@ -178,8 +178,8 @@ module _ (rows : ℕ) (value : ℕ → Float) (column lacking : ℕ) (w : List �
       go (no d) = later (omega (arith, h, d))
 
   widen : (place : ℕ) (c : Checked) → InOrder rows value w place → Ends (suc place) c → Ends place c
-  widen place Checked.Passed here e = λ p a b. split place p a here (λ l. e p l b)
-  widen place (Checked.Refused r) here e =
+  widen place (Ok _) here e = λ p a b. split place p a here (λ l. e p l b)
+  widen place (Err r) here e =
       record {
         part = e.part;
         onward = omega (arith, e.onward);
@@ -210,8 +210,8 @@ module _ (rows : ℕ) (value : ℕ → Float) (column lacking : ℕ) (w : List �
 
       go : (a : Bool) → ltb k rows ≡ a → (b : Bool) → member k before ≡ b → (c : Bool) → falls value before k ≡ c
           → Ends (suc place) (checked (tests_from rows value column lacking (k ∷ before) (suc place) l))
-          → Ends place (cond a (cond (not b) (cond (not c) (checked (tests_from rows value column lacking (k ∷ before) (suc place) l)) (Checked.Refused (fault 13 column place 0)))
-          (Checked.Refused (fault 12 column place lacking))) (Checked.Refused (fault 11 column place 0)))
+          → Ends place (cond a (cond (not b) (cond (not c) (checked (tests_from rows value column lacking (k ∷ before) (suc place) l)) (Err (fault 13 column place 0)))
+          (Err (fault 12 column place lacking))) (Err (fault 11 column place 0)))
       go false ea b eb c ec e = at 11 0 (too_large refl (subst (λ n. rows ≤ n) (sym is) (ltb-false k rows ea))) refl
       go true ea true eb c ec e =
           let (q, s) = earlier before place k l v (member-at k before eb) in at 12 lacking (met_before refl (below ea) _ q s) refl
@@ -229,27 +229,27 @@ pub record ColumnOf (f : ℕ → List Test) (a n : ℕ) (r : Refusal) : Type 0 w
   pub column : ℕ
   pub onward : a ≤ column
   pub below : column < a + n
-  pub here : checked (f column) ≡ Checked.Refused r
-  pub earlier : (j : ℕ) → a ≤ j → j < column → checked (f j) ≡ Checked.Passed
+  pub here : checked (f column) ≡ Err r
+  pub earlier : (j : ℕ) → a ≤ j → j < column → checked (f j) ≡ Ok tt
 
 abbrev pub Columns : (ℕ → List Test) → ℕ → ℕ → Checked → Type 0
-Columns f a n Checked.Passed = (j : ℕ) → a ≤ j → j < a + n → checked (f j) ≡ Checked.Passed
-Columns f a n (Checked.Refused r) = ColumnOf f a n r
+Columns f a n (Ok _) = (j : ℕ) → a ≤ j → j < a + n → checked (f j) ≡ Ok tt
+Columns f a n (Err r) = ColumnOf f a n r
 
 pub columns-end : (f : ℕ → List Test) (a n : ℕ) → Columns f a n (checked (joined f (from a n)))
 unfolding joined from checked
 columns-end f a zero = λ j x y. absurd (omega (arith, x, y))
 columns-end f a (suc n) = subst (Columns f a (suc n)) (sym (checked-append (f a) (joined f (from (suc a) n)))) (go (checked (f a)) refl (checked (joined f (from (suc a) n))) (columns-end f (suc a) n))
   where
-    split : (j : ℕ) → a ≤ j → checked (f a) ≡ Checked.Passed → (suc a ≤ j → checked (f j) ≡ Checked.Passed) → Dec (a ≡ j) → checked (f j) ≡ Checked.Passed
+    split : (j : ℕ) → a ≤ j → checked (f a) ≡ Ok tt → (suc a ≤ j → checked (f j) ≡ (Ok tt)) → Dec (a ≡ j) → checked (f j) ≡ Ok tt
     split j h e later (yes q) = ap (λ i. checked (f i)) (sym q) ∙ e
     split j h e later (no d) = later (omega (arith, h, d))
 
     go : (c : Checked) → checked (f a) ≡ c → (d : Checked) → Columns f (suc a) n d → Columns f a (suc n) (and_then c d)
-    go (Checked.Refused r) e d k =
+    go (Err r) e d k =
         record { column = a; onward = le_refl a; below = omega arith; here = e; earlier = λ j x y. absurd (omega (arith, x, y)) }
-    go Checked.Passed e Checked.Passed k = λ j x y. split j x e (λ l. k j l (omega (arith, y))) (ℕ_discrete a j)
-    go Checked.Passed e (Checked.Refused r) k =
+    go (Ok _) e (Ok _) k = λ j x y. split j x e (λ l. k j l (omega (arith, y))) (ℕ_discrete a j)
+    go (Ok _) e (Err r) k =
         record {
           column = k.column;
           onward = omega (arith, k.onward);

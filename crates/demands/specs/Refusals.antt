@@ -1,21 +1,15 @@
 -- Demand 1: in which order each call makes its checks, and what a refusal leaves. A fit that is refused before growth leaves every lent room as it was, and tells what the
 -- first test that failed tells. One that meets a bad draw leaves every lent slice as long as it was, with 0 at each place. Each reader that is refused, and the writer of model files, leaves its
 -- result room as it was, and tells the first test that failed; a reader, a writer or a check that does not refuse has passed all its tests. Assumes nothing.
-use Rattle.std.specs.Prelude.{ℕ, zero, suc, ◌<◌, ◌≤◌, ◌≡◌, refl, Bool, true, false, cond, List, [], ◌∷◌, ◌++◌, map, length, get_or, ltb, Float}
+use Rattle.std.specs.Prelude.{ℕ, zero, suc, ◌<◌, ◌≤◌, ◌≡◌, refl, Bool, true, false, cond, List, [], ◌∷◌, ◌++◌, map, length, get_or, ltb, Float, Ok, Err, Some, None}
 use Rattle.std.proofs.Common.{arith, ap, ◌∙◌, subst}
 use Rattle.std.proofs.lemmas.List.{map-append, length-map}
 use Rattle.rules.specs.declared.Shape.{Shape}
 use Rattle.rules.specs.declared.Scale.{Scale}
 use Rattle.rules.specs.declared.Place.{Place}
 use Rattle.rules.specs.declared.Refusal.{Refusal}
-use Rattle.rules.specs.declared.Checked.{Checked}
-use Rattle.rules.specs.declared.TreeAnswer.{TreeAnswer}
-use Rattle.rules.specs.declared.ForestAnswer.{ForestAnswer}
-use Rattle.rules.specs.declared.Reply.{Reply}
+use Rattle.rules.specs.Results.{Checked, TreeAnswer, ForestAnswer, Reply, ErrorReply, NodeReply, SizeReply}
 use Rattle.rules.specs.declared.Figure.{Figure}
-use Rattle.rules.specs.declared.ErrorReply.{ErrorReply}
-use Rattle.rules.specs.declared.NodeReply.{NodeReply}
-use Rattle.rules.specs.declared.SizeReply.{SizeReply}
 use Rattle.rules.specs.Words.{nought, filled, from, joined}
 use Rattle.rules.specs.Lent.{Columns, Behind, Reports, WaitingForm, WaitingRoom, waiting_room, Work, TreeRooms, ForestRooms, Outcome, cell, listing_at, shortest, entry_at, zero_columns, zero_behind, zero_reports, zero_work}
 use Rattle.rules.specs.Checks.{Test, test, checked, first_failed, replies}
@@ -27,6 +21,7 @@ use Rattle.rules.specs.Reading.{reads, predict_tests, predict_tree, mean_tests, 
 use Rattle.rules.specs.Forest.{ForestCall, Forest, stopped, grown_all, grown_forest, forest_tests, forest_done, forest_ends, fit_forest}
 use Rattle.rules.specs.Model.{sized, model_size, write_tests, wrote, write_model}
 use Rattle.rules.specs.OutOfBag.{out_tests, out_of_bag_means, errs, error_tests, out_of_bag_error}
+use Rattle.rules.specs.declared.FitError.{FitError}
 
 -- ---- the statements
 
@@ -53,8 +48,8 @@ pub record OrderOfChecks {W : Type 0} (K : WaitingForm W) : Type 0 where
 
 abbrev pub TreeRefused : Type 1
 TreeRefused =
-    (W : Type 0) (K : WaitingForm W) (C : TreeCall) (R : TreeRooms W) (r : Refusal) → (fit_tree K C R).answer ≡ TreeAnswer.Refused r
-    → ((fit_tree K C R).rooms ≡ R) × (checked (tree_tests K C R) ≡ Checked.Refused r)
+    (W : Type 0) (K : WaitingForm W) (C : TreeCall) (R : TreeRooms W) (r : Refusal) → (fit_tree K C R).answer ≡ Err (FitError.Refused r)
+    → ((fit_tree K C R).rooms ≡ R) × (checked (tree_tests K C R) ≡ Err r)
 
 -- a slice is as long as it was, and x stands at each of its places, whatever a place beyond them is taken to hold
 abbrev pub Everywhere : {A : Type 0} → A → List A → List A → Type 0
@@ -94,12 +89,12 @@ pub record TreeZero (before after : TreeRooms WaitingRoom) : Type 0 where
   pub work : WorkZero before.work after.work
 
 abbrev pub TreeBad : Type 0
-TreeBad = (C : TreeCall) (R : TreeRooms WaitingRoom) (d : Place) → (fit_tree waiting_room C R).answer ≡ TreeAnswer.BadDraw d → TreeZero R (fit_tree waiting_room C R).rooms
+TreeBad = (C : TreeCall) (R : TreeRooms WaitingRoom) (d : Place) → (fit_tree waiting_room C R).answer ≡ Err (FitError.BadDraw d) → TreeZero R (fit_tree waiting_room C R).rooms
 
 abbrev pub ForestRefused : Type 1
 ForestRefused =
-    (W : Type 0) (K : WaitingForm W) (C : ForestCall) (R : ForestRooms W) (r : Refusal) → (fit_forest K C R).answer ≡ ForestAnswer.Refused r
-    → ((fit_forest K C R).rooms ≡ R) × (checked (forest_tests K C R) ≡ Checked.Refused r)
+    (W : Type 0) (K : WaitingForm W) (C : ForestCall) (R : ForestRooms W) (r : Refusal) → (fit_forest K C R).answer ≡ Err (FitError.Refused r)
+    → ((fit_forest K C R).rooms ≡ R) × (checked (forest_tests K C R) ≡ Err r)
 
 pub record ForestZero (before after : ForestRooms WaitingRoom) : Type 0 where
   pub nodes : NodesZero before.nodes after.nodes
@@ -109,36 +104,36 @@ pub record ForestZero (before after : ForestRooms WaitingRoom) : Type 0 where
   pub work : WorkZero before.work after.work
 
 abbrev pub ForestBad : Type 0
-ForestBad = (C : ForestCall) (R : ForestRooms WaitingRoom) (d : Place) → (fit_forest waiting_room C R).answer ≡ ForestAnswer.BadDraw d → ForestZero R (fit_forest waiting_room C R).rooms
+ForestBad = (C : ForestCall) (R : ForestRooms WaitingRoom) (d : Place) → (fit_forest waiting_room C R).answer ≡ Err (FitError.BadDraw d) → ForestZero R (fit_forest waiting_room C R).rooms
 
 -- not refused before growth
 abbrev pub Unrefused : TreeAnswer → Type 0
-Unrefused (TreeAnswer.Refused r) = ⊥
-Unrefused (TreeAnswer.BadDraw d) = Unit {0}
-Unrefused (TreeAnswer.Grown r) = Unit {0}
+Unrefused (Err (FitError.Refused r)) = ⊥
+Unrefused (Err (FitError.BadDraw d)) = Unit {0}
+Unrefused (Ok r) = Unit {0}
 
 abbrev pub ForestUnrefused : ForestAnswer → Type 0
-ForestUnrefused (ForestAnswer.Refused r) = ⊥
-ForestUnrefused (ForestAnswer.BadDraw d) = Unit {0}
-ForestUnrefused ForestAnswer.Grown = Unit {0}
+ForestUnrefused (Err (FitError.Refused r)) = ⊥
+ForestUnrefused (Err (FitError.BadDraw d)) = Unit {0}
+ForestUnrefused (Ok _) = Unit {0}
 
 -- a call goes by these tests: it refuses by the first that fails, and only where one does
 abbrev pub By : List Test → Reply → Type 0
-By ts (Reply.Refused n) = (first_failed ts ≡ n) × (1 ≤ n)
-By ts Reply.Done = first_failed ts ≡ 0
+By ts (Err n) = (first_failed ts ≡ n) × (1 ≤ n)
+By ts (Ok _) = first_failed ts ≡ 0
 
 abbrev pub ErrorBy : List Test → ErrorReply → Type 0
-ErrorBy ts (ErrorReply.Refused n) = (first_failed ts ≡ n) × (1 ≤ n)
-ErrorBy ts (ErrorReply.Error f) = first_failed ts ≡ 0
+ErrorBy ts (Err n) = (first_failed ts ≡ n) × (1 ≤ n)
+ErrorBy ts (Ok f) = first_failed ts ≡ 0
 
 abbrev pub NodeBy : List Test → NodeReply → Type 0
-NodeBy ts (NodeReply.Refused n) = (first_failed ts ≡ n) × (1 ≤ n)
-NodeBy ts NodeReply.Missing = first_failed ts ≡ 0
-NodeBy ts (NodeReply.Read m) = first_failed ts ≡ 0
+NodeBy ts (Err n) = (first_failed ts ≡ n) × (1 ≤ n)
+NodeBy ts (Ok None) = first_failed ts ≡ 0
+NodeBy ts (Ok (Some m)) = first_failed ts ≡ 0
 
 abbrev pub SizeBy : List Test → SizeReply → Type 0
-SizeBy ts (SizeReply.Refused n) = (first_failed ts ≡ n) × (1 ≤ n)
-SizeBy ts (SizeReply.Bytes n) = first_failed ts ≡ 0
+SizeBy ts (Err n) = (first_failed ts ≡ n) × (1 ≤ n)
+SizeBy ts (Ok n) = first_failed ts ≡ 0
 
 pub record CheckRefused : Type 0 where
   pub listings : (S : Shape) (xs : List Float) (ls : List ℕ) → check_listings S xs ls ≡ checked (listing_tests S xs ls)
@@ -150,7 +145,7 @@ pub record CheckRefused : Type 0 where
 
 -- and one that is lent `out` leaves it as it was where it refuses
 abbrev pub Untouched : List Test → List Float → Outcome Reply (List Float) → Type 0
-Untouched ts out o = By ts o.answer × ((n : ℕ) → o.answer ≡ Reply.Refused n → o.rooms ≡ out)
+Untouched ts out o = By ts o.answer × ((n : ℕ) → o.answer ≡ Err n → o.rooms ≡ out)
 
 pub record ReaderRefused : Type 0 where
   pub predictions : (S : Shape) (xs : List Float) (c : Columns) (out : List Float) → Untouched (predict_tests S xs c out) out (predict_tree S xs c out)
@@ -159,7 +154,7 @@ pub record ReaderRefused : Type 0 where
   pub tree_importances : (features : ℕ) (by : Scale) (c : Columns) (out : List Float) → Untouched (tree_importance_tests features c out) out (tree_importances features by c out)
   pub forest_importances : (features : ℕ) (T : ForestTable) (out : List Float) → Untouched (forest_importance_tests features T out) out (forest_importances features T out)
   pub model : (features : ℕ) (T : ForestTable) (out : List ℕ)
-      → SizeBy (write_tests features T out) (write_model features T out).answer × ((n : ℕ) → (write_model features T out).answer ≡ SizeReply.Refused n → (write_model features T out).rooms ≡ out)
+      → SizeBy (write_tests features T out) (write_model features T out).answer × ((n : ℕ) → (write_model features T out).answer ≡ Err n → (write_model features T out).rooms ≡ out)
 
 -- ---- the order
 
@@ -253,23 +248,23 @@ unfolding fit_tree tree_ends tree_done
 tree-refused W K C R r h = go (checked (tree_tests K C R)) (grown_tree C) h
   where
     asked : TreeAnswer → Checked
-    asked (TreeAnswer.Refused r) = Checked.Refused r
-    asked (TreeAnswer.BadDraw d) = Checked.Passed
-    asked (TreeAnswer.Grown t) = Checked.Passed
+    asked (Err (FitError.Refused r)) = Err r
+    asked (Err (FitError.BadDraw d)) = Ok tt
+    asked (Ok t) = Ok tt
 
-    go : (k : Checked) (o : Out Tree) → (tree_ends K k o R).answer ≡ TreeAnswer.Refused r → ((tree_ends K k o R).rooms ≡ R) × (k ≡ Checked.Refused r)
-    go Checked.Passed (bad s) h = absurd (subst Unrefused h tt)
-    go Checked.Passed (ok t) h = absurd (subst Unrefused h tt)
-    go (Checked.Refused q) o h = (refl, ap asked h)
+    go : (k : Checked) (o : Out Tree) → (tree_ends K k o R).answer ≡ Err (FitError.Refused r) → ((tree_ends K k o R).rooms ≡ R) × (k ≡ Err r)
+    go (Ok _) (bad s) h = absurd (subst Unrefused h tt)
+    go (Ok _) (ok t) h = absurd (subst Unrefused h tt)
+    go (Err q) o h = (refl, ap asked h)
 
 pub tree-bad : TreeBad
 unfolding fit_tree tree_ends tree_done
 tree-bad C R d h = go (checked (tree_tests waiting_room C R)) (grown_tree C) h
   where
-    go : (k : Checked) (o : Out Tree) → (tree_ends waiting_room k o R).answer ≡ TreeAnswer.BadDraw d → TreeZero R (tree_ends waiting_room k o R).rooms
-    go Checked.Passed (bad s) h = record { nodes = nodes-zero R.nodes; behind = behind-zero R.behind; work = work-zero R.work }
-    go Checked.Passed (ok t) h = let z : ◌≡◌ {A = ℕ} 0 1 = cc in absurd (omega arith)
-    go (Checked.Refused q) o h = let z : ◌≡◌ {A = ℕ} 0 1 = cc in absurd (omega arith)
+    go : (k : Checked) (o : Out Tree) → (tree_ends waiting_room k o R).answer ≡ Err (FitError.BadDraw d) → TreeZero R (tree_ends waiting_room k o R).rooms
+    go (Ok _) (bad s) h = record { nodes = nodes-zero R.nodes; behind = behind-zero R.behind; work = work-zero R.work }
+    go (Ok _) (ok t) h = let z : ◌≡◌ {A = ℕ} 0 1 = cc in absurd (omega arith)
+    go (Err q) o h = let z : ◌≡◌ {A = ℕ} 0 1 = cc in absurd (omega arith)
 
 -- ---- a forest
 
@@ -278,21 +273,21 @@ unfolding fit_forest forest_ends forest_done
 forest-refused W K C R r h = go (checked (forest_tests K C R)) (grown_forest C) h
   where
     asked : ForestAnswer → Checked
-    asked (ForestAnswer.Refused r) = Checked.Refused r
-    asked (ForestAnswer.BadDraw d) = Checked.Passed
-    asked ForestAnswer.Grown = Checked.Passed
+    asked (Err (FitError.Refused r)) = Err r
+    asked (Err (FitError.BadDraw d)) = Ok tt
+    asked (Ok _) = Ok tt
 
-    go : (k : Checked) (f : Forest) → (forest_ends K k f R).answer ≡ ForestAnswer.Refused r → ((forest_ends K k f R).rooms ≡ R) × (k ≡ Checked.Refused r)
-    go Checked.Passed (stopped d) h = absurd (subst ForestUnrefused h tt)
-    go Checked.Passed (grown_all ts) h = absurd (subst ForestUnrefused h tt)
-    go (Checked.Refused q) f h = (refl, ap asked h)
+    go : (k : Checked) (f : Forest) → (forest_ends K k f R).answer ≡ Err (FitError.Refused r) → ((forest_ends K k f R).rooms ≡ R) × (k ≡ Err r)
+    go (Ok _) (stopped d) h = absurd (subst ForestUnrefused h tt)
+    go (Ok _) (grown_all ts) h = absurd (subst ForestUnrefused h tt)
+    go (Err q) f h = (refl, ap asked h)
 
 pub forest-bad : ForestBad
 unfolding fit_forest forest_ends forest_done
 forest-bad C R d h = go (checked (forest_tests waiting_room C R)) (grown_forest C) h
   where
-    go : (k : Checked) (f : Forest) → (forest_ends waiting_room k f R).answer ≡ ForestAnswer.BadDraw d → ForestZero R (forest_ends waiting_room k f R).rooms
-    go Checked.Passed (stopped e) h =
+    go : (k : Checked) (f : Forest) → (forest_ends waiting_room k f R).answer ≡ Err (FitError.BadDraw d) → ForestZero R (forest_ends waiting_room k f R).rooms
+    go (Ok _) (stopped e) h =
         record {
           nodes = nodes-zero R.nodes;
           behind = behind-zero R.behind;
@@ -300,12 +295,12 @@ forest-bad C R d h = go (checked (forest_tests waiting_room C R)) (grown_forest 
           reports = reports-zero R.reports;
           work = work-zero R.work;
         }
-    go Checked.Passed (grown_all ts) h = let z : ◌≡◌ {A = ℕ} 0 1 = cc in absurd (omega arith)
-    go (Checked.Refused q) f h = let z : ◌≡◌ {A = ℕ} 0 1 = cc in absurd (omega arith)
+    go (Ok _) (grown_all ts) h = let z : ◌≡◌ {A = ℕ} 0 1 = cc in absurd (omega arith)
+    go (Err q) f h = let z : ◌≡◌ {A = ℕ} 0 1 = cc in absurd (omega arith)
 
 -- ---- a reader, and a check
 
-failed : (ts : List Test) (k : ℕ) → first_failed ts ≡ suc k → By ts (Reply.Refused (suc k))
+failed : (ts : List Test) (k : ℕ) → first_failed ts ≡ suc k → By ts (Err (suc k))
 failed ts k q = (q, omega arith)
 
 pub check-refused : CheckRefused
@@ -336,7 +331,7 @@ check-refused =
     node ts (suc n) q c k = (q, omega arith)
     node ts zero q c k = there (ltb k (shortest c))
       where
-        there : (b : Bool) → NodeBy ts (cond b (NodeReply.Read (node_of (entry_at c k))) NodeReply.Missing)
+        there : (b : Bool) → NodeBy ts (cond b (Ok (Some (node_of (entry_at c k)))) (Ok None))
         there true = q
         there false = q
 
@@ -357,24 +352,24 @@ reader-refused =
     go ts (suc k) q new old = (failed ts k q, (λ n h. refl))
 
     file : (ts : List Test) (k : ℕ) → first_failed ts ≡ k → (new old : List ℕ)
-        → SizeBy ts (wrote k new old).answer × ((n : ℕ) → (wrote k new old).answer ≡ SizeReply.Refused n → (wrote k new old).rooms ≡ old)
+        → SizeBy ts (wrote k new old).answer × ((n : ℕ) → (wrote k new old).answer ≡ Err n → (wrote k new old).rooms ≡ old)
     file ts zero q new old = (q, (λ n h. let z : ◌≡◌ {A = ℕ} 0 1 = cc in absurd (omega arith)))
     file ts (suc k) q new old = ((q, omega arith), (λ n h. refl))
 
 -- ---- where a fit is not refused, no test fails
 
-pub tree-passes : {W : Type 0} (K : WaitingForm W) (C : TreeCall) (R : TreeRooms W) → Unrefused (fit_tree K C R).answer → checked (tree_tests K C R) ≡ Checked.Passed
+pub tree-passes : {W : Type 0} (K : WaitingForm W) (C : TreeCall) (R : TreeRooms W) → Unrefused (fit_tree K C R).answer → checked (tree_tests K C R) ≡ Ok tt
 unfolding fit_tree tree_ends
 tree-passes K C R h = go (checked (tree_tests K C R)) refl h
   where
-    go : (k : Checked) → checked (tree_tests K C R) ≡ k → Unrefused (tree_ends K k (grown_tree C) R).answer → checked (tree_tests K C R) ≡ Checked.Passed
-    go Checked.Passed q h = q
-    go (Checked.Refused r) q h = absurd h
+    go : (k : Checked) → checked (tree_tests K C R) ≡ k → Unrefused (tree_ends K k (grown_tree C) R).answer → checked (tree_tests K C R) ≡ Ok tt
+    go (Ok _) q h = q
+    go (Err r) q h = absurd h
 
-pub forest-passes : {W : Type 0} (K : WaitingForm W) (C : ForestCall) (R : ForestRooms W) → ForestUnrefused (fit_forest K C R).answer → checked (forest_tests K C R) ≡ Checked.Passed
+pub forest-passes : {W : Type 0} (K : WaitingForm W) (C : ForestCall) (R : ForestRooms W) → ForestUnrefused (fit_forest K C R).answer → checked (forest_tests K C R) ≡ Ok tt
 unfolding fit_forest forest_ends
 forest-passes K C R h = go (checked (forest_tests K C R)) refl h
   where
-    go : (k : Checked) → checked (forest_tests K C R) ≡ k → ForestUnrefused (forest_ends K k (grown_forest C) R).answer → checked (forest_tests K C R) ≡ Checked.Passed
-    go Checked.Passed q h = q
-    go (Checked.Refused r) q h = absurd h
+    go : (k : Checked) → checked (forest_tests K C R) ≡ k → ForestUnrefused (forest_ends K k (grown_forest C) R).answer → checked (forest_tests K C R) ≡ Ok tt
+    go (Ok _) q h = q
+    go (Err r) q h = absurd h

@@ -2,12 +2,10 @@
 -- rows, the flags as many as the rows and as many as the features, both slices of the waiting list rows, each of the eight node columns what the trees may come to,
 -- max(1, 2 x kept rows - 1) a tree, the starts trees + 1; and each report column is as long as there are trees, no longer. And no fit is refused by 6 whose rooms are so.
 -- It holds because the last test says just that. Assumes nothing.
-use Rattle.std.specs.Prelude.{ℕ, suc, ◌+◌, ◌-◌, ◌*◌, ◌≤◌, min, max, ◌≡◌, ◌≢◌, Bool, true, not, ◌&&◌, length, T, leb, eqb}
+use Rattle.std.specs.Prelude.{ℕ, suc, ◌+◌, ◌-◌, ◌*◌, ◌≤◌, min, max, ◌≡◌, ◌≢◌, Bool, true, not, ◌&&◌, length, T, leb, eqb, Err}
 use Rattle.std.proofs.Common.{arith, sym, ◌∙◌, subst, leb→le, le→leb, eqb→eq}
 use Rattle.rules.specs.declared.Shape.{Shape}
 use Rattle.rules.specs.declared.Refusal.{Refusal}
-use Rattle.rules.specs.declared.TreeAnswer.{TreeAnswer}
-use Rattle.rules.specs.declared.ForestAnswer.{ForestAnswer}
 use Rattle.rules.specs.Words.{from, total}
 use Rattle.rules.specs.Lent.{OneTree, Columns, Behind, Reports, WaitingRoom, waiting_room, Work, TreeRooms, ForestRooms, kept_rows, shortest, shortest_of_eight}
 use Rattle.rules.specs.Checks.{room_for, work_enough, reports_exact}
@@ -18,6 +16,7 @@ use Rattle.lemmas.specs.Once.{eqb_yes}
 use Rattle.lemmas.specs.Passed.{and2, tree-passed, forest-passed}
 use Rattle.demands.specs.Refusals.{Unrefused, ForestUnrefused, tree-refused, forest-refused, tree-passes, forest-passes}
 use Rattle.demands.specs.Refused.{tree-number, forest-number}
+use Rattle.rules.specs.declared.FitError.{FitError}
 
 -- ---- the statements
 
@@ -66,13 +65,13 @@ abbrev pub TreeRoomsLong : Type 0
 TreeRoomsLong = (C : TreeCall) (R : TreeRooms WaitingRoom) → Unrefused (fit_tree waiting_room C R).answer → TreeLong C R
 
 abbrev pub TreeRoomsTaken : Type 0
-TreeRoomsTaken = (C : TreeCall) (R : TreeRooms WaitingRoom) → TreeLong C R → (r : Refusal) → (fit_tree waiting_room C R).answer ≡ TreeAnswer.Refused r → r.number ≢ 6
+TreeRoomsTaken = (C : TreeCall) (R : TreeRooms WaitingRoom) → TreeLong C R → (r : Refusal) → (fit_tree waiting_room C R).answer ≡ Err (FitError.Refused r) → r.number ≢ 6
 
 abbrev pub ForestRoomsLong : Type 0
 ForestRoomsLong = (C : ForestCall) (R : ForestRooms WaitingRoom) → ForestUnrefused (fit_forest waiting_room C R).answer → ForestLong C R
 
 abbrev pub ForestRoomsTaken : Type 0
-ForestRoomsTaken = (C : ForestCall) (R : ForestRooms WaitingRoom) → ForestLong C R → (r : Refusal) → (fit_forest waiting_room C R).answer ≡ ForestAnswer.Refused r → r.number ≢ 6
+ForestRoomsTaken = (C : ForestCall) (R : ForestRooms WaitingRoom) → ForestLong C R → (r : Refusal) → (fit_forest waiting_room C R).answer ≡ Err (FitError.Refused r) → r.number ≢ 6
 
 -- ---- what the tests say
 

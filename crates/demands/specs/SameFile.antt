@@ -1,13 +1,10 @@
 -- What is read from a model file writes the same file. A file that says a model is the file of that model, byte by byte, so no two files say the same one. Where the reader of files
 -- answers, what it leaves in the rooms is a good table, which every reader takes, and to write it again gives the bytes that were read, in any room that is long enough.
 -- That each byte is below 256 is asked, as it is of every byte that is lent. Assumes nothing.
-use Rattle.std.specs.Prelude.{ℕ, ◌≤◌, ◌≡◌, List}
+use Rattle.std.specs.Prelude.{ℕ, ◌≤◌, ◌≡◌, List, Ok}
 use Rattle.std.proofs.Common.{sym, ap, ◌∙◌, subst}
 use Rattle.std.proofs.Math.ListN.{length}
 use Rattle.rules.specs.declared.Sizes.{Sizes}
-use Rattle.rules.specs.declared.Reply.{Reply}
-use Rattle.rules.specs.declared.ModelReply.{ModelReply}
-use Rattle.rules.specs.declared.SizeReply.{SizeReply}
 use Rattle.rules.specs.Words.{front}
 use Rattle.rules.specs.Lent.{outcome_of}
 use Rattle.rules.specs.Checks.{replies}
@@ -32,13 +29,13 @@ abbrev pub table_read : Sizes → TableRooms → ForestTable
 table_read s R = table_of s.trees R.starts R.nodes
 
 abbrev pub ReadGood : Type 0
-ReadGood = (bs : List ℕ) (R : TableRooms) (s : Sizes) → (read_model bs R).answer ≡ ModelReply.Read s → check_forest s.features (table_read s (read_model bs R).rooms) ≡ Reply.Done
+ReadGood = (bs : List ℕ) (R : TableRooms) (s : Sizes) → (read_model bs R).answer ≡ Ok s → check_forest s.features (table_read s (read_model bs R).rooms) ≡ Ok tt
 
 abbrev pub WrittenAgain : Type 0
 WrittenAgain =
-    (bs : List ℕ) (R : TableRooms) (s : Sizes) → Every Byte bs → (read_model bs R).answer ≡ ModelReply.Read s
-    → (model_size s.features (table_read s (read_model bs R).rooms) ≡ SizeReply.Bytes (length bs))
-    × ((out : List ℕ) → length bs ≤ length out → write_model s.features (table_read s (read_model bs R).rooms) out ≡ outcome_of (SizeReply.Bytes (length bs)) (front bs out))
+    (bs : List ℕ) (R : TableRooms) (s : Sizes) → Every Byte bs → (read_model bs R).answer ≡ Ok s
+    → (model_size s.features (table_read s (read_model bs R).rooms) ≡ Ok (length bs))
+    × ((out : List ℕ) → length bs ≤ length out → write_model s.features (table_read s (read_model bs R).rooms) out ≡ outcome_of (Ok (length bs)) (front bs out))
 
 -- ---- files
 
@@ -87,9 +84,9 @@ pub written-again : WrittenAgain
 written-again bs R s are h =
     let a = read-answered bs R s h in
     let file : file_of a.model.features (trees_of (left bs R s a)) ≡ bs = ap (file_of a.model.features) (left-trees bs R s a) ∙ written_read bs a.model a.end are a.said in (
-      on-left bs R s a model_size ∙ size-done a.model.features (left bs R s a) (left-passes bs R s a) ∙ ap (λ l. SizeReply.Bytes (length l)) file,
+      on-left bs R s a model_size ∙ size-done a.model.features (left bs R s a) (left-passes bs R s a) ∙ ap (λ l. Ok (length l)) file,
       (λ out long.
           on-left bs R s a (λ features T. write_model features T out)
           ∙ write_done a.model.features (left bs R s a) (left-passes bs R s a) out (subst (λ l. length l ≤ length out) (sym file) long)
-          ∙ ap (λ l. outcome_of (SizeReply.Bytes (length l)) (front l out)) file),
+          ∙ ap (λ l. outcome_of (Ok (length l)) (front l out)) file),
     )

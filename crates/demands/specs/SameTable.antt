@@ -3,7 +3,7 @@
 -- So every reader of forests answers the same by the table that was read as by the table that was written, and refuses the same.
 -- That floats are binary64 and starts are numbers of 32 bits is asked, as it is of all that is lent. Assumes nothing.
 use Prim.Native.Nat.{ℕ, suc, ◌≤◌}
-use Rattle.std.proofs.Common.{arith, sym, ◌∙◌, subst, le→leb}
+use Rattle.std.proofs.Common.{arith, sym, ◌∙◌, subst, le→leb, Ok}
 use Rattle.std.specs.Prelude.{◌≡◌, refl, List, map, get_or, T, leb, Float}
 use Rattle.std.proofs.Math.Path.{ap}
 use Rattle.std.proofs.Math.ListN.{length, take, length-map}
@@ -11,9 +11,7 @@ use Rattle.std.proofs.Math.Seq.{take_at}
 use Rattle.std.specs.Float.Ieee.Fits.{and_l, and_r, and_i}
 use Rattle.rules.specs.declared.Shape.{Shape}
 use Rattle.rules.specs.declared.Sizes.{Sizes}
-use Rattle.rules.specs.declared.Reply.{Reply}
-use Rattle.rules.specs.declared.ModelReply.{ModelReply}
-use Rattle.rules.specs.declared.SizeReply.{SizeReply}
+use Rattle.rules.specs.Results.{ModelReply}
 use Rattle.rules.specs.Words.{from, every, total}
 use Rattle.rules.specs.Lent.{Outcome, shortest}
 use Rattle.rules.specs.Checks.{trees_in}
@@ -43,7 +41,7 @@ pub record Lent (F : ForestTable) : Type 0 where
 
 abbrev pub ReadWritten : Type 0
 ReadWritten =
-    (features : ℕ) (F : ForestTable) → Lent F → check_forest features F ≡ Reply.Done
+    (features : ℕ) (F : ForestTable) → Lent F → check_forest features F ≡ Ok tt
     → model_in (file_of features (trees_of F)) ≡ says (record { features = features; trees = seen_all (trees_of F) }) (length (file_of features (trees_of F)))
 
 -- how many nodes a forest's table has
@@ -58,13 +56,13 @@ abbrev pub sizes_in : ℕ → ForestTable → Sizes
 sizes_in features F = record { features = features; trees = F.trees; nodes = nodes_in F }
 
 pub record ReadBack (features : ℕ) (F : ForestTable) (bs : List ℕ) (R : TableRooms) : Type 0 where
-  pub answer : (read_model bs R).answer ≡ ModelReply.Read (sizes_in features F)
+  pub answer : (read_model bs R).answer ≡ Ok (sizes_in features F)
   pub trees : trees_of (table_read (sizes_in features F) (read_model bs R).rooms) ≡ map (map seen) (trees_of F)
   pub starts : take (suc F.trees) (read_model bs R).rooms.starts ≡ take (suc F.trees) F.starts
 
 abbrev pub Returned : (ℕ → ForestTable → List ℕ → TableRooms → Type 0) → Type 0
 Returned Q =
-    (features : ℕ) (F : ForestTable) (out : List ℕ) (n : ℕ) (R : TableRooms) → Lent F → (write_model features F out).answer ≡ SizeReply.Bytes n
+    (features : ℕ) (F : ForestTable) (out : List ℕ) (n : ℕ) (R : TableRooms) → Lent F → (write_model features F out).answer ≡ Ok n
     → nodes_in F ≤ shortest R.nodes → suc F.trees ≤ length R.starts → Q features F (file_left features F out n) R
 
 -- the table that is read of a file of a table
@@ -106,7 +104,7 @@ read-written features F l h = of-passed features F l (check-passed features F h)
 
 -- ---- calls
 
-module _ (features : ℕ) (F : ForestTable) (out : List ℕ) (n : ℕ) (R : TableRooms) (l : Lent F) (w : (write_model features F out).answer ≡ SizeReply.Bytes n)
+module _ (features : ℕ) (F : ForestTable) (out : List ℕ) (n : ℕ) (R : TableRooms) (l : Lent F) (w : (write_model features F out).answer ≡ Ok n)
     (nodes : nodes_in F ≤ shortest R.nodes) (starts : suc F.trees ≤ length R.starts) where
   wrote : WriteAnswered features F out n
   wrote = write-answered features F out n w
@@ -135,11 +133,11 @@ module _ (features : ℕ) (F : ForestTable) (out : List ℕ) (n : ℕ) (R : Tabl
   unfolding file
   said = ap model_in same-file ∙ of-passed features F l wrote.passed
 
-  answered : (read_model (file_left features F out n) R).answer ≡ ModelReply.Read (sizes_in features F)
+  answered : (read_model (file_left features F out n) R).answer ≡ Ok (sizes_in features F)
   unfolding sizes_of
   answered =
       ap (λ o. o.answer) (read_done (file_left features F out n) _ (length file) R said room)
-      ∙ (λ i. ModelReply.Read (record { features = features; trees = seen-number i; nodes = seen-nodes i }))
+      ∙ (λ i. Ok (record { features = features; trees = seen-number i; nodes = seen-nodes i }))
 
   a : ReadAnswered (file_left features F out n) R (sizes_in features F)
   a = read-answered (file_left features F out n) R (sizes_in features F) answered

@@ -1,6 +1,6 @@
 -- What the two splitters do with the threshold tape. The best splitter never looks at it: with any other tape the call leaves the same, and reports no threshold used.
 -- The random splitter cuts nowhere else: every split of its tree stands at a threshold of the tape, one of those that it reports used. Assumes nothing.
-use Rattle.std.specs.Prelude.{ℕ, suc, ◌+◌, ◌-◌, ◌<◌, ◌≤◌, min, ◌≡◌, ◌⊎◌, Bool, ◌&&◌, cond, set, take, ltb, Float}
+use Rattle.std.specs.Prelude.{ℕ, suc, ◌+◌, ◌-◌, ◌<◌, ◌≤◌, min, ◌≡◌, ◌⊎◌, Bool, ◌&&◌, cond, set, take, ltb, Float, Ok, Some, None}
 use Rattle.std.proofs.Common.{add-zero, ◌∙◌, subst, inl, inr, get_or-drop}
 use Rattle.std.proofs.Math.Nat.{sub_self}
 use native.Mathlib.Omega.{arith}
@@ -15,11 +15,9 @@ use Rattle.rules.specs.declared.Params.{Params}
 use Rattle.rules.specs.declared.Report.{Report}
 use Rattle.rules.specs.declared.Splitter.{Splitter}
 use Rattle.rules.specs.declared.Splitter.TheVariants.{Best, Random}
-use Rattle.rules.specs.declared.TreeAnswer.{TreeAnswer}
+use Rattle.rules.specs.Results.{Held}
 use Rattle.rules.specs.declared.Totals.{Totals}
 use Rattle.rules.specs.declared.Cut.{Cut}
-use Rattle.rules.specs.declared.Held.{Held}
-use Rattle.rules.specs.declared.Held.TheVariants.{Nothing, Holds}
 use Rattle.rules.specs.declared.Kind.{Kind}
 use Rattle.rules.specs.declared.Kind.TheVariants.{Leaf, Split}
 use Rattle.rules.specs.Words.{each_once}
@@ -48,7 +46,7 @@ abbrev pub BestAlone : Type 1
 BestAlone =
     (W : Type 0) (K : WaitingForm W) (C : TreeCall) (R : TreeRooms W) → C.settings.splitter ≡ Best
     → ((ts : List Float) → fit_tree K (drawing ts C) R ≡ fit_tree K C R)
-    × ((r : Report) → (fit_tree K C R).answer ≡ TreeAnswer.Grown r → r.thresholds ≡ 0)
+    × ((r : Report) → (fit_tree K C R).answer ≡ Ok r → r.thresholds ≡ 0)
 
 -- of a table's entry: a leaf, or a split at one of the first n thresholds of the tape
 abbrev pub CutAt : List Float → ℕ → Entry → Type 0
@@ -56,7 +54,7 @@ CutAt ts n e = (is_leaf e ≡ true) ⊎ ((i : ℕ) × (i < n) × (get_or ts i na
 
 abbrev pub FromTape : Type 1
 FromTape =
-    (W : Type 0) (K : WaitingForm W) (C : TreeCall) (R : TreeRooms W) (r : Report) → C.settings.splitter ≡ Random → (fit_tree K C R).answer ≡ TreeAnswer.Grown r
+    (W : Type 0) (K : WaitingForm W) (C : TreeCall) (R : TreeRooms W) (r : Report) → C.settings.splitter ≡ Random → (fit_tree K C R).answer ≡ Ok r
     → Every (CutAt C.thresholds r.thresholds) (entries_at (fit_tree K C R).rooms.nodes 0 r.nodes)
 
 -- ---- the best splitter
@@ -97,8 +95,8 @@ module _ (P : Params) (best : P.splitter ≡ Best) (ts : List Float) where
   unfolding search tape bind
   search-swap d node =
       through (second (swap ts)) (second (swap ts)) ((tape P.features).shuffle d) _ _ (words-swap d)
-      (λ o. through tries (second (swap ts)) (try_all (tape P.features) P node (take (min P.tried P.features) o.0) (record { best = Nothing; left = o.1 })) _ _
-      (tries-swap node (take (min P.tried P.features) o.0) (record { best = Nothing; left = o.1 })) (λ r. refl))
+      (λ o. through tries (second (swap ts)) (try_all (tape P.features) P node (take (min P.tried P.features) o.0) (record { best = None; left = o.1 })) _ _
+      (tries-swap node (take (min P.tried P.features) o.0) (record { best = None; left = o.1 })) (λ r. refl))
 
 -- the tree of a growth that left its thresholds alone
 plain : OneTree → NodeRows → State Tapes → Tree
@@ -202,12 +200,12 @@ module _ (all : List Float) where
   -- ---- a search holds what it drew
 
   abbrev HeldOn : Tapes → Held → Type 0
-  HeldOn d Nothing = Unit {0}
-  HeldOn d (Holds c q) = On d c.threshold
+  HeldOn d None = Unit {0}
+  HeldOn d (Some (c, q)) = On d c.threshold
 
   held-later : (d d' : Tapes) (h : Held) → length d'.thresholds ≤ length d.thresholds → HeldOn d h → HeldOn d' h
-  held-later d d' Nothing l o = tt
-  held-later d d' (Holds c q) l o = on-later d d' c.threshold l o
+  held-later d d' None l o = tt
+  held-later d d' (Some (c, q)) l o = on-later d d' c.threshold l o
 
   judge-on : (P : Params) (node : NodeRows) (d : Tapes) (h : Held) (t : Totals) (k : ℕ) (c : Cut) → HeldOn d h → On d c.threshold → HeldOn d (judge P node h t k c)
   unfolding judge better
@@ -218,8 +216,8 @@ module _ (all : List Float) where
       if false x y p q = q
 
       new : (h : Held) → HeldOn d h → (q : Float) → HeldOn d (better h c q)
-      new Nothing g q = o
-      new (Holds b p) g q = if (lt p q) (Holds c q) (Holds b p) o g
+      new None g q = o
+      new (Some (b, p)) g q = if (lt p q) (Some (c, q)) (Some (b, p)) o g
 
   module _ (P : Params) (random : P.splitter ≡ Random) where
     abbrev choose : Tapes → NodeRows → Out (Found × Tapes)
@@ -257,7 +255,7 @@ module _ (all : List Float) where
     unfolding search tape take_words Trying
     search-on top d node g =
         then-then ((tape P.features).shuffle d) _ _ _ (words (each_once P.features (take P.features d.words)))
-        (λ o h. then-then (try_all (tape P.features) P node (take (min P.tried P.features) o.0) (record { best = Nothing; left = o.1 })) _ _ _
+        (λ o h. then-then (try_all (tape P.features) P node (take (min P.tried P.features) o.0) (record { best = None; left = o.1 })) _ _ _
         (random-tries (length d.thresholds) node _ _ (h, tt)) (λ r q. (held r.left r.best q.1, record { used = q.0.used; left = q.0.left; whole = q.0.whole; fewer = q.0.fewer })))
       where
         words : (b : Bool) → Then (take_words b P.features d) (λ o. Goes (length d.thresholds) o.1)
@@ -265,8 +263,8 @@ module _ (all : List Float) where
         words true = record { used = g.used; left = g.left; whole = g.whole; fewer = omega arith }
 
         held : (d : Tapes) (h : Held) → HeldOn d h → FoundOn (record { words = d.words; thresholds = d.thresholds; searches = suc d.searches }) (found h)
-        held d Nothing o = tt
-        held d (Holds c q) o = o
+        held d None o = tt
+        held d (Some (c, q)) o = o
 
     -- ---- and so does a growth
 

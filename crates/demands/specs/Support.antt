@@ -2,7 +2,7 @@
 -- mass that is reported. A node's mass is the one that its value was divided by: where it is above 0, the value is the node's sum over that mass, and where it is not, 0. A split's
 -- count is the sum of its children's. Past the nodes both columns hold what they held. The same of each tree of a forest, at its own places. It holds because a node has its
 -- totals and its count from when it was made, and because value and mass are written from the same totals. Assumes nothing.
-use Rattle.std.specs.Prelude.{ℕ, suc, ◌+◌, ◌-◌, ◌<◌, ◌≡◌, true, false, cond, List, map, get_or, drop, Float}
+use Rattle.std.specs.Prelude.{ℕ, suc, ◌+◌, ◌-◌, ◌<◌, ◌≡◌, true, false, cond, List, map, get_or, drop, Float, Ok}
 use Rattle.std.proofs.Common.{zero-add, arith, ◌∙◌, subst, true≢false, get_or-take, get_or-drop}
 use Rattle.std.proofs.Math.Path.{refl, sym, ap}
 use Rattle.std.proofs.Math.ListN.{length, get_or-map}
@@ -12,8 +12,6 @@ use Rattle.std.specs.Float.Ieee.{div, lt}
 use Rattle.rules.specs.declared.Kind.{Kind}
 use Rattle.rules.specs.declared.Kind.TheVariants.{Leaf, Split}
 use Rattle.rules.specs.declared.Report.{Report}
-use Rattle.rules.specs.declared.TreeAnswer.{TreeAnswer}
-use Rattle.rules.specs.declared.ForestAnswer.{ForestAnswer}
 use Rattle.rules.specs.Words.{nought, stretch, total}
 use Rattle.rules.specs.Totals.{value_of}
 use Rattle.rules.specs.Lent.{Data, OneTree, Columns, Behind, Entry, WaitingForm, TreeRooms, ForestRooms, count_in, kept_rows, entry_at, entries_at}
@@ -68,12 +66,12 @@ pub record AtRoot (F : OneTree) (reported : Float) (s : Standing) : Type 0 where
 
 abbrev pub TreeRoot : Type 1
 TreeRoot =
-    (W : Type 0) (K : WaitingForm W) (C : TreeCall) (R : TreeRooms W) (r : Report) → (fit_tree K C R).answer ≡ TreeAnswer.Grown r
+    (W : Type 0) (K : WaitingForm W) (C : TreeCall) (R : TreeRooms W) (r : Report) → (fit_tree K C R).answer ≡ Ok r
     → AtRoot (one_tree_of C) r.mass (in_tree (fit_tree K C R).rooms 0)
 
 abbrev pub ForestRoot : Type 1
 ForestRoot =
-    (W : Type 0) (K : WaitingForm W) (C : ForestCall) (R : ForestRooms W) → (fit_forest K C R).answer ≡ ForestAnswer.Grown → (t : ℕ) → t < C.trees
+    (W : Type 0) (K : WaitingForm W) (C : ForestCall) (R : ForestRooms W) → (fit_forest K C R).answer ≡ Ok tt → (t : ℕ) → t < C.trees
     → AtRoot (one_tree_at C t) (get_or (fit_forest K C R).rooms.reports.mass t nan) (in_forest (fit_forest K C R).rooms t 0)
 
 -- of what is at the place of node n: its count and its mass, and its value, which is its sum divided by that mass
@@ -89,12 +87,12 @@ EachOwn F D n at = (t : Tree) → fit F D ≡ ok t → (k : ℕ) → k < n → O
 
 abbrev pub TreeOwn : Type 1
 TreeOwn =
-    (W : Type 0) (K : WaitingForm W) (C : TreeCall) (R : TreeRooms W) (r : Report) → (fit_tree K C R).answer ≡ TreeAnswer.Grown r
+    (W : Type 0) (K : WaitingForm W) (C : TreeCall) (R : TreeRooms W) (r : Report) → (fit_tree K C R).answer ≡ Ok r
     → EachOwn (one_tree_of C) C.given.inputs r.nodes (in_tree (fit_tree K C R).rooms)
 
 abbrev pub ForestOwn : Type 1
 ForestOwn =
-    (W : Type 0) (K : WaitingForm W) (C : ForestCall) (R : ForestRooms W) → (fit_forest K C R).answer ≡ ForestAnswer.Grown → (t : ℕ) → t < C.trees
+    (W : Type 0) (K : WaitingForm W) (C : ForestCall) (R : ForestRooms W) → (fit_forest K C R).answer ≡ Ok tt → (t : ℕ) → t < C.trees
     → EachOwn (one_tree_at C t) C.given.inputs (get_or (fit_forest K C R).rooms.reports.nodes t 0) (in_forest (fit_forest K C R).rooms t)
 
 -- of n nodes each split: its children's counts add up to its own
@@ -103,23 +101,23 @@ SplitsAdd n at = (k : ℕ) → k < n → is_leaf (at k).entry ≡ false → (at 
 
 abbrev pub TreeAdds : Type 1
 TreeAdds =
-    (W : Type 0) (K : WaitingForm W) (C : TreeCall) (R : TreeRooms W) (r : Report) → Binary64 C.given.inputs.values → (fit_tree K C R).answer ≡ TreeAnswer.Grown r
+    (W : Type 0) (K : WaitingForm W) (C : TreeCall) (R : TreeRooms W) (r : Report) → Binary64 C.given.inputs.values → (fit_tree K C R).answer ≡ Ok r
     → SplitsAdd r.nodes (in_tree (fit_tree K C R).rooms)
 
 abbrev pub ForestAdds : Type 1
 ForestAdds =
-    (W : Type 0) (K : WaitingForm W) (C : ForestCall) (R : ForestRooms W) → Binary64 C.given.inputs.values → (fit_forest K C R).answer ≡ ForestAnswer.Grown → (t : ℕ) → t < C.trees
+    (W : Type 0) (K : WaitingForm W) (C : ForestCall) (R : ForestRooms W) → Binary64 C.given.inputs.values → (fit_forest K C R).answer ≡ Ok tt → (t : ℕ) → t < C.trees
     → SplitsAdd (get_or (fit_forest K C R).rooms.reports.nodes t 0) (in_forest (fit_forest K C R).rooms t)
 
 -- past the nodes, of a forest those of all its trees
 abbrev pub TreeBeyond : Type 1
 TreeBeyond =
-    (W : Type 0) (K : WaitingForm W) (C : TreeCall) (R : TreeRooms W) (r : Report) → (fit_tree K C R).answer ≡ TreeAnswer.Grown r
+    (W : Type 0) (K : WaitingForm W) (C : TreeCall) (R : TreeRooms W) (r : Report) → (fit_tree K C R).answer ≡ Ok r
     → behind_past r.nodes (fit_tree K C R).rooms.behind ≡ behind_past r.nodes R.behind
 
 abbrev pub ForestBeyond : Type 1
 ForestBeyond =
-    (W : Type 0) (K : WaitingForm W) (C : ForestCall) (R : ForestRooms W) → (fit_forest K C R).answer ≡ ForestAnswer.Grown
+    (W : Type 0) (K : WaitingForm W) (C : ForestCall) (R : ForestRooms W) → (fit_forest K C R).answer ≡ Ok tt
     → behind_past (get_or (fit_forest K C R).rooms.starts C.trees 0) (fit_forest K C R).rooms.behind ≡ behind_past (get_or (fit_forest K C R).rooms.starts C.trees 0) R.behind
 
 -- ---- what is written of a node

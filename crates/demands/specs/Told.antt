@@ -1,15 +1,13 @@
 -- What the number of a fit says. A refusal before growth says which rule was broken first: the sizes, the lengths, the numbers, the counts, the listings or the rooms, 1 to 4, 11
 -- to 13 and 6 in this order, and those before it hold. And no answer is told as another: a tree that has grown is told as 0, a refusal before growth by what it tells, a bad draw
 -- as 7 with its tree and its search. Nor is a refusal of the check of listings told as none. Assumes nothing.
-use Rattle.std.specs.Prelude.{ℕ, suc, ◌≡◌, refl, Bool, true, false, ◌&&◌, List, [], ◌∷◌, get_or, take, T, leb, Float}
+use Rattle.std.specs.Prelude.{ℕ, suc, ◌≡◌, refl, Bool, true, false, ◌&&◌, List, [], ◌∷◌, get_or, take, T, leb, Float, Ok, Err}
 use Rattle.std.proofs.Common.{arith, sym, ap, ◌∙◌, subst}
 use Rattle.rules.specs.declared.Shape.{Shape}
 use Rattle.rules.specs.declared.Place.{Place}
 use Rattle.rules.specs.declared.Refusal.{Refusal}
-use Rattle.rules.specs.declared.Checked.{Checked}
+use Rattle.rules.specs.Results.{Checked, TreeAnswer, ForestAnswer}
 use Rattle.rules.specs.declared.Report.{Report}
-use Rattle.rules.specs.declared.TreeAnswer.{TreeAnswer}
-use Rattle.rules.specs.declared.ForestAnswer.{ForestAnswer}
 use Rattle.rules.specs.Words.{every, member, total}
 use Rattle.rules.specs.Lent.{WaitingForm, TreeRooms, ForestRooms, shortest_of_eight}
 use Rattle.rules.specs.Checks.{test, checked, first_failed, shape_in, trees_in, lengths, numbers_good, counts_good, counts_one, room_for, work_enough}
@@ -21,6 +19,7 @@ use Rattle.lemmas.specs.Faults.{listings_good}
 use Rattle.demands.specs.Refusals.{tree-refused, forest-refused}
 use Rattle.demands.specs.Refused.{told-number, orders-tell, tree-number, forest-number}
 use Rattle.demands.specs.Listings.{one_number, as_one, one-for-three}
+use Rattle.rules.specs.declared.FitError.{FitError}
 
 -- ---- the statements
 
@@ -52,8 +51,8 @@ FirstBroken n rules = (get_or rules n true ≡ false) × (every (λ b. b) (take 
 abbrev pub BrokenFirst : Type 1
 BrokenFirst =
     (W : Type 0) (K : WaitingForm W)
-    → ((C : TreeCall) (R : TreeRooms W) (r : Refusal) (n : ℕ) → (fit_tree K C R).answer ≡ TreeAnswer.Refused r → one_number r.number ≡ suc n → FirstBroken n (tree_rules K C R))
-    × ((C : ForestCall) (R : ForestRooms W) (r : Refusal) (n : ℕ) → (fit_forest K C R).answer ≡ ForestAnswer.Refused r → one_number r.number ≡ suc n
+    → ((C : TreeCall) (R : TreeRooms W) (r : Refusal) (n : ℕ) → (fit_tree K C R).answer ≡ Err (FitError.Refused r) → one_number r.number ≡ suc n → FirstBroken n (tree_rules K C R))
+    × ((C : ForestCall) (R : ForestRooms W) (r : Refusal) (n : ℕ) → (fit_forest K C R).answer ≡ Err (FitError.Refused r) → one_number r.number ≡ suc n
     → FirstBroken n (forest_rules K C R))
 
 -- the refusals before growth
@@ -67,19 +66,19 @@ abbrev pub none : Refusal
 none = record { number = 0; part = 0; place = 0; row = 0 }
 
 pub record TreeApart (a : TreeAnswer) : Type 0 where
-  pub refused : (r : Refusal) → a ≡ TreeAnswer.Refused r → Before r.number × ((tree_told a).refusal ≡ r)
-  pub bad : (d : Place) → a ≡ TreeAnswer.BadDraw d → (tree_told a).refusal ≡ seven_at d.tree d.search
-  pub grown : (t : Report) → a ≡ TreeAnswer.Grown t → ((tree_told a).refusal ≡ none) × ((tree_told a).report ≡ t)
+  pub refused : (r : Refusal) → a ≡ Err (FitError.Refused r) → Before r.number × ((tree_told a).refusal ≡ r)
+  pub bad : (d : Place) → a ≡ Err (FitError.BadDraw d) → (tree_told a).refusal ≡ seven_at d.tree d.search
+  pub grown : (t : Report) → a ≡ Ok t → ((tree_told a).refusal ≡ none) × ((tree_told a).report ≡ t)
 
 pub record ForestApart (a : ForestAnswer) : Type 0 where
-  pub refused : (r : Refusal) → a ≡ ForestAnswer.Refused r → Before r.number × (forest_told a ≡ r)
-  pub bad : (d : Place) → a ≡ ForestAnswer.BadDraw d → forest_told a ≡ seven_at d.tree d.search
-  pub grown : a ≡ ForestAnswer.Grown → forest_told a ≡ none
+  pub refused : (r : Refusal) → a ≡ Err (FitError.Refused r) → Before r.number × (forest_told a ≡ r)
+  pub bad : (d : Place) → a ≡ Err (FitError.BadDraw d) → forest_told a ≡ seven_at d.tree d.search
+  pub grown : a ≡ Ok tt → forest_told a ≡ none
 
 -- the check of listings alone
 pub record CheckApart (c : Checked) : Type 0 where
-  pub refused : (r : Refusal) → c ≡ Checked.Refused r → T (member r.number (1 ∷ 2 ∷ 11 ∷ 12 ∷ 13 ∷ [])) × (check_told c ≡ r)
-  pub passed : c ≡ Checked.Passed → check_told c ≡ none
+  pub refused : (r : Refusal) → c ≡ Err r → T (member r.number (1 ∷ 2 ∷ 11 ∷ 12 ∷ 13 ∷ [])) × (check_told c ≡ r)
+  pub passed : c ≡ Ok tt → check_told c ≡ none
 
 abbrev pub ListingsApart : Type 0
 ListingsApart = (S : Shape) (xs : List Float) (ls : List ℕ) → CheckApart (check_listings S xs ls)

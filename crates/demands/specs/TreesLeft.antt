@@ -1,12 +1,10 @@
 -- Trees as fits leave them. What holds of every tree that grows from listings in order holds of every tree that a fit leaves: of the one tree of a fit that answers, and of each tree of a
 -- forest, by its entries, the counts beside them and its report. So what is said of them is said once for both fits, both splitters and both heights. Assumes nothing.
-use Rattle.std.specs.Prelude.{ℕ, ◌<◌, ◌≡◌}
+use Rattle.std.specs.Prelude.{ℕ, ◌<◌, ◌≡◌, Ok}
 use Rattle.std.proofs.Math.Path.{sym, subst}
 use Rattle.std.proofs.Common.{ap}
 use mathlib.Core.List.{List, map}
 use Rattle.rules.specs.declared.Report.{Report}
-use Rattle.rules.specs.declared.TreeAnswer.{TreeAnswer}
-use Rattle.rules.specs.declared.ForestAnswer.{ForestAnswer}
 use Rattle.rules.specs.Lent.{Data, OneTree, Behind, Entry, WaitingForm, TreeRooms, ForestRooms, entries_at}
 use Rattle.rules.specs.Draws.{ok, Tapes}
 use Rattle.rules.specs.Growth.{TreeNode, State}
@@ -41,9 +39,9 @@ forest_left R t = record { entries = tree_at R.nodes R.starts t; counts = (behin
 -- X of every tree that a fit which answers leaves, by what the tree grew from
 abbrev pub OfEveryTree : (OneTree → Data → Left → Type 0) → Type 1
 OfEveryTree X =
-    ((W : Type 0) (K : WaitingForm W) (C : TreeCall) (R : TreeRooms W) (r : Report) → Binary64 C.given.inputs.values → (fit_tree K C R).answer ≡ TreeAnswer.Grown r
+    ((W : Type 0) (K : WaitingForm W) (C : TreeCall) (R : TreeRooms W) (r : Report) → Binary64 C.given.inputs.values → (fit_tree K C R).answer ≡ Ok r
     → X (one_tree_of C) C.given.inputs (tree_left (fit_tree K C R).rooms r))
-    × ((W : Type 0) (K : WaitingForm W) (C : ForestCall) (R : ForestRooms W) → Binary64 C.given.inputs.values → (fit_forest K C R).answer ≡ ForestAnswer.Grown → (t : ℕ) → t < C.trees
+    × ((W : Type 0) (K : WaitingForm W) (C : ForestCall) (R : ForestRooms W) → Binary64 C.given.inputs.values → (fit_forest K C R).answer ≡ Ok tt → (t : ℕ) → t < C.trees
     → X (one_tree_at C t) C.given.inputs (forest_left (fit_forest K C R).rooms t))
 
 -- ---- said once

@@ -4,7 +4,7 @@
 -- the fits of the rules, with the same answer and the same rooms. The two counts are added up here as the Rust adds them up, not by where each row goes: that no row of the true side comes
 -- behind one of the false side is part of what is shown. It holds because no value falls along a listing, and because no cut is found that leaves less on either side. Assumes nothing.
 use Prim.Native.Nat.{ℕ, zero, suc, ◌-◌, ◌<◌, ◌≤◌}
-use Rattle.std.proofs.Common.{arith, ◌∙◌, subst, true≢false}
+use Rattle.std.proofs.Common.{arith, ◌∙◌, subst, true≢false, Ok, Err}
 use Rattle.std.specs.Prelude.{◌≡◌, Bool, ◌&&◌, ◌||◌, cond, length, ltb}
 use Rattle.std.proofs.Math.Path.{refl, sym, ap}
 use Rattle.std.proofs.Math.Bool.{true, false, not}
@@ -18,7 +18,7 @@ use Rattle.rules.specs.declared.Cut.{Cut}
 use Rattle.rules.specs.declared.Fork.{Fork}
 use Rattle.rules.specs.declared.Kind.{Kind}
 use Rattle.rules.specs.declared.Kind.TheVariants.{Leaf, Split}
-use Rattle.rules.specs.declared.Checked.{Checked}
+use Rattle.rules.specs.Results.{Checked}
 use Rattle.rules.specs.Words.{from, put_if, keep, total}
 use Rattle.rules.specs.Totals.{value_of}
 use Rattle.rules.specs.Lent.{Data, OneTree, Entry, WaitingForm, TreeRooms, ForestRooms, cell, count_in}
@@ -247,19 +247,19 @@ module _ {W : Type 0} (K : WaitingForm W) where
   tree-call-same : (C : TreeCall) (R : TreeRooms W) → Binary64 C.given.inputs.values → (v : Checked) → checked (tree_tests K C R) ≡ v
       → tree_ends K v (fit_or_not (one_tree_of C) C.given.inputs) R ≡ tree_ends K v (fit (one_tree_of C) C.given.inputs) R
   unfolding tree_ends
-  tree-call-same C R held Checked.Passed q = ap (λ o. tree_ends K Checked.Passed o R) (fit_same (one_tree_of C) C.given.inputs (tree-listed K C R held q).0)
-  tree-call-same C R held (Checked.Refused r) q = refl
+  tree-call-same C R held (Ok _) q = ap (λ o. tree_ends K (Ok tt) o R) (fit_same (one_tree_of C) C.given.inputs (tree-listed K C R held q).0)
+  tree-call-same C R held (Err r) q = refl
 
   forest-call-same : (C : ForestCall) (R : ForestRooms W) → Binary64 C.given.inputs.values → (v : Checked) → checked (forest_tests K C R) ≡ v
       → forest_ends K v (trees_or_not 0 (each_tree C) C.given.inputs) R ≡ forest_ends K v (grow_trees 0 (each_tree C) C.given.inputs) R
   unfolding forest_ends each_tree
-  forest-call-same C R held Checked.Passed q =
+  forest-call-same C R held (Ok _) q =
       let p = (forest-passed K C R q).passed in
-      ap (λ f. forest_ends K Checked.Passed f R)
+      ap (λ f. forest_ends K (Ok tt) f R)
       (trees-same 0 (each_tree C) C.given.inputs
       (every_map _ (one_tree_at C) (from 0 C.trees)
       (every-all _ (λ t. fit_same (one_tree_at C t) C.given.inputs (listed-right C.shape C.trees C.given p (one_tree_at C t) (forest-framed C p t) held)) (from 0 C.trees))))
-  forest-call-same C R held (Checked.Refused r) q = refl
+  forest-call-same C R held (Err r) q = refl
 
 pub same-with-undoing : SameWithUndoing
 unfolding fit_tree grown_tree fit_forest grown_forest

@@ -1,10 +1,8 @@
 -- The walk of a good table ends: at a leaf, inside the tree, within as many steps as it has nodes. And what a fit that answers leaves is a good table,
 -- of the trees that it grew, so that every reader can go on from it. Assumes nothing.
-use Rattle.std.specs.Prelude.{ℕ, ◌<◌, ◌≡◌, true, List, length, get_or, T, Float}
+use Rattle.std.specs.Prelude.{ℕ, ◌<◌, ◌≡◌, true, List, length, get_or, T, Float, Ok}
 use Rattle.std.proofs.Common.{sym, ap, ◌∙◌, subst}
 use Rattle.rules.specs.declared.Report.{Report}
-use Rattle.rules.specs.declared.TreeAnswer.{TreeAnswer}
-use Rattle.rules.specs.declared.ForestAnswer.{ForestAnswer}
 use Rattle.rules.specs.Lent.{Entry, WaitingForm, TreeRooms, ForestRooms, entries_at}
 use Rattle.rules.specs.Draws.{ok}
 use Rattle.rules.specs.Fit.{Tree, fit, entries, params_of, TreeCall, one_tree_of, fit_tree}
@@ -31,7 +29,7 @@ WalkEnds =
 -- a tree's table is its first entries, as many as it reports nodes
 abbrev pub TreeGood : Type 1
 TreeGood =
-    (W : Type 0) (K : WaitingForm W) (C : TreeCall) (R : TreeRooms W) (r : Report) → Binary64 C.given.inputs.values → (fit_tree K C R).answer ≡ TreeAnswer.Grown r
+    (W : Type 0) (K : WaitingForm W) (C : TreeCall) (R : TreeRooms W) (r : Report) → Binary64 C.given.inputs.values → (fit_tree K C R).answer ≡ Ok r
     → T (good_tree C.shape.features (entries_at (fit_tree K C R).rooms.nodes 0 r.nodes))
 
 -- a forest's is its nodes and starts
@@ -40,7 +38,7 @@ table_after C R = table_of C.trees R.starts R.nodes
 
 abbrev pub ForestGood : Type 1
 ForestGood =
-    (W : Type 0) (K : WaitingForm W) (C : ForestCall) (R : ForestRooms W) → Binary64 C.given.inputs.values → (fit_forest K C R).answer ≡ ForestAnswer.Grown
+    (W : Type 0) (K : WaitingForm W) (C : ForestCall) (R : ForestRooms W) → Binary64 C.given.inputs.values → (fit_forest K C R).answer ≡ Ok tt
     → T (good_forest C.shape.features (table_after C (fit_forest K C R).rooms))
 
 -- ---- walks

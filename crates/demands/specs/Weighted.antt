@@ -1,15 +1,11 @@
 -- A forest with weights has every row in every bag. One that is not refused has every count 1, so no row of it has an out-of-bag mean: read with its own counts, each
 -- is a NaN, and their error is refused with 18. And a count of 0, as any other than 1, is refused with 4 as soon as what is checked before it passes. Assumes nothing.
-use Rattle.std.specs.Prelude.{ℕ, zero, suc, ◌+◌, ◌*◌, ◌<◌, ◌≡◌, refl, Bool, true, false, not, ◌&&◌, List, ◌∷◌, length, get_or, T, Float}
+use Rattle.std.specs.Prelude.{ℕ, zero, suc, ◌+◌, ◌*◌, ◌<◌, ◌≡◌, refl, Bool, true, false, not, ◌&&◌, List, ◌∷◌, length, get_or, T, Float, Ok, Err}
 use Rattle.std.proofs.Common.{suc-mul, mul-le-mul_right, zero-lt-suc, arith, sym, ap, ◌∙◌, subst, eqb→eq}
 use Rattle.std.proofs.lemmas.List.{length-map}
 use Rattle.std.specs.Float.{nan}
 use Rattle.std.specs.Float.Ieee.{is_nan}
 use Rattle.std.specs.Float.Ieee.Fits.{and_r}
-use Rattle.rules.specs.declared.Checked.{Checked}
-use Rattle.rules.specs.declared.ForestAnswer.{ForestAnswer}
-use Rattle.rules.specs.declared.Reply.{Reply}
-use Rattle.rules.specs.declared.ErrorReply.{ErrorReply}
 use Rattle.rules.specs.Words.{from}
 use Rattle.rules.specs.Lent.{WaitingForm, ForestRooms, unweighted}
 use Rattle.rules.specs.Checks.{Test, test, numbered, checked, trees_in, shape_in, lengths, numbers_good, counts_good, counts_one}
@@ -23,6 +19,7 @@ use Rattle.demands.specs.Refusals.{ForestUnrefused, forest-passes}
 use Rattle.demands.specs.OutOfBag.{own_means, own-done}
 use Rattle.demands.specs.Means.{in-every-bag}
 use Rattle.demands.specs.Error.{no-mean}
+use Rattle.rules.specs.declared.FitError.{FitError}
 
 -- ---- the statements
 
@@ -34,20 +31,20 @@ EveryCountOne =
 abbrev pub NoMeans : Type 1
 NoMeans =
     (W : Type 0) (K : WaitingForm W) (C : ForestCall) (R : ForestRooms W) → unweighted C.given.weights ≡ false → Binary64 C.given.inputs.values
-    → (fit_forest K C R).answer ≡ ForestAnswer.Grown → (out : List Float) → length out ≡ C.shape.rows → (i : ℕ) → i < C.shape.rows
-    → ((own_means K C R out).answer ≡ Reply.Done) × (get_or (own_means K C R out).rooms i nan ≡ nan)
+    → (fit_forest K C R).answer ≡ Ok tt → (out : List Float) → length out ≡ C.shape.rows → (i : ℕ) → i < C.shape.rows
+    → ((own_means K C R out).answer ≡ (Ok tt)) × (get_or (own_means K C R out).rooms i nan ≡ nan)
 
 abbrev pub NoError : Type 1
 NoError =
     (W : Type 0) (K : WaitingForm W) (C : ForestCall) (R : ForestRooms W) → unweighted C.given.weights ≡ false → Binary64 C.given.inputs.values
-    → (fit_forest K C R).answer ≡ ForestAnswer.Grown → (out : List Float) → length out ≡ C.shape.rows
-    → out_of_bag_error C.shape.rows C.given.inputs.targets (own_means K C R out).rooms ≡ ErrorReply.Refused 18
+    → (fit_forest K C R).answer ≡ Ok tt → (out : List Float) → length out ≡ C.shape.rows
+    → out_of_bag_error C.shape.rows C.given.inputs.targets (own_means K C R out).rooms ≡ Err 18
 
 abbrev pub OtherCount : Type 1
 OtherCount =
     (W : Type 0) (K : WaitingForm W) (C : ForestCall) (R : ForestRooms W) → unweighted C.given.weights ≡ false
     → T (shape_in C.shape && trees_in C.trees) → T (lengths C.shape C.trees C.given && tapes_good C) → T (numbers_good C.given)
-    → (k : ℕ) → k < length C.given.counts → (get_or C.given.counts k 0 ≡ 1 → ⊥) → (fit_forest K C R).answer ≡ ForestAnswer.Refused (numbered 4)
+    → (k : ℕ) → k < length C.given.counts → (get_or C.given.counts k 0 ≡ 1 → ⊥) → (fit_forest K C R).answer ≡ Err (FitError.Refused (numbered 4))
 
 -- ---- the counts
 
@@ -55,7 +52,7 @@ ones : (C : ForestCall) → unweighted C.given.weights ≡ false → T (counts_g
 unfolding counts_one
 ones C u t = every-imp _ _ (λ k h. eqb→eq k 1 h) C.given.counts (each _ C.given.counts (or-other (unweighted C.given.weights) _ u (and_r (counts_good C.given) _ t)))
 
-passed-ones : {W : Type 0} (K : WaitingForm W) (C : ForestCall) (R : ForestRooms W) → unweighted C.given.weights ≡ false → checked (forest_tests K C R) ≡ Checked.Passed
+passed-ones : {W : Type 0} (K : WaitingForm W) (C : ForestCall) (R : ForestRooms W) → unweighted C.given.weights ≡ false → checked (forest_tests K C R) ≡ Ok tt
     → Every (λ k. k ≡ 1) C.given.counts
 unfolding forest_tests
 passed-ones K C R u h₁ =
@@ -72,7 +69,7 @@ no-means W K C R u held h out o i b = (
   in-every-bag C.shape C.given.inputs.values C.given.counts _ out i b (λ t l. subst (λ k. 0 < k) (sym (one t l)) (zero-lt-suc 0)) done,
 )
   where
-    done : (own_means K C R out).answer ≡ Reply.Done
+    done : (own_means K C R out).answer ≡ Ok tt
     done = own-done K C R held h out o
 
     inside : (t trees rows i n : ℕ) → t < trees → i < rows → n ≡ trees * rows → t * rows + i < n
@@ -108,7 +105,7 @@ no-error W K C R u held h out o =
 
 -- ---- another count
 
-fourth : (a b c d : Bool) (ts : List Test) → T a → T b → T c → (T d → ⊥) → checked (test 1 a ∷ test 2 b ∷ test 3 c ∷ test 4 d ∷ ts) ≡ Checked.Refused (numbered 4)
+fourth : (a b c d : Bool) (ts : List Test) → T a → T b → T c → (T d → ⊥) → checked (test 1 a ∷ test 2 b ∷ test 3 c ∷ test 4 d ∷ ts) ≡ Err (numbered 4)
 unfolding checked
 fourth true true true true ts p q r h = absurd (h tt)
 fourth true true true false ts p q r h = refl
@@ -120,5 +117,5 @@ pub other-count : OtherCount
 unfolding fit_forest forest_ends forest_tests
 other-count W K C R u p q r k b other = λ i. (forest_ends K (failed i) (grown_forest C) R).answer
   where
-    failed : checked (forest_tests K C R) ≡ Checked.Refused (numbered 4)
+    failed : checked (forest_tests K C R) ≡ Err (numbered 4)
     failed = fourth _ _ _ _ _ p q r (λ t. other (every-at (λ n. n ≡ 1) C.given.counts 0 k (ones C u t) b))

@@ -11,15 +11,12 @@ use rules::{Cut, Fork, Kind, Node};
 pub fn is_leaf(truechild: u32, falsechild: u32) -> bool
     ensures { result ≡ no_child truechild falsechild }
 {
-    if truechild == 0 {
-        falsechild == 0
-    } else {
-        false
-    }
+    truechild == 0 && falsechild == 0
 }
 
 // Whether node k of a tree of n nodes is good, by its feature, its true child and its false child. All is asked of every node, since which of them is a leaf cannot be foreseen.
 // The children are widened first: one more than the largest u32 must not wrap.
+#[tactic(auto, unfolding(rules::specs::Table::good_entry, rules::specs::Table::is_leaf))]
 pub fn entry_good(
     features: usize,
     n: usize,
@@ -30,9 +27,9 @@ pub fn entry_good(
 ) -> bool
     ensures { result ≡ good_entry features n k (bare feature truechild falsechild) }
 {
-    let y = slices::wide(truechild);
-    let o = slices::wide(falsechild);
-    let j = slices::wide(feature);
+    let y = truechild as usize;
+    let o = falsechild as usize;
+    let j = feature as usize;
     let leaf = (y == 0) & (o == 0);
     let above = k < y;
     let next = o == y + 1;
@@ -42,6 +39,7 @@ pub fn entry_good(
 }
 
 // What it says when it is read out.
+#[tactic(auto, unfolding(rules::specs::Table::node_of, rules::specs::Table::is_leaf))]
 pub fn node_of(
     value: f64,
     feature: u32,
@@ -52,17 +50,15 @@ pub fn node_of(
 ) -> Node
     ensures { result ≡ node_of (entry_is value feature threshold score truechild falsechild) }
 {
-    if is_leaf(truechild, falsechild) {
-        let kind = Kind::Leaf;
-        return Node { value, kind };
-    }
-    let cut = Cut { feature, threshold };
-    let fork = Fork {
-        cut,
-        score,
-        children: truechild,
+    let kind = if is_leaf(truechild, falsechild) {
+        Kind::Leaf
+    } else {
+        Kind::Split(Fork {
+            cut: Cut { feature, threshold },
+            score,
+            children: truechild,
+        })
     };
-    let kind = Kind::Split(fork);
     Node { value, kind }
 }
 
@@ -80,8 +76,5 @@ pub fn next_of(k: usize, x: f64, threshold: f64, truechild: u32) -> usize
     ensures { result ≡ next_of k x threshold truechild }
 {
     let child = child_of(x, threshold, truechild);
-    if truechild == 0 {
-        return k;
-    }
-    child
+    if truechild == 0 { k } else { child }
 }

@@ -6,7 +6,7 @@ ghost use Rattle.rules.specs.Listing.{check_listings};
 ghost use Rattle.rules.specs.Table.{check_tree, check_forest, read_node, table_of};
 ghost use Rattle.rules.specs.Plain.{node_numbers};
 
-use rules::{NodeTold, Refusal, Shape};
+use rules::{NodeTold, Refusal, Shape, Table, Trees};
 
 pub fn tailboardy_check_listings(
     rows: usize,
@@ -17,7 +17,7 @@ pub fn tailboardy_check_listings(
     ensures { result ≡ check_told (check_listings (record { rows = rows; features = features }) values.now listings.now) }
 {
     let answer = checks::listing::check_listings(Shape { rows, features }, values, listings);
-    c_types::check_told_of(answer)
+    Refusal::from(answer)
 }
 
 pub fn tailboardy_check_tree(
@@ -32,9 +32,15 @@ pub fn tailboardy_check_tree(
     ensures { result ≡ reply_told (check_tree features
         (columns_of value.now feature.now threshold.now score.now truechild.now falsechild.now)) }
 {
-    let reply = tables::check_tree(
-        features, value, feature, threshold, score, truechild, falsechild,
-    );
+    let table = Table {
+        value,
+        feature,
+        threshold,
+        score,
+        truechild,
+        falsechild,
+    };
+    let reply = tables::check_tree(features, &table);
     c_types::number_of(reply)
 }
 
@@ -52,9 +58,20 @@ pub fn tailboardy_check_forest(
     ensures { result ≡ reply_told (check_forest features (table_of trees starts.now
         (columns_of value.now feature.now threshold.now score.now truechild.now falsechild.now))) }
 {
-    let reply = tables::check_forest(
-        features, trees, starts, value, feature, threshold, score, truechild, falsechild,
-    );
+    let table = Table {
+        value,
+        feature,
+        threshold,
+        score,
+        truechild,
+        falsechild,
+    };
+    let forest = Trees {
+        number: trees,
+        starts,
+        table,
+    };
+    let reply = tables::check_forest(features, &forest);
     c_types::number_of(reply)
 }
 
@@ -71,8 +88,14 @@ pub fn tailboardy_read_node(
     ensures { node_numbers result ≡ node_told (read_node features
         (columns_of value.now feature.now threshold.now score.now truechild.now falsechild.now) k) }
 {
-    let reply = tables::read_node(
-        features, value, feature, threshold, score, truechild, falsechild, k,
-    );
+    let table = Table {
+        value,
+        feature,
+        threshold,
+        score,
+        truechild,
+        falsechild,
+    };
+    let reply = tables::read_node(features, &table, k);
     c_types::node_told_of(reply)
 }

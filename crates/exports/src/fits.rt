@@ -6,7 +6,10 @@ ghost use Rattle.rules.specs.Fit.{fit_tree, tree_call};
 ghost use Rattle.rules.specs.Forest.{fit_forest, forest_call};
 ghost use Rattle.rules.specs.Plain.{tree_settings_of, forest_settings_of, tried_from, tree_numbers};
 
-use rules::{ForestSettings, Refusal, Shape, TreeSettings, TreeTold};
+use rules::{
+    ForestSettings, Input, NodeRoom, Refusal, ReportRoom, Settings, Shape, TapeStarts, Tapes,
+    TreeSettings, TreeTold, WorkRoom,
+};
 
 pub fn tailboardy_fit_tree(
     value: &mut [f64],
@@ -45,33 +48,41 @@ pub fn tailboardy_fit_tree(
         (behind_of nodecount.old nodemass.old)
         (work_of order.old scratch.old flags.old wholes.old reals.old))) }
 {
-    let settings = c_types::tree_settings_of(plain);
-    let answer = tree_fit::fit_tree(
+    let mut nodes = NodeRoom {
         value,
         feature,
         threshold,
         score,
         truechild,
         falsechild,
-        nodecount,
-        nodemass,
+        count: nodecount,
+        mass: nodemass,
+    };
+    let mut work = WorkRoom {
         order,
         scratch,
         flags,
         wholes,
         reals,
+    };
+    let input = Input {
         values,
         targets,
         weights,
         counts,
         listings,
-        words,
-        thresholds,
+    };
+    let tapes = Tapes { words, thresholds };
+    let answer = tree_fit::fit_tree(
+        &mut nodes,
+        &mut work,
+        &input,
+        &tapes,
         Shape { rows, features },
-        settings,
+        Settings::from(plain),
         plain.tried,
     );
-    c_types::tree_told_of(answer)
+    TreeTold::from(answer)
 }
 
 pub fn tailboardy_fit_forest(
@@ -126,42 +137,55 @@ pub fn tailboardy_fit_forest(
         (reports_of nodes.old depth.old mass.old searches.old wordsused.old thresholdsused.old)
         (work_of order.old scratch.old flags.old wholes.old reals.old))) }
 {
-    let settings = c_types::forest_settings_of(plain);
-    let tried = c_types::tried_from(plain.said, plain.tried);
-    let answer = forest_fit::fit_forest(
+    let mut room = NodeRoom {
         value,
         feature,
         threshold,
         score,
         truechild,
         falsechild,
-        nodecount,
-        nodemass,
-        starts,
-        nodes,
-        depth,
-        mass,
-        searches,
-        wordsused,
-        thresholdsused,
+        count: nodecount,
+        mass: nodemass,
+    };
+    let mut work = WorkRoom {
         order,
         scratch,
         flags,
         wholes,
         reals,
+    };
+    let input = Input {
         values,
         targets,
         weights,
         counts,
         listings,
-        words,
-        thresholds,
-        wordstarts,
-        thresholdstarts,
+    };
+    let tapes = Tapes { words, thresholds };
+    let parts = TapeStarts {
+        words: wordstarts,
+        thresholds: thresholdstarts,
+    };
+    let mut reports = ReportRoom {
+        nodes,
+        depth,
+        mass,
+        searches,
+        words: wordsused,
+        thresholds: thresholdsused,
+    };
+    let answer = forest_fit::fit_forest(
+        &mut room,
+        starts,
+        &mut reports,
+        &mut work,
+        &input,
+        &tapes,
+        &parts,
         Shape { rows, features },
         trees,
-        settings,
-        tried,
+        Settings::from(plain),
+        plain.tried(),
     );
-    c_types::forest_told_of(answer)
+    Refusal::from(answer)
 }

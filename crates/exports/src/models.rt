@@ -5,7 +5,7 @@ ghost use Rattle.rules.specs.Table.{table_of};
 ghost use Rattle.rules.specs.Model.{model_size, write_model, table_rooms_of, read_model};
 ghost use Rattle.rules.specs.Answers.{size_told, model_told, told};
 
-use rules::{ModelTold, SizeTold};
+use rules::{ModelTold, SizeTold, Table, TableRoom, Trees};
 
 pub fn tailboardy_model_size(
     features: usize,
@@ -21,10 +21,21 @@ pub fn tailboardy_model_size(
     ensures { result ≡ size_told (model_size features (table_of trees starts.now
         (columns_of value.now feature.now threshold.now score.now truechild.now falsechild.now))) }
 {
-    let reply = model_write::model_size(
-        features, trees, starts, value, feature, threshold, score, truechild, falsechild,
-    );
-    c_types::size_told_of(reply)
+    let table = Table {
+        value,
+        feature,
+        threshold,
+        score,
+        truechild,
+        falsechild,
+    };
+    let forest = Trees {
+        number: trees,
+        starts,
+        table,
+    };
+    let reply = model_write::model_size(features, &forest);
+    SizeTold::from(reply)
 }
 
 pub fn tailboardy_write_model(
@@ -43,10 +54,21 @@ pub fn tailboardy_write_model(
         ≡ told size_told (write_model features (table_of trees starts.now
         (columns_of value.now feature.now threshold.now score.now truechild.now falsechild.now)) file.old) }
 {
-    let reply = model_write::write_model(
-        features, trees, starts, value, feature, threshold, score, truechild, falsechild, file,
-    );
-    c_types::size_told_of(reply)
+    let table = Table {
+        value,
+        feature,
+        threshold,
+        score,
+        truechild,
+        falsechild,
+    };
+    let forest = Trees {
+        number: trees,
+        starts,
+        table,
+    };
+    let reply = model_write::write_model(features, &forest, file);
+    SizeTold::from(reply)
 }
 
 pub fn tailboardy_read_model(
@@ -65,8 +87,14 @@ pub fn tailboardy_read_model(
         (table_rooms_of (columns_of value.old feature.old threshold.old score.old truechild.old falsechild.old)
         starts.old)) }
 {
-    let reply = model_read::read_model(
-        value, feature, threshold, score, truechild, falsechild, starts, file,
-    );
-    c_types::model_told_of(reply)
+    let mut room = TableRoom {
+        value,
+        feature,
+        threshold,
+        score,
+        truechild,
+        falsechild,
+    };
+    let reply = model_read::read_model(&mut room, starts, file);
+    ModelTold::from(reply)
 }

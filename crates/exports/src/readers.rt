@@ -7,7 +7,7 @@ ghost use Rattle.rules.specs.Reading.{predict_tree, forest_means, tree_importanc
 ghost use Rattle.rules.specs.OutOfBag.{out_of_bag_means, out_of_bag_error};
 ghost use Rattle.rules.specs.Plain.{scale_of, error_numbers};
 
-use rules::{ErrorTold, Shape};
+use rules::{ErrorTold, Shape, Table, Trees};
 
 pub fn tailboardy_predict_tree(
     rows: usize,
@@ -25,17 +25,15 @@ pub fn tailboardy_predict_tree(
         ≡ told reply_told (predict_tree (record { rows = rows; features = features }) values.now
         (columns_of value.now feature.now threshold.now score.now truechild.now falsechild.now) out.old) }
 {
-    let reply = predict::predict_tree(
-        Shape { rows, features },
-        values,
+    let table = Table {
         value,
         feature,
         threshold,
         score,
         truechild,
         falsechild,
-        out,
-    );
+    };
+    let reply = predict::predict_tree(Shape { rows, features }, values, &table, out);
     c_types::number_of(reply)
 }
 
@@ -57,19 +55,20 @@ pub fn tailboardy_forest_means(
         ≡ told reply_told (forest_means (record { rows = rows; features = features }) values.now (table_of trees starts.now
         (columns_of value.now feature.now threshold.now score.now truechild.now falsechild.now)) out.old) }
 {
-    let reply = means::forest_means(
-        Shape { rows, features },
-        trees,
-        values,
-        starts,
+    let table = Table {
         value,
         feature,
         threshold,
         score,
         truechild,
         falsechild,
-        out,
-    );
+    };
+    let forest = Trees {
+        number: trees,
+        starts,
+        table,
+    };
+    let reply = means::forest_means(Shape { rows, features }, values, &forest, out);
     c_types::number_of(reply)
 }
 
@@ -92,20 +91,20 @@ pub fn tailboardy_out_of_bag_means(
         ≡ told reply_told (out_of_bag_means (record { rows = rows; features = features }) values.now counts.now (table_of trees starts.now
         (columns_of value.now feature.now threshold.now score.now truechild.now falsechild.now)) out.old) }
 {
-    let reply = means::out_of_bag_means(
-        Shape { rows, features },
-        trees,
-        values,
-        counts,
-        starts,
+    let table = Table {
         value,
         feature,
         threshold,
         score,
         truechild,
         falsechild,
-        out,
-    );
+    };
+    let forest = Trees {
+        number: trees,
+        starts,
+        table,
+    };
+    let reply = means::out_of_bag_means(Shape { rows, features }, values, counts, &forest, out);
     c_types::number_of(reply)
 }
 
@@ -113,7 +112,7 @@ pub fn tailboardy_out_of_bag_error(rows: usize, targets: &[f64], means: &[f64]) 
     ensures { error_numbers result ≡ error_told (out_of_bag_error rows targets.now means.now) }
 {
     let reply = errors::out_of_bag_error(rows, targets, means);
-    c_types::error_told_of(reply)
+    ErrorTold::from(reply)
 }
 
 pub fn tailboardy_tree_importances(
@@ -133,9 +132,15 @@ pub fn tailboardy_tree_importances(
         (columns_of value.now feature.now threshold.now score.now truechild.now falsechild.now) out.old) }
 {
     let by = c_types::scale_of(bymass, mass);
-    let reply = importances::tree_importances(
-        features, by, value, feature, threshold, score, truechild, falsechild, out,
-    );
+    let table = Table {
+        value,
+        feature,
+        threshold,
+        score,
+        truechild,
+        falsechild,
+    };
+    let reply = importances::tree_importances(features, by, &table, out);
     c_types::number_of(reply)
 }
 
@@ -155,8 +160,19 @@ pub fn tailboardy_forest_importances(
         ≡ told reply_told (forest_importances features (table_of trees starts.now
         (columns_of value.now feature.now threshold.now score.now truechild.now falsechild.now)) out.old) }
 {
-    let reply = importances::forest_importances(
-        features, trees, starts, value, feature, threshold, score, truechild, falsechild, out,
-    );
+    let table = Table {
+        value,
+        feature,
+        threshold,
+        score,
+        truechild,
+        falsechild,
+    };
+    let forest = Trees {
+        number: trees,
+        starts,
+        table,
+    };
+    let reply = importances::forest_importances(features, &forest, out);
     c_types::number_of(reply)
 }

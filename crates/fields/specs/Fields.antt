@@ -1,187 +1,180 @@
 -- A field as the code answers it, and how its test is made after its bytes are taken. Assumes nothing.
-use Rattle.std.specs.Prelude.{ℕ, suc, ◌+◌, ◌≤◌, ◌<◌, ◌≡◌, refl, Bool, ◌&&◌, ◌||◌, List, length, leb, ltb, eqb, Float}
-use Rattle.std.proofs.Common.{arith, ◌∙◌, true≢false, lt-ltb, le-ltb, le-leb, leb-true, leb-false, ltb-true, eq-eqb, ne_eqb}
+use Rattle.std.specs.Prelude.{ℕ, suc, ◌+◌, ◌≤◌, ◌<◌, ◌≡◌, refl, Bool, List, length, leb, ltb, Float, Result, Ok, Err, ◌^◌}
+use Rattle.std.proofs.Common.{◌∙◌, le-leb, arith}
 use Rattle.std.proofs.Math.Path.{sym, ap}
-use Rattle.std.proofs.Math.Bool.{true, false, cond, and-false}
-use Rattle.std.proofs.Math.Dec.{leb-zero, leb-suc-suc}
+use Rattle.std.proofs.Math.Bool.{true, false, cond}
 use Rattle.std.proofs.lemmas.Bool.{lt-leb}
+use Rattle.std.proofs.lemmas.Bool.Decides.{nat_tests}
+use Rattle.std.proofs.lemmas.Result.{err_from_is_err_and}
+use Rattle.std.specs.Result.{IsErrAnd}
 use Rattle.rules.specs.declared.Misread.{Misread}
 use Rattle.rules.specs.Words.{stretch}
 use Rattle.rules.specs.Lent.{Entry}
-use Rattle.rules.specs.Checks.{within, features_in, trees_in}
 use Rattle.rules.specs.Bytes.{number_in, float_of}
 use Rattle.rules.specs.Model.{Field, misread, says, and_then, field, float_at, child_good}
 use Rattle.rules.specs.Model as Model
 use Rattle.lemmas.specs.Lists.{is_true}
-use Rattle.lemmas.specs.Fields.{field-met}
+use Rattle.lemmas.specs.Fields.{goes_on, field-met}
 use Rattle.node_entries.specs.declared.NodeEntry.{NodeEntry}
-use Rattle.fields.specs.declared.NumberField.{NumberField}
 use Rattle.fields.specs.declared.Header.{Header}
-use Rattle.fields.specs.declared.HeaderField.{HeaderField}
-use Rattle.fields.specs.declared.NodeField.{NodeField}
 
-abbrev pub wrong_at : ℕ → ℕ → NumberField
-wrong_at n at = NumberField.Misread (record { number = n; place = at })
-
--- at least the one and below the other
-abbrev pub ranged : ℕ → ℕ → ℕ → Bool
-ranged low high x = leb low x && ltb x high
-
-pub ranged-low : (low high x : ℕ) → x < low → ranged low high x ≡ false
-ranged-low low high x h = ap (λ b. b && ltb x high) (lt-leb low x h)
-
-pub ranged-high : (low high x : ℕ) → high ≤ x → ranged low high x ≡ false
-ranged-high low high x h = ap (λ b. leb low x && b) (le-ltb x high h) ∙ and-false (leb low x)
-
-pub ranged-in : (low high x : ℕ) → low ≤ x → x < high → ranged low high x ≡ true
-ranged-in low high x h g = λ i. le-leb low x h i && lt-ltb x high g i
-
--- ---- the tests of a model file that are ranges
-
-pub ranged-within : (top x : ℕ) → ranged 1 (suc top) x ≡ within top x
-unfolding within
-ranged-within top x = ap (λ b. leb 1 x && b) (leb-suc-suc x top)
-
-pub ranged-one : (n x : ℕ) → ranged n (suc n) x ≡ eqb n x
-ranged-one n x = go (leb n x) (leb x n) refl refl
-  where
-    go : (a b : Bool) → leb n x ≡ a → leb x n ≡ b → ranged n (suc n) x ≡ eqb n x
-    go false b p q = ranged-low n (suc n) x (leb-false n x p) ∙ sym (ne_eqb n x (λ e. apart (leb-false n x p) e))
-      where
-        apart : x < n → n ≡ x → ⊥
-        apart h e = omega arith
-    go true false p q = ranged-high n (suc n) x (leb-false x n q) ∙ sym (ne_eqb n x (λ e. apart (leb-false x n q) e))
-      where
-        apart : n < x → n ≡ x → ⊥
-        apart h e = omega arith
-    go true true p q = ranged-in n (suc n) x (leb-true n x p) (omega (arith, leb-true x n q)) ∙ sym (eq-eqb n x (same (leb-true n x p) (leb-true x n q)))
-      where
-        same : n ≤ x → x ≤ n → n ≡ x
-        same h g = omega arith
-
-pub ranged_below : (high x : ℕ) → ranged 0 high x ≡ ltb x high
-ranged_below high x = ap (λ b. b && ltb x high) (leb-zero x)
+-- a test in code makes of each number what passes does
+pub record Tests (post : ℕ → Bool → Type 0) (passes : ℕ → Bool) : Type 0 where
+  pub met : (x : ℕ) (b : Bool) → x < 2 ^ 64 → post x b → b ≡ passes x
 
 -- ---- as the code answers
 
-abbrev pub number_field : Field ℕ → NumberField
-number_field (misread m) = NumberField.Misread m
-number_field (says x at) = NumberField.Says x at
+-- what a field says, and the place of the next one
+abbrev pub Read : Type 0 → Type 0
+Read A = Result (A × ℕ) Misread
 
-abbrev pub header_field : Field Model.Header → HeaderField
-header_field (misread m) = HeaderField.Misread m
-header_field (says h at) = HeaderField.Says (record { features = h.features; trees = h.trees }) at
+-- what a field says, as the code has it
+abbrev pub read_as : {A B : Type 0} → (A → B) → Field A → Read B
+read_as f (misread m) = Err m
+read_as f (says x at) = Ok (f x, at)
 
+-- an equation of two answers
+abbrev pub Read-is : {A : Type 0} → Read A → Read A → Type 0
+Read-is r s = r ≡ s
+
+-- a number
+abbrev pub number_field : Field ℕ → Read ℕ
+number_field f = read_as (λ x. x) f
+
+-- a header
+abbrev pub header_of : Model.Header → Header
+header_of h = record { features = h.features; trees = h.trees }
+
+-- as a field says it
+abbrev pub header_field : Field Model.Header → Read Header
+header_field f = read_as header_of f
+
+-- a node
 abbrev pub node_entry : Entry → NodeEntry
 node_entry e = record { value = e.value; feature = e.feature; threshold = e.threshold; score = e.score; truechild = e.true_child; falsechild = e.false_child }
 
-abbrev pub node_field : Field Entry → NodeField
-node_field (misread m) = NodeField.Misread m
-node_field (says e at) = NodeField.Says (node_entry e) at
+-- as a field says it
+abbrev pub node_field : Field Entry → Read NodeEntry
+node_field f = read_as node_entry f
 
--- ---- the bytes first, then the test
+-- the number that k bytes say, before it is tested
+unfoldable pub taken : List ℕ → ℕ → ℕ → Read ℕ
+taken bs k at = cond (leb (at + k) (length bs)) (Ok (number_in (stretch at k bs), at + k)) (Err (record { number = 14; place = at }))
 
-unfoldable pub taken : List ℕ → ℕ → ℕ → NumberField
-taken bs k at = cond (leb (at + k) (length bs)) (NumberField.Says (number_in (stretch at k bs)) (at + k)) (wrong_at 14 at)
+-- a split after its child, with its value as it is read
+unfoldable pub split_from : List ℕ → ℕ → Float → ℕ → ℕ → Field Entry
+split_from bs features value y at =
+    and_then (field bs 2 16 (λ j. ltb j features) at) (λ j at.
+    and_then (float_at bs at) (λ t at.
+    and_then (float_at bs at) (λ s at.
+    says (record { value = value; feature = j; threshold = float_of t; score = float_of s; true_child = y; false_child = suc y }) at)))
 
-module _ (bs : List ℕ) (k n : ℕ) (passes : ℕ → Bool) (at : ℕ) where
-  abbrev said : ℕ
-  said = number_in (stretch at k bs)
+-- ---- one field, then the next
 
-  abbrev made : Bool → Bool → NumberField
-  made there ok = number_field (cond there (cond ok (says said (at + k)) (Model.wrong n at)) (Model.wrong 14 at))
+module _ {A B : Type 0} (h : A → B) (f : Field A) where
+  -- what was said, where the code has b
+  pub record Said (b : B) (next : ℕ) : Type 0 where
+    pub what : A
+    pub said : f ≡ says what next
+    pub is : h what ≡ b
 
-  pub misread-so : (m : Misread) → taken bs k at ≡ NumberField.Misread m → NumberField.Misread m ≡ number_field (field bs k n passes at)
-  unfolding taken field
-  misread-so m h = go (leb (at + k) (length bs)) h
+  pub said_as : {b : B} {next : ℕ} → Read-is (Ok (b, next)) (read_as h f) → Said b next
+  said_as {b} {next} e = go f refl e
     where
-      go : (b : Bool) → cond b (NumberField.Says said (at + k)) (wrong_at 14 at) ≡ NumberField.Misread m → NumberField.Misread m ≡ made b (passes said)
-      go true q = cc
-      go false q = sym q
+      go : (g : Field A) → f ≡ g → Read-is (Ok (b, next)) (read_as h g) → Said b next
+      go (misread m) q e = cc
+      go (says x at) q e =
+          let p : ◌≡◌ {A = B × ℕ} (h x, at) (b, next) = cc in
+          record { what = x; said = q ∙ (λ i. says x (p i).1); is = λ i. (p i).0 }
 
-  pub said-so : (x next : ℕ) → taken bs k at ≡ NumberField.Says x next → passes x ≡ true → NumberField.Says x next ≡ number_field (field bs k n passes at)
-  unfolding taken field
-  said-so x next h p = go (leb (at + k) (length bs)) h
+  pub is-misread : {m : Misread} → Read-is (Err m) (read_as h f) → f ≡ misread m
+  is-misread {m} e = go f e
     where
-      go : (b : Bool) → cond b (NumberField.Says said (at + k)) (wrong_at 14 at) ≡ NumberField.Says x next → NumberField.Says x next ≡ made b (passes said)
-      go true q =
-          let e : said ≡ x = cc in
-          sym q ∙ ap (made true) (sym (ap passes e ∙ p))
-      go false q = cc
+      go : (g : Field A) → Read-is (Err m) (read_as h g) → g ≡ misread m
+      go (misread l) e = let p : l ≡ m = cc in ap misread p
+      go (says x at) e = cc
 
-  pub failed-so : (x next : ℕ) → taken bs k at ≡ NumberField.Says x next → passes x ≡ false → wrong_at n at ≡ number_field (field bs k n passes at)
-  unfolding taken field
-  failed-so x next h p = go (leb (at + k) (length bs)) h
-    where
-      go : (b : Bool) → cond b (NumberField.Says said (at + k)) (wrong_at 14 at) ≡ NumberField.Says x next → wrong_at n at ≡ made b (passes said)
-      go true q =
-          let e : said ≡ x = cc in
-          ap (made true) (sym (ap passes e ∙ p))
-      go false q = cc
+-- a number is what the code has
+pub said-is : {f : Field ℕ} {x next : ℕ} → Read-is (Ok (x, next)) (number_field f) → f ≡ says x next
+said-is {f} {x} {next} e = let s = said_as (λ y. y) f e in s.said ∙ ap (λ y. says y next) s.is
 
-  pub passed-so : (x next : ℕ) → field bs k n passes at ≡ says x next → passes x ≡ true
-  passed-so x next h = is_true (passes x) (field-met bs k n passes at x next h).passed
-
--- a child that is there has the next one inside
-pub child-inside : (n k y : ℕ) → child_good n k y ≡ true → (y ≡ 0 → ⊥) → suc y < n
-unfolding child_good
-child-inside n k y h some = go (eqb y 0) (ltb k y) (ltb (suc y) n) (ne_eqb y 0 some) refl h
-  where
-    go : (a b d : Bool) → a ≡ false → ltb (suc y) n ≡ d → (a || (b && d)) ≡ true → suc y < n
-    go true b d p q e = absurd (true≢false p)
-    go false b true p q e = ltb-true (suc y) n q
-    go false b false p q e = absurd (true≢false (sym e ∙ and-false b))
-
--- ---- what the code's answers say of the fields
-
-pub is-misread : (f : Field ℕ) (m : Misread) → number_field f ≡ NumberField.Misread m → f ≡ misread m
-is-misread (misread l) m h = let e : l ≡ m = cc in ap misread e
-is-misread (says x at) m h = cc
-
-pub is_said : (f : Field ℕ) (x next : ℕ) → number_field f ≡ NumberField.Says x next → f ≡ says x next
-is_said (misread l) x next h = cc
-is_said (says y at) x next h = let e : y ≡ x = cc in let g : at ≡ next = cc in λ i. says (e i) (g i)
+-- what the code has, as the rules have it
+abbrev pub header_from : Header → Model.Header
+header_from r = record { features = r.features; trees = r.trees }
 
 abbrev pub entry_from : NodeEntry → Entry
-entry_from e = record { value = e.value; feature = e.feature; threshold = e.threshold; score = e.score; true_child = e.truechild; false_child = e.falsechild }
+entry_from r = record { value = r.value; feature = r.feature; threshold = r.threshold; score = r.score; true_child = r.truechild; false_child = r.falsechild }
 
-pub node-misread : (f : Field Entry) (m : Misread) → node_field f ≡ NodeField.Misread m → f ≡ misread m
-node-misread (misread l) m h = let e : l ≡ m = cc in ap misread e
-node-misread (says x at) m h = cc
-
-pub node-said : (f : Field Entry) (r : NodeEntry) (next : ℕ) → node_field f ≡ NodeField.Says r next → f ≡ says (entry_from r) next
-node-said (misread l) r next h = cc
-node-said (says e at) r next h = let p : node_entry e ≡ r = cc in let q : at ≡ next = cc in λ i. says (entry_from (p i)) (q i)
-
-abbrev pub header_from : Header → Model.Header
-header_from h = record { features = h.features; trees = h.trees }
-
-pub header-misread : (f : Field Model.Header) (m : Misread) → header_field f ≡ HeaderField.Misread m → f ≡ misread m
-header-misread (misread l) m h = let e : l ≡ m = cc in ap misread e
-header-misread (says x at) m h = cc
-
-pub header-said : (f : Field Model.Header) (r : Header) (next : ℕ) → header_field f ≡ HeaderField.Says r next → f ≡ says (header_from r) next
-header-said (misread l) r next h = cc
-header-said (says e at) r next h =
-    let p : record { features = e.features; trees = e.trees } ≡ r = cc in let q : at ≡ next = cc in λ i. says (header_from (p i)) (q i)
+pub header-said : {f : Field Model.Header} {r : Header} {next : ℕ} → Read-is (Ok (r, next)) (header_field f) → f ≡ says (header_from r) next
+header-said {f} {r} {next} e = let s = said_as header_of f e in s.said ∙ ap (λ x. says (header_from x) next) s.is
 
 pub stops_at : {A B : Type 0} {f : Field A} {m : Misread} (g : A → ℕ → Field B) → f ≡ misread m → and_then f g ≡ misread m
 unfolding and_then
 stops_at g h = ap (λ f. and_then f g) h
 
--- ---- the header's second half, and a split after its child, as the code takes them
+module _ {A B : Type 0} (f : Field ℕ) (g : ℕ → ℕ → Field A) (h : A → B) where
+  pub stops : {m : Misread} → Read-is (Err m) (number_field f) → Read-is (Err m) (read_as h (and_then f g))
+  stops e = sym (ap (read_as h) (stops_at g (is-misread (λ y. y) f e)))
 
-unfoldable pub sizes_at : List ℕ → ℕ → Field Model.Header
-sizes_at bs at =
-    and_then (field bs 2 16 features_in at) (λ features at.
-    and_then (field bs 2 16 trees_in at) (λ trees at.
-    says (record { features = features; trees = trees }) at))
+  pub goes : {x next : ℕ} {r : Read B} → Read-is (Ok (x, next)) (number_field f) → r ≡ read_as h (g x next) → r ≡ read_as h (and_then f g)
+  goes e k = k ∙ sym (ap (read_as h) (goes_on g (said-is e)))
 
-unfoldable pub scores_at : List ℕ → Float → ℕ → ℕ → ℕ → Field Entry
-scores_at bs value j y at =
-    and_then (float_at bs at) (λ t at.
-    and_then (float_at bs at) (λ s at.
-    says (record { value = value; feature = j; threshold = float_of t; score = float_of s; true_child = y; false_child = suc y }) at))
+-- the exit of a `?`
+pub left_by : {A E : Type 0} {m : E} (r : Result A E) → IsErrAnd r (λ e. e ≡ m) → r ≡ Err m
+left_by r h = let p = err_from_is_err_and r h in p.1 ∙ ap Err p.2
 
-unfoldable pub split_from : List ℕ → ℕ → Float → ℕ → ℕ → Field Entry
-split_from bs features value y at = and_then (field bs 2 16 (λ j. ltb j features) at) (λ j at. scores_at bs value j y at)
+-- ---- the bytes first, then the test
+
+module _ (bs : List ℕ) (k at : ℕ) where
+  -- by whether the bytes are there
+  abbrev if_long : ℕ → Bool → Read ℕ
+  if_long n long = cond long (Ok (n, at + k)) (Err (record { number = 14; place = at }))
+
+  pub taken-long : {n : ℕ} → n ≡ number_in (stretch at k bs) → at + k ≤ length bs → Read-is (Ok (n, at + k)) (taken bs k at)
+  unfolding taken
+  taken-long e h = λ i. if_long (e i) (sym (le-leb (at + k) (length bs) h) i)
+
+  pub taken-short : length bs < at + k → Read-is (Err (record { number = 14; place = at })) (taken bs k at)
+  unfolding taken
+  taken-short h = sym (ap (if_long (number_in (stretch at k bs))) (lt-leb (at + k) (length bs) h))
+
+-- what is taken, tested
+abbrev pub tested : (ℕ → Bool) → ℕ → ℕ → Read ℕ → Read ℕ
+tested passes n at (Err m) = Err m
+tested passes n at (Ok (x, next)) = cond (passes x) (Ok (x, next)) (Err (record { number = n; place = at }))
+
+module _ (bs : List ℕ) (k n : ℕ) (passes : ℕ → Bool) (at : ℕ) where
+  pub field-tested : number_field (field bs k n passes at) ≡ tested passes n at (taken bs k at)
+  unfolding taken field
+  field-tested = go (leb (at + k) (length bs))
+    where
+      said : ℕ
+      said = number_in (stretch at k bs)
+
+      met : (good : Bool) → number_field (cond good (says said (at + k)) (Model.wrong n at)) ≡ cond good (Ok (said, at + k)) (Err (record { number = n; place = at }))
+      met true = refl
+      met false = refl
+
+      go : (long : Bool)
+          → number_field (cond long (cond (passes said) (says said (at + k)) (Model.wrong n at)) (Model.wrong 14 at))
+          ≡ tested passes n at (cond long (Ok (said, at + k)) (Err (record { number = 14; place = at })))
+      go true = met (passes said)
+      go false = refl
+
+  pub misread-so : {m : Misread} → Read-is (Err m) (taken bs k at) → Read-is (Err m) (number_field (field bs k n passes at))
+  misread-so e = ap (tested passes n at) e ∙ sym field-tested
+
+  pub said-so : {x next : ℕ} → Read-is (Ok (x, next)) (taken bs k at) → passes x ≡ true → Read-is (Ok (x, next)) (number_field (field bs k n passes at))
+  said-so {x} {next} e p = sym (ap (λ b. cond b (Ok (x, next)) (Err (record { number = n; place = at }))) p) ∙ ap (tested passes n at) e ∙ sym field-tested
+
+  pub failed-so : {x next : ℕ} → Read-is (Ok (x, next)) (taken bs k at) → passes x ≡ false → Read-is (Err (record { number = n; place = at })) (number_field (field bs k n passes at))
+  failed-so {x} {next} e p = sym (ap (λ b. cond b (Ok (x, next)) (Err (record { number = n; place = at }))) p) ∙ ap (tested passes n at) e ∙ sym field-tested
+
+  -- a number that is said has passed its test
+  pub passed-so : {x next : ℕ} → Read-is (Ok (x, next)) (number_field (field bs k n passes at)) → passes x ≡ true
+  passed-so e = is_true _ (field-met bs k n passes at _ _ (said-is e)).passed
+
+-- a child that is there has the next one inside
+pub child-inside : (n k y : ℕ) → child_good n k y ≡ true → (y ≡ 0 → ⊥) → suc y < n
+unfolding child_good
+child-inside n k y h some = grind (arith, nat_tests)

@@ -1,19 +1,18 @@
-// A model file field by field: a number, the header, a node. Each answers what the field says and where the next one is, or by which refusal it is misread.
+// A model file field by field: a number, the header, a node. Each says something and where the next field is, or is misread by some refusal.
 #![tactic(auto)]
 
 ghost use Rattle.std.specs.Prelude.{◌≡◌, Bool, ℕ, ◌≤◌, ◌<◌};
 ghost use Rattle.rules.specs.Lent.{leaf_entry};
+ghost use Rattle.rules.specs.Checks.{within};
 ghost use Rattle.rules.specs.Model.{field, float_at, child_good, header_in, node_at};
-ghost use Rattle.fields.specs.Fields.{wrong_at, taken, ranged, number_field, header_field, node_field, node_entry, sizes_at, scores_at, split_from};
+ghost use Rattle.fields.specs.Fields.{Tests, taken, number_field, header_field, node_field, node_entry, split_from};
 
 use node_entries::NodeEntry;
 use rules::Misread;
 
-#[derive(Clone, Copy)]
-pub enum NumberField {
-    Misread(Misread),
-    Says(u64, usize),
-}
+// What a field says, and the place of the next one. Each function takes the bytes and a place, and has no reader that moves on: that would leave two values
+// to speak of, and so two equations in place of one in each contract. A misread field's number is the C interface's.
+pub type Read<T> = Result<(T, usize), Misread>;
 
 #[derive(Clone, Copy)]
 pub struct Header {
@@ -21,147 +20,94 @@ pub struct Header {
     pub trees: u32,
 }
 
-#[derive(Clone, Copy)]
-pub enum HeaderField {
-    Misread(Misread),
-    Says(Header, usize),
-}
-
-#[derive(Clone, Copy)]
-pub enum NodeField {
-    Misread(Misread),
-    Says(NodeEntry, usize),
-}
-
-fn wrong(number: u32, place: usize) -> NumberField
-    ensures { result ≡ wrong_at number place }
-{
-    NumberField::Misread(Misread { number, place })
-}
-
 // ---- numbers
 
 // The number that k bytes say, whatever it is.
-fn take(bytes: &[u8], at: usize, k: usize) -> NumberField
+fn take(bytes: &[u8], at: usize, k: usize) -> Read<u64>
     requires { k ≤ 8 }
     ensures { result ≡ taken bytes.now k at }
 {
     let n = bytes.len();
-    if n < k {
-        return wrong(14, at);
+    // the sum of at and k might not fit
+    if k <= n && at <= n - k {
+        Ok((bits::number_at(bytes, at, k), at + k))
+    } else {
+        Err(Misread {
+            number: 14,
+            place: at,
+        })
     }
-    if n - k < at {
-        return wrong(14, at);
-    }
-    let x = bits::number_at(bytes, at, k);
-    NumberField::Says(x, at + k)
 }
 
-// A number that must be at least the lower bound and below the upper.
-pub fn number_in(bytes: &[u8], at: usize, k: usize, number: u32, low: u64, high: u64) -> NumberField
-    requires { k ≤ 8 }
-    ensures { (passes : ℕ → Bool) → ((x : ℕ) → ranged low high x ≡ passes x) → result ≡ number_field (field bytes.now k number passes at) }
+// A number that has to be good.
+pub fn number_in<F: Fn(u64) -> bool>(
+    bytes: &[u8],
+    at: usize,
+    k: usize,
+    number: u32,
+    good: F,
+) -> Read<u64>
+    ghost passes: { ℕ → Bool }
+    requires few { k ≤ 8 }
+    requires callable { F.IsAlwaysCallable good }
+    requires tests { Tests (F.post good) passes }
+    ensures { result ≡ number_field (field bytes.now k number passes at) }
 {
-    let f = take(bytes, at, k);
-    match f {
-        NumberField::Misread(m) => NumberField::Misread(m),
-        NumberField::Says(x, next) => {
-            if x < low {
-                return wrong(number, at);
-            }
-            if high <= x {
-                return wrong(number, at);
-            }
-            NumberField::Says(x, next)
-        }
+    let (x, next) = take(bytes, at, k)?;
+    if good(x) {
+        Ok((x, next))
+    } else {
+        Err(Misread { number, place: at })
     }
 }
 
 // A float's pattern.
-pub fn pattern_in(bytes: &[u8], at: usize) -> NumberField
+pub fn pattern_in(bytes: &[u8], at: usize) -> Read<u64>
     ensures { result ≡ number_field (float_at bytes.now at) }
 {
-    let f = take(bytes, at, 8);
-    match f {
-        NumberField::Misread(m) => NumberField::Misread(m),
-        NumberField::Says(x, next) => {
-            if bits::pattern_good(x) {
-                return NumberField::Says(x, next);
-            }
-            wrong(16, at)
-        }
-    }
+    number_in(bytes, at, 8, 16, bits::pattern_good)
 }
 
+// Child 0 is none.
+#[tactic(auto, using(std::proofs::lemmas::Bool::Decides::nat_tests), unfolding(rules::specs::Model::child_good))]
 fn child_good(n: usize, k: usize, y: u64) -> bool
     ensures { result ≡ child_good n k y }
 {
     let child = y as usize;
-    if child == 0 {
-        return true;
-    }
-    if child <= k {
-        return false;
-    }
-    if n <= child {
-        return false;
-    }
-    child + 1 < n
+    // not `child < n.saturating_sub(1)`, with which a check of a file takes a tenth longer
+    child == 0 || (k < child && child < n && child + 1 < n)
 }
 
 // The true child of node k in a tree of n nodes.
-pub fn child_in(bytes: &[u8], n: usize, k: usize, at: usize) -> NumberField
+pub fn child_in(bytes: &[u8], n: usize, k: usize, at: usize) -> Read<u64>
     ensures { result ≡ number_field (field bytes.now 4 16 (child_good n k) at) }
 {
-    let f = take(bytes, at, 4);
-    match f {
-        NumberField::Misread(m) => NumberField::Misread(m),
-        NumberField::Says(y, next) => {
-            if child_good(n, k, y) {
-                return NumberField::Says(y, next);
-            }
-            wrong(16, at)
-        }
-    }
+    number_in(bytes, at, 4, 16, |y| child_good(n, k, y))
 }
 
 // ---- the header
 
-// Features and trees, after mark and version.
-fn sizes_in(bytes: &[u8], at: usize) -> HeaderField
-    ensures { result ≡ header_field (sizes_at bytes.now at) }
+// As many features or trees as a forest may have.
+#[tactic(auto, unfolding(rules::specs::Checks::within))]
+fn few(n: u64) -> bool
+    ensures { result ≡ within 1024 n }
 {
-    let f = number_in(bytes, at, 2, 16, 1, 1025);
-    match f {
-        NumberField::Misread(m) => HeaderField::Misread(m),
-        NumberField::Says(j, next) => {
-            let g = number_in(bytes, next, 2, 16, 1, 1025);
-            match g {
-                NumberField::Misread(m) => HeaderField::Misread(m),
-                NumberField::Says(t, end) => {
-                    let features = j as u32;
-                    let trees = t as u32;
-                    HeaderField::Says(Header { features, trees }, end)
-                }
-            }
-        }
-    }
+    1 <= n && n <= 1024
 }
 
-pub fn header_in(bytes: &[u8]) -> HeaderField
+// Mark and version, then features and trees.
+pub fn header_in(bytes: &[u8]) -> Read<Header>
     ensures { result ≡ header_field (header_in bytes.now) }
 {
-    let f = number_in(bytes, 0, 3, 15, 0x464752, 0x464753);
-    match f {
-        NumberField::Misread(m) => HeaderField::Misread(m),
-        NumberField::Says(_, next) => {
-            let g = number_in(bytes, next, 2, 15, 1, 2);
-            match g {
-                NumberField::Misread(m) => HeaderField::Misread(m),
-                NumberField::Says(_, end) => sizes_in(bytes, end),
-            }
-        }
-    }
+    let (_mark, version_at) = number_in(bytes, 0, 3, 15, |x| x == 0x464752)?;
+    let (_version, features_at) = number_in(bytes, version_at, 2, 15, |x| x == 1)?;
+    let (features, trees_at) = number_in(bytes, features_at, 2, 16, few)?;
+    let (trees, end) = number_in(bytes, trees_at, 2, 16, few)?;
+    let header = Header {
+        features: features as u32,
+        trees: trees as u32,
+    };
+    Ok((header, end))
 }
 
 // ---- a node
@@ -179,74 +125,39 @@ fn leaf_of(value: f64) -> NodeEntry
     }
 }
 
-// Threshold and score of a split.
-fn scores_in(bytes: &[u8], value: f64, feature: u32, child: u32, at: usize) -> NodeField
-    requires { child < 4294967295 }
-    ensures { result ≡ node_field (scores_at bytes.now value feature child at) }
-{
-    let f = pattern_in(bytes, at);
-    match f {
-        NumberField::Misread(m) => NodeField::Misread(m),
-        NumberField::Says(t, next) => {
-            let g = pattern_in(bytes, next);
-            match g {
-                NumberField::Misread(m) => NodeField::Misread(m),
-                NumberField::Says(s, end) => {
-                    let threshold = bits::float_of(t);
-                    let score = bits::float_of(s);
-                    let falsechild = child + 1;
-                    let entry = NodeEntry {
-                        value,
-                        feature,
-                        threshold,
-                        score,
-                        truechild: child,
-                        falsechild,
-                    };
-                    NodeField::Says(entry, end)
-                }
-            }
-        }
-    }
-}
-
 // What a split says after its child.
-fn split_in(bytes: &[u8], features: usize, value: f64, child: u32, at: usize) -> NodeField
-    requires { (child < 4294967295) × (features ≤ 4294967295) }
+fn split_in(bytes: &[u8], features: usize, value: f64, child: u32, at: usize) -> Read<NodeEntry>
+    requires child_below { child < 4294967295 }
+    requires features_below { features ≤ 4294967295 }
     ensures { result ≡ node_field (split_from bytes.now features value child at) }
 {
     let high = features as u64;
-    let f = number_in(bytes, at, 2, 16, 0, high);
-    match f {
-        NumberField::Misread(m) => NodeField::Misread(m),
-        NumberField::Says(j, next) => {
-            let feature = j as u32;
-            scores_in(bytes, value, feature, child, next)
-        }
-    }
+    let (feature, threshold_at) = number_in(bytes, at, 2, 16, |j| j < high)?;
+    let (threshold, score_at) = pattern_in(bytes, threshold_at)?;
+    let (score, end) = pattern_in(bytes, score_at)?;
+    let entry = NodeEntry {
+        value,
+        feature: feature as u32,
+        threshold: bits::float_of(threshold),
+        score: bits::float_of(score),
+        truechild: child,
+        falsechild: child + 1,
+    };
+    Ok((entry, end))
 }
 
 // Node k of a tree of n nodes.
-pub fn node_in(bytes: &[u8], features: usize, n: usize, k: usize, at: usize) -> NodeField
-    requires { (n ≤ 4294967295) × (features ≤ 4294967295) }
+pub fn node_in(bytes: &[u8], features: usize, n: usize, k: usize, at: usize) -> Read<NodeEntry>
+    requires nodes_below { n ≤ 4294967295 }
+    requires features_below { features ≤ 4294967295 }
     ensures { result ≡ node_field (node_at bytes.now features n k at) }
 {
-    let f = pattern_in(bytes, at);
-    match f {
-        NumberField::Misread(m) => NodeField::Misread(m),
-        NumberField::Says(v, next) => {
-            let g = child_in(bytes, n, k, next);
-            match g {
-                NumberField::Misread(m) => NodeField::Misread(m),
-                NumberField::Says(y, end) => {
-                    let value = bits::float_of(v);
-                    if y == 0 {
-                        return NodeField::Says(leaf_of(value), end);
-                    }
-                    let child = y as u32;
-                    split_in(bytes, features, value, child, end)
-                }
-            }
-        }
+    let (pattern, child_at) = pattern_in(bytes, at)?;
+    let (child, end) = child_in(bytes, n, k, child_at)?;
+    let value = bits::float_of(pattern);
+    if child == 0 {
+        Ok((leaf_of(value), end))
+    } else {
+        split_in(bytes, features, value, child as u32, end)
     }
 }

@@ -1,9 +1,10 @@
 -- Tree after tree: what the loop asks, what it leaves, and its turns. Assumes nothing.
-use Rattle.std.specs.Prelude.{ℕ, suc, ◌+◌, ◌*◌, ◌<◌, ◌≤◌, min, ◌≡◌, refl, List, ◌∷◌, map, get_or, set, take, drop}
+use Rattle.std.specs.Prelude.{ℕ, suc, ◌+◌, ◌*◌, ◌<◌, ◌≤◌, min, ◌≡◌, refl, List, ◌∷◌, map, get_or, set, take, drop, Result, Ok, Err}
 use Rattle.std.proofs.Common.{zero-add, arith, sym, ◌∙◌, length-drop}
 use Rattle.std.proofs.Math.Path.{ap, subst}
 use Rattle.std.proofs.Math.ListN.{length, length-set}
 use Rattle.std.proofs.lemmas.List.{length-map}
+use Rattle.rules.specs.declared.Place.{Place}
 use Rattle.rules.specs.declared.Report.{Report}
 use Rattle.rules.specs.Words.{from, total}
 use Rattle.rules.specs.Lent.{shortest_of_eight}
@@ -13,21 +14,19 @@ use Rattle.rules.specs.Forest.{stopped, grown_all, grow_trees, starts_from}
 use Rattle.lemmas.specs.Lists.{length_from, get_d-from}
 use Rattle.lemmas.specs.Passed.{PartAt}
 use Rattle.lemmas.specs.Outs.{Then, then-of}
-use Rattle.rooms.specs.Zero.{NodesLong, BehindLong}
-use Rattle.node_entries.specs.Entries.{NodeRoom, LongRoom}
-use Rattle.tree_report.specs.declared.Planted.{Planted}
-use Rattle.tree_report.specs.declared.Planted.TheVariants.{BadDraw, Grown}
+use Rattle.node_entries.specs.Entries.{NodeRoom, node_lengths, LongRoom}
+use Rattle.tree_growth.specs.Places.{WorkLengths}
 use Rattle.tree_build.specs.Plant.{PlantDone, long-room}
-use Rattle.forest_build.specs.declared.Grove.{Grove}
-use Rattle.forest_build.specs.declared.Grove.TheVariants as U
-use Rattle.forest_build.specs.declared.Told.{Told}
-use Rattle.forest_build.specs.Lot.{Lot, Widths, lot_tree, lot_trees, PlantIn}
+use Rattle.forest_build.specs.declared.GrownTree.{GrownTree}
+use Rattle.forest_build.specs.Told.{report_of, end_of, Told}
+use Rattle.forest_build.specs.Lot.{Lot, lot_tree, lot_trees, PlantIn}
 use Rattle.forest_build.specs.Columns.{drop_all, columns-long}
 use Rattle.forest_build.specs.Standing.{write_trees, trees-written, Standing, standing-first, standing-end, standing-stop, standing-next, room-here}
 use Rattle.forest_build.specs.Next.{NextAsks, NextDone}
 
-pub record AllAsks (trees : ℕ) (L : Lot) (c : NodeRoom) (w : Widths) : Type 0 where
-  pub fine : (t : ℕ) → t < trees → (k : NodeRoom) → room_for (lot_tree L t) ≤ shortest_of_eight k.nodes k.behind → PlantIn L (lot_tree L t) k w
+-- each tree may be grown wherever there is room for it, and there is room for all
+pub record AllAsks (trees : ℕ) (L : Lot) (c : NodeRoom) (w : WorkLengths) : Type 0 where
+  pub fine : (t : ℕ) → t < trees → (k : NodeRoom) → room_for (lot_tree L t) ≤ shortest_of_eight k.nodes k.behind → PlantIn L.features (lot_tree L t) L.inputs k w
   pub small : (t : ℕ) → t < trees → t * L.rows + L.rows < 4294967296
   pub counted : (t : ℕ) → t < trees → t * L.rows + L.rows ≤ length L.counts
   pub word : (t : ℕ) → t < trees → PartAt L.word_starts (length L.words) t
@@ -39,25 +38,17 @@ pub record AllAsks (trees : ℕ) (L : Lot) (c : NodeRoom) (w : Widths) : Type 0 
   pub low : total room_for (lot_trees trees L) < 4294967296
 
 -- all trees as the definition has them: their nodes at the front of the columns, their reports and starts told
-pub record AllGrown (n : ℕ) (L : Lot) (c c' : NodeRoom) (rs : List Report) (es : List ℕ) : Type 0 where
+pub record AllGrown (n : ℕ) (L : Lot) (c c' : NodeRoom) (gs : List GrownTree) : Type 0 where
   pub trees : List Tree
   pub same : grow_trees 0 (lot_trees n L) L.inputs ≡ grown_all trees
   pub nodes : c' ≡ write_trees trees c
-  pub reports : take n rs ≡ map (λ (x : Tree). x.report) trees
-  pub starts : 0 ∷ take n es ≡ starts_from 0 trees
+  pub reports : map report_of (take n gs) ≡ map (λ (x : Tree). x.report) trees
+  pub starts : 0 ∷ map end_of (take n gs) ≡ starts_from 0 trees
 
-abbrev pub Answers : ℕ → Lot → NodeRoom → NodeRoom → List Report → List ℕ → Grove → Type 0
-Answers n L c c' rs es (U.Stopped d) = grow_trees 0 (lot_trees n L) L.inputs ≡ stopped d
-Answers n L c c' rs es U.Grown = AllGrown n L c c' rs es
-
--- room in what is told for as many trees as there may be
-pub record ToldLong (rs : List Report) (es : List ℕ) : Type 0 where
-  pub reports : length rs ≡ 1024
-  pub ends : length es ≡ 1024
-
-pub record AllDone (trees : ℕ) (L : Lot) (c c' : NodeRoom) (told : Told) : Type 0 where
-  pub long : ToldLong told.reports told.ends
-  pub done : Answers trees L c c' told.reports told.ends told.end
+-- all trees, or where the definition meets the bad draw
+abbrev pub AllDone : ℕ → Lot → NodeRoom → NodeRoom → Told → Type 0
+AllDone n L c c' (Err d) = grow_trees 0 (lot_trees n L) L.inputs ≡ stopped d
+AllDone n L c c' (Ok gs) = AllGrown n L c c' gs
 
 -- ---- the room that is left
 
@@ -71,11 +62,11 @@ room-long m c h =
     (over m _ _ h.count h.mass)
 
 -- the room from place `at` on
-left-room : (at n : ℕ) (c₀ c : NodeRoom) → NodesLong c₀.nodes c.nodes → BehindLong c₀.behind c.behind → at + n ≤ shortest_of_eight c₀.nodes c₀.behind
+left-room : (at n : ℕ) (c₀ c : NodeRoom) → node_lengths c ≡ node_lengths c₀ → at + n ≤ shortest_of_eight c₀.nodes c₀.behind
     → LongRoom at c × (n ≤ shortest_of_eight (drop_all at c).nodes (drop_all at c).behind)
-left-room at n c₀ c l b h =
+left-room at n c₀ c l h =
     let e = long-room (at + n) c₀ h in
-    (columns-long (λ A k. k) (at + n) at (λ A. near) c₀ c l b e, room-long n (drop_all at c) (columns-long (λ A. drop at) (at + n) n (λ A. far) c₀ c l b e))
+    (columns-long (λ A k. k) (at + n) at (λ A. near) c₀ c l e, room-long n (drop_all at c) (columns-long (λ A. drop at) (at + n) n (λ A. far) c₀ c l e))
   where
     near : {A : Type 0} (k₀ k : List A) → length k ≡ length k₀ → at + n ≤ length k₀ → at ≤ length k
     near k₀ k e h = omega arith
@@ -85,18 +76,14 @@ left-room at n c₀ c l b h =
 
 -- ---- the loop
 
-pub record Going (trees : ℕ) (L : Lot) (c₀ : NodeRoom) (w₀ : Widths) (t at : ℕ) (c : NodeRoom) (w : Widths) (rs : List Report) (es : List ℕ) : Type 0 where
+-- t trees are grown, and the rest may be
+pub record Going (trees : ℕ) (L : Lot) (c₀ : NodeRoom) (w₀ : WorkLengths) (t at : ℕ) (c : NodeRoom) (w : WorkLengths) (gs : List GrownTree) : Type 0 where
   pub asks : AllAsks trees L c₀ w₀
   pub within : t ≤ trees
-  pub standing : Standing (lot_trees trees L) L.inputs c₀ t at c rs es
-  pub long : ToldLong rs es
-  pub nodes : NodesLong c₀.nodes c.nodes
-  pub behind : BehindLong c₀.behind c.behind
-  pub order : w.order ≡ w₀.order
-  pub scratch : w.scratch ≡ w₀.scratch
-  pub flags : w.flags ≡ w₀.flags
-  pub wholes : w.wholes ≡ w₀.wholes
-  pub reals : w.reals ≡ w₀.reals
+  pub standing : Standing (lot_trees trees L) L.inputs c₀ t at c gs
+  pub long : length gs ≡ 1024
+  pub nodes : node_lengths c ≡ node_lengths c₀
+  pub work : w ≡ w₀
 
 frames-long : (n : ℕ) (L : Lot) → length (lot_trees n L) ≡ n
 frames-long n L = length-map (from 0 n) (lot_tree L) ∙ length_from 0 n
@@ -104,36 +91,28 @@ frames-long n L = length-map (from 0 n) (lot_tree L) ∙ length_from 0 n
 frame_at : (n : ℕ) (L : Lot) (t : ℕ) → t < n → get_or (lot_trees n L) t (lot_tree L t) ≡ lot_tree L t
 frame_at n L t h = get_d-from (lot_tree L) 0 n t (lot_tree L t) h ∙ ap (lot_tree L) (zero-add t)
 
-pub going-first : (n : ℕ) (L : Lot) (c : NodeRoom) (w : Widths) (rs : List Report) (es : List ℕ) → AllAsks n L c w → ToldLong rs es → Going n L c w 0 0 c w rs es
-going-first n L c w rs es h l =
+pub going-first : (n : ℕ) (L : Lot) (c : NodeRoom) (w : WorkLengths) (gs : List GrownTree) → AllAsks n L c w → length gs ≡ 1024 → Going n L c w 0 0 c w gs
+going-first n L c w gs h l =
     record {
       asks = h;
       within = omega arith;
-      standing = standing-first (lot_trees n L) L.inputs c rs es;
+      standing = standing-first (lot_trees n L) L.inputs c gs;
       long = l;
-      nodes = record { value = refl; feature = refl; threshold = refl; score = refl; truechild = refl; falsechild = refl };
-      behind = record { count = refl; mass = refl };
-      order = refl;
-      scratch = refl;
-      flags = refl;
-      wholes = refl;
-      reals = refl;
+      nodes = refl;
+      work = refl;
     }
 
-module _ (n : ℕ) (L : Lot) (c₀ : NodeRoom) (w₀ : Widths) (t at : ℕ) (c : NodeRoom) (w : Widths) (rs : List Report) (es : List ℕ) (g : Going n L c₀ w₀ t at c w rs es) where
-  pub going_end : n ≤ t → AllDone n L c₀ c (record { end = U.Grown; reports = rs; ends = es })
+module _ (n : ℕ) (L : Lot) (c₀ : NodeRoom) (w₀ : WorkLengths) (t at : ℕ) (c : NodeRoom) (w : WorkLengths) (gs : List GrownTree) (g : Going n L c₀ w₀ t at c w gs) where
+  pub going_end : n ≤ t → AllDone n L c₀ c (Ok gs)
   going_end h =
       let st = g.standing in
       let all = same t n g.within h in
       record {
-        long = g.long;
-        done = record {
-          trees = st.trees;
-          same = standing-end (lot_trees n L) L.inputs c₀ t at c rs es st (subst (λ k. k ≤ t) (sym (frames-long n L)) h);
-          nodes = st.nodes ∙ trees-written st.trees c₀;
-          reports = subst (λ k. take k rs ≡ map (λ (x : Tree). x.report) st.trees) all st.reports;
-          starts = subst (λ k. 0 ∷ take k es ≡ starts_from 0 st.trees) all st.starts;
-        };
+        trees = st.trees;
+        same = standing-end (lot_trees n L) L.inputs c₀ t at c gs st (subst (λ k. k ≤ t) (sym (frames-long n L)) h);
+        nodes = st.nodes ∙ trees-written st.trees c₀;
+        reports = subst (λ k. map report_of (take k gs) ≡ map (λ (x : Tree). x.report) st.trees) all st.reports;
+        starts = subst (λ k. 0 ∷ map end_of (take k gs) ≡ starts_from 0 st.trees) all st.starts;
       }
     where
       same : (a b : ℕ) → a ≤ b → b ≤ a → a ≡ b
@@ -144,23 +123,20 @@ module _ (n : ℕ) (L : Lot) (c₀ : NodeRoom) (w₀ : Widths) (t at : ℕ) (c :
     inside = subst (λ k. t < k) (sym (frames-long n L)) h
 
     here : at + room_for (lot_tree L t) + total room_for (drop (suc t) (lot_trees n L)) ≤ total room_for (lot_trees n L)
-    here = room-here (lot_trees n L) L.inputs c₀ t at c rs es g.standing inside (lot_tree L t) (frame_at n L t h)
+    here = room-here (lot_trees n L) L.inputs c₀ t at c gs g.standing inside (lot_tree L t) (frame_at n L t h)
 
     room : LongRoom at c × (room_for (lot_tree L t) ≤ shortest_of_eight (drop_all at c).nodes (drop_all at c).behind)
     room =
-        left-room at (room_for (lot_tree L t)) c₀ c g.nodes g.behind
+        left-room at (room_for (lot_tree L t)) c₀ c g.nodes
         (less at (room_for (lot_tree L t)) (total room_for (drop (suc t) (lot_trees n L))) (total room_for (lot_trees n L)) (shortest_of_eight c₀.nodes c₀.behind) here g.asks.room)
       where
         less : (a b c d e : ℕ) → a + b + c ≤ d → d ≤ e → a + b ≤ e
         less a b c d e h k = omega arith
 
-    widths-kept : w₀ ≡ w
-    widths-kept = λ i. record { order = sym g.order i; scratch = sym g.scratch i; flags = sym g.flags i; wholes = sym g.wholes i; reals = sym g.reals i }
-
     pub going-may : NextAsks L t at c w
     going-may =
         record {
-          plant = subst (PlantIn L (lot_tree L t) (drop_all at c)) widths-kept (g.asks.fine t h (drop_all at c) room.1);
+          plant = subst (PlantIn L.features (lot_tree L t) L.inputs (drop_all at c)) (sym g.work) (g.asks.fine t h (drop_all at c) room.1);
           long = room.0;
           small = g.asks.small t h;
           counted = g.asks.counted t h;
@@ -168,19 +144,16 @@ module _ (n : ℕ) (L : Lot) (c₀ : NodeRoom) (w₀ : Widths) (t at : ℕ) (c :
           threshold = g.asks.threshold t h;
         }
 
-    module _ (c' : NodeRoom) (r : Planted) (d : NextDone L t at c c' r) where
-      pub going-stop : (k : ℕ) → r ≡ BadDraw k → {m : ℕ} → m ≡ t → AllDone n L c₀ c' (record { end = U.Stopped (record { tree = m; search = k }); reports = rs; ends = es })
-      going-stop k e em =
-          record {
-            long = g.long;
-            done = standing-stop (lot_trees n L) L.inputs c₀ t at c rs es g.standing inside (lot_tree L t) (frame_at n L t h) k
-                (subst (λ z. NextDone L t at c c' z) e d).done.done
-                ∙ ap (λ m. stopped (record { tree = m; search = k })) (sym em);
-          }
+    module _ (c' : NodeRoom) (r : Result Report Place) (d : NextDone L t at c c' r) where
+      pub going-stop : (p : Place) → r ≡ Err p → AllDone n L c₀ c' (Err p)
+      going-stop p e =
+          let (et, f) = subst (NextDone L t at c c') e d in
+          standing-stop (lot_trees n L) L.inputs c₀ t at c gs g.standing inside (lot_tree L t) (frame_at n L t h) p.search f.done.done
+          ∙ ap (λ m. stopped (record { tree = m; search = p.search })) (sym et)
 
-      module _ (report : Report) (e : r ≡ Grown report) where
-        grew : PlantDone (lot_tree L t) L.inputs (drop_all at c) (drop_all at c') (Grown report)
-        grew = (subst (λ z. NextDone L t at c c' z) e d).done
+      module _ (report : Report) (e : r ≡ Ok report) where
+        grew : PlantDone (lot_tree L t) L.inputs (drop_all at c) (drop_all at c') (Ok report)
+        grew = (subst (NextDone L t at c c') e d).done
 
         tree : Tree
         tree = grew.done.tree
@@ -205,32 +178,18 @@ module _ (n : ℕ) (L : Lot) (c₀ : NodeRoom) (w₀ : Widths) (t at : ℕ) (c :
             fits : (a n m r x d : ℕ) → n ≡ m → m ≤ r → a + r + x ≤ d → d < 4294967296 → a + n < 4294967296
             fits a n m r x d e h k l = omega arith
 
-        pub going_on : (at' : ℕ) → at' ≡ at + report.nodes → NodesLong c.nodes c'.nodes → BehindLong c.behind c'.behind → (w' : Widths)
-            → w'.order ≡ w.order → w'.scratch ≡ w.scratch → w'.flags ≡ w.flags → w'.wholes ≡ w.wholes → w'.reals ≡ w.reals
-            → Going n L c₀ w₀ (t + 1) at' c' w' (set rs t report) (set es t at')
+        pub going_on : (at' : ℕ) → at' ≡ at + report.nodes → node_lengths c' ≡ node_lengths c → (w' : WorkLengths) → w' ≡ w
+            → Going n L c₀ w₀ (t + 1) at' c' w' (set gs t (record { report = report; end = at' }))
         unfolding tree
-        going_on at' ea ln lb w' eo es' ef ew er =
+        going_on at' ea l w' ew =
             record {
               asks = g.asks;
               within = omega arith;
               standing =
-                  subst (λ x. Standing (lot_trees n L) L.inputs c₀ (t + 1) at' c' (set rs t x) (set es t at')) grew.done.report
-                  (standing-next (lot_trees n L) L.inputs c₀ t at c rs es g.standing inside (lot_tree L t) (frame_at n L t h) tree grew.done.same tree-low
-                  at' (ea ∙ ap (λ m. at + m) nodes-told) c' d.kept grew.done.written
-                  (omega (arith, g.long.reports, g.asks.few)) (omega (arith, g.long.ends, g.asks.few)));
-              long = record { reports = length-set rs t report ∙ g.long.reports; ends = length-set es t at' ∙ g.long.ends };
-              nodes = record {
-                value = ln.value ∙ g.nodes.value;
-                feature = ln.feature ∙ g.nodes.feature;
-                threshold = ln.threshold ∙ g.nodes.threshold;
-                score = ln.score ∙ g.nodes.score;
-                truechild = ln.truechild ∙ g.nodes.truechild;
-                falsechild = ln.falsechild ∙ g.nodes.falsechild;
-              };
-              behind = record { count = lb.count ∙ g.behind.count; mass = lb.mass ∙ g.behind.mass };
-              order = eo ∙ g.order;
-              scratch = es' ∙ g.scratch;
-              flags = ef ∙ g.flags;
-              wholes = ew ∙ g.wholes;
-              reals = er ∙ g.reals;
+                  subst (λ x. Standing (lot_trees n L) L.inputs c₀ (t + 1) at' c' (set gs t (record { report = x; end = at' }))) grew.done.report
+                  (standing-next (lot_trees n L) L.inputs c₀ t at c gs g.standing inside (lot_tree L t) (frame_at n L t h) tree grew.done.same tree-low
+                  at' (ea ∙ ap (λ m. at + m) nodes-told) c' (subst (NextDone L t at c c') e d).kept grew.done.written (omega (arith, g.long, g.asks.few)));
+              long = length-set gs t (record { report = report; end = at' }) ∙ g.long;
+              nodes = l ∙ g.nodes;
+              work = ew ∙ g.work;
             }

@@ -1,7 +1,7 @@
 -- The eight node columns, column by column. Assumes nothing.
 use Rattle.std.specs.Prelude.{ℕ, ◌≤◌, ◌≡◌, List, length, take, drop}
-use Rattle.rooms.specs.Zero.{NodesLong, BehindLong}
-use Rattle.node_entries.specs.Entries.{NodeRoom, LongRoom}
+use Rattle.std.proofs.Common.{ap}
+use Rattle.node_entries.specs.Entries.{NodeRoom, NodeLengths, node_lengths, LongRoom}
 
 -- made of the columns of two rooms
 abbrev pub columnwise : ((A : Type 0) → List A → List A → List A) → NodeRoom → NodeRoom → NodeRoom
@@ -22,10 +22,11 @@ columnwise f c d =
 abbrev pub each : ((A : Type 0) → List A → List A) → NodeRoom → NodeRoom
 each f c = columnwise (λ A k l. f A k) c c
 
--- from place n on, and before it
+-- from place n on
 abbrev pub drop_all : ℕ → NodeRoom → NodeRoom
 drop_all n c = each (λ A. drop n) c
 
+-- and before it
 abbrev pub take_each : ℕ → NodeRoom → NodeRoom
 take_each n c = each (λ A. take n) c
 
@@ -47,17 +48,17 @@ columns-same f g n e c d h = λ i.
 
 -- columns as long as those of a room that is long enough
 pub columns-long : (f : (A : Type 0) → List A → List A) (m n : ℕ) → ((A : Type 0) (k₀ k : List A) → length k ≡ length k₀ → m ≤ length k₀ → n ≤ length (f A k)) → (c₀ c : NodeRoom)
-    → NodesLong c₀.nodes c.nodes → BehindLong c₀.behind c.behind → LongRoom m c₀ → LongRoom n (each f c)
-columns-long f m n e c₀ c l b h =
+    → node_lengths c ≡ node_lengths c₀ → LongRoom m c₀ → LongRoom n (each f c)
+columns-long f m n e c₀ c l h =
     record {
       nodes = record {
-        value = e _ c₀.nodes.value c.nodes.value l.value h.nodes.value;
-        feature = e _ c₀.nodes.feature c.nodes.feature l.feature h.nodes.feature;
-        threshold = e _ c₀.nodes.threshold c.nodes.threshold l.threshold h.nodes.threshold;
-        score = e _ c₀.nodes.score c.nodes.score l.score h.nodes.score;
-        truechild = e _ c₀.nodes.true_child c.nodes.true_child l.truechild h.nodes.truechild;
-        falsechild = e _ c₀.nodes.false_child c.nodes.false_child l.falsechild h.nodes.falsechild;
+        value = e _ c₀.nodes.value c.nodes.value (ap (λ (n : NodeLengths). n.value) l) h.nodes.value;
+        feature = e _ c₀.nodes.feature c.nodes.feature (ap (λ (n : NodeLengths). n.feature) l) h.nodes.feature;
+        threshold = e _ c₀.nodes.threshold c.nodes.threshold (ap (λ (n : NodeLengths). n.threshold) l) h.nodes.threshold;
+        score = e _ c₀.nodes.score c.nodes.score (ap (λ (n : NodeLengths). n.score) l) h.nodes.score;
+        truechild = e _ c₀.nodes.true_child c.nodes.true_child (ap (λ (n : NodeLengths). n.truechild) l) h.nodes.truechild;
+        falsechild = e _ c₀.nodes.false_child c.nodes.false_child (ap (λ (n : NodeLengths). n.falsechild) l) h.nodes.falsechild;
       };
-      count = e _ c₀.behind.count c.behind.count b.count h.count;
-      mass = e _ c₀.behind.mass c.behind.mass b.mass h.mass;
+      count = e _ c₀.behind.count c.behind.count (ap (λ (n : NodeLengths). n.count) l) h.count;
+      mass = e _ c₀.behind.mass c.behind.mass (ap (λ (n : NodeLengths). n.mass) l) h.mass;
     }

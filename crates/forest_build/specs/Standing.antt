@@ -6,7 +6,6 @@ use Rattle.std.proofs.Math.Path.{sym, ap, subst}
 use mathlib.Core.List.{List, [], ◌∷◌, ◌++◌, map, map-append, append_assoc, append-nil}
 use Rattle.std.proofs.Math.ListN.{drop}
 use Rattle.std.proofs.lemmas.List.{length-map}
-use Rattle.rules.specs.declared.Report.{Report}
 use Rattle.rules.specs.declared.Place.{Place}
 use Rattle.rules.specs.Words.{front, joined, total}
 use Rattle.rules.specs.Lent.{Data, OneTree, Entry, write_entries}
@@ -19,10 +18,13 @@ use Rattle.lemmas.specs.Tables.{length-entries}
 use Rattle.lemmas.specs.Beside.{entries-append, entries-joined}
 use Rattle.node_entries.specs.Entries.{NodeRoom}
 use Rattle.node_entries.specs.Nodes.{write_nodes}
+use Rattle.forest_build.specs.declared.GrownTree.{GrownTree}
+use Rattle.forest_build.specs.Told.{report_of, end_of}
 use Rattle.forest_build.specs.Columns.{drop_all, take_each}
 
 -- ---- forests grown so far, and the rest
 
+-- a forest with trees put before its own
 unfoldable pub over : List Tree → Forest → Forest
 over [] f = f
 over (t ∷ ts) f = with_tree t (over ts f)
@@ -124,19 +126,20 @@ trees-written ts c = λ i. record { nodes = write_entries (entries-joined ts i) 
 
 -- ---- where the loop stands
 
-pub record Standing (Fs : List OneTree) (D : Data) (c₀ : NodeRoom) (t at : ℕ) (c : NodeRoom) (rs : List Report) (es : List ℕ) : Type 0 where
+-- t trees stand in the columns and are told of, and with those that are left they are the forest
+pub record Standing (Fs : List OneTree) (D : Data) (c₀ : NodeRoom) (t at : ℕ) (c : NodeRoom) (gs : List GrownTree) : Type 0 where
   pub trees : List Tree
   pub count : length trees ≡ t
   pub so : over trees (grow_trees t (drop t Fs) D) ≡ grow_trees 0 Fs D
   pub end : length (forest_nodes trees) ≡ at
   pub nodes : c ≡ write_nodes (forest_nodes trees) c₀
-  pub reports : take t rs ≡ map (λ (x : Tree). x.report) trees
-  pub starts : 0 ∷ take t es ≡ starts_from 0 trees
+  pub reports : map report_of (take t gs) ≡ map (λ (x : Tree). x.report) trees
+  pub starts : 0 ∷ map end_of (take t gs) ≡ starts_from 0 trees
   pub room : at + total room_for (drop t Fs) ≤ total room_for Fs
 
-pub standing-first : (Fs : List OneTree) (D : Data) (c₀ : NodeRoom) (rs : List Report) (es : List ℕ) → Standing Fs D c₀ 0 0 c₀ rs es
+pub standing-first : (Fs : List OneTree) (D : Data) (c₀ : NodeRoom) (gs : List GrownTree) → Standing Fs D c₀ 0 0 c₀ gs
 unfolding over forest_nodes joined entries starts_from
-standing-first Fs D c₀ rs es =
+standing-first Fs D c₀ gs =
     record {
       trees = [];
       count = refl;
@@ -148,7 +151,7 @@ standing-first Fs D c₀ rs es =
       room = subst (λ n. n ≤ total room_for Fs) (sym (zero-add (total room_for Fs))) (le_refl (total room_for Fs));
     }
 
-module _ (Fs : List OneTree) (D : Data) (c₀ : NodeRoom) (t at : ℕ) (c : NodeRoom) (rs : List Report) (es : List ℕ) (st : Standing Fs D c₀ t at c rs es) where
+module _ (Fs : List OneTree) (D : Data) (c₀ : NodeRoom) (t at : ℕ) (c : NodeRoom) (gs : List GrownTree) (st : Standing Fs D c₀ t at c gs) where
   pub standing-end : length Fs ≤ t → grow_trees 0 Fs D ≡ grown_all st.trees
   unfolding grow_trees
   standing-end h =
@@ -185,22 +188,26 @@ module _ (Fs : List OneTree) (D : Data) (c₀ : NodeRoom) (t at : ℕ) (c : Node
           ∙ ap (over st.trees) (sym (rest-is ∙ ap (λ o. next_tree t o (grow_trees (suc t) (drop (suc t) Fs) D)) e))
           ∙ st.so
 
-      starts_more : t < length es → 0 ∷ take (t + 1) (set es t at') ≡ starts_from 0 (st.trees ++ (tree ∷ []))
+      -- what is told of all, of one more
+      told-next : {A : Type 0} (f : GrownTree → A) (x : GrownTree) → t < length gs → map f (take (t + 1) (set gs t x)) ≡ map f (take t gs) ++ (f x ∷ [])
+      told-next f x h = ap (λ k. map f (take k (set gs t x))) (add-one t) ∙ ap (map f) (take_next gs t x h) ∙ map-append f (take t gs) (x ∷ [])
+
+      starts_more : t < length gs → 0 ∷ map end_of (take (t + 1) (set gs t (record { report = tree.report; end = at' }))) ≡ starts_from 0 (st.trees ++ (tree ∷ []))
       starts_more he =
-          ap (λ l. 0 ∷ l) (ap (λ k. take k (set es t at')) (add-one t) ∙ take_next es t at' he)
+          ap (λ l. 0 ∷ l) (told-next end_of (record { report = tree.report; end = at' }) he)
           ∙ ap (λ l. l ++ (at' ∷ [])) st.starts
           ∙ ap (λ k. starts_from 0 st.trees ++ (k ∷ [])) (ea ∙ ap (λ k. k + length tree.nodes) (sym st.end ∙ sym (zero-add (length (forest_nodes st.trees)))))
           ∙ sym (starts-next 0 st.trees tree)
 
-      reports-more : t < length rs → take (t + 1) (set rs t tree.report) ≡ map (λ (x : Tree). x.report) (st.trees ++ (tree ∷ []))
+      reports-more : t < length gs → map report_of (take (t + 1) (set gs t (record { report = tree.report; end = at' }))) ≡ map (λ (x : Tree). x.report) (st.trees ++ (tree ∷ []))
       reports-more hr =
-          ap (λ k. take k (set rs t tree.report)) (add-one t) ∙ take_next rs t tree.report hr
+          told-next report_of (record { report = tree.report; end = at' }) hr
           ∙ ap (λ l. l ++ (tree.report ∷ [])) st.reports
           ∙ sym (map-append (λ (x : Tree). x.report) st.trees (tree ∷ []))
 
       pub standing-next : (c' : NodeRoom) → take_each at c' ≡ take_each at c → drop_all at c' ≡ write_nodes tree.nodes (drop_all at c)
-          → t < length rs → t < length es → Standing Fs D c₀ (t + 1) at' c' (set rs t tree.report) (set es t at')
-      standing-next c' ct cd hr he =
+          → t < length gs → Standing Fs D c₀ (t + 1) at' c' (set gs t (record { report = tree.report; end = at' }))
+      standing-next c' ct cd ht =
           record {
             trees = st.trees ++ (tree ∷ []);
             count = length-append st.trees (tree ∷ []) ∙ ap (λ k. k + 1) st.count;
@@ -210,8 +217,8 @@ module _ (Fs : List OneTree) (D : Data) (c₀ : NodeRoom) (t at : ℕ) (c : Node
                 room_next c₀ c c' (forest_nodes st.trees) tree.nodes st.nodes (subst (λ k. take_each k c' ≡ take_each k c) (sym st.end) ct)
                 (subst (λ k. drop_all k c' ≡ write_nodes tree.nodes (drop_all k c)) (sym st.end) cd)
                 ∙ ap (λ l. write_nodes l c₀) (sym (nodes-next st.trees tree));
-            reports = reports-more hr;
-            starts = starts_more he;
+            reports = reports-more ht;
+            starts = starts_more ht;
             room = subst (λ k. at' + total room_for (drop k Fs) ≤ total room_for Fs) (sym (add-one t))
                 (fits at at' (length tree.nodes) (room_for F) (total room_for (drop (suc t) Fs)) ea few room-here);
           }

@@ -1,147 +1,138 @@
 // The trees of a forest, one after another: each with its own counts and its own part of both tapes, its nodes behind those of the one before.
 #![tactic(auto)]
 
-ghost use Rattle.std.specs.Prelude.{length};
-ghost use Rattle.node_entries.specs.Entries.{node_room_of};
-ghost use Rattle.tree_build.specs.Plant.{data_in};
-ghost use Rattle.forest_build.specs.Lot.{lot_of, widths_of};
+ghost use Rattle.std.specs.Prelude.{◌≡◌};
+ghost use Rattle.rules.specs.Slices.{SameNodes, SameWork};
+ghost use Rattle.node_entries.specs.Entries.{room_in, node_room_of, node_lengths};
+ghost use Rattle.tree_growth.specs.Places.{work_lengths};
+ghost use Rattle.tree_build.specs.Plant.{tree_for, data_for, PlantDone};
+ghost use Rattle.forest_build.specs.Lot.{lot_in, PlantIn};
 ghost use Rattle.forest_build.specs.Next.{NextAsks, NextDone};
 ghost use Rattle.forest_build.specs.All.{AllAsks, AllDone};
 
-use rules::{Params, Place, Report};
+use forest_parts::Parts;
+use rules::{Input, NodeRoom, Params, Place, Report, Shape, TapeStarts, Tapes, WorkRoom};
 use tree_report::Planted;
 
-// All trees are grown, or where a bad draw was met.
+// A tree that stands in the node columns: its report, and the place where its nodes end.
 #[derive(Clone, Copy)]
-pub enum Grove {
-    Stopped(Place),
-    Grown,
+pub struct GrownTree {
+    pub report: Report,
+    pub end: u32,
 }
 
-// How the growth of all trees ended; of the trees that are grown, the reports and the places where they end.
-#[derive(Clone, Copy)]
-pub struct Told {
-    pub end: Grove,
-    pub reports: [Report; 1024],
-    pub ends: [u32; 1024],
+// The trees that are grown, in as many places as there may be trees (there is no heap); or where a bad draw was met.
+pub type Told = Result<[GrownTree; 1024], Place>;
+
+// A tree in node columns that come one by one: of a room that is lent the ends of its columns can be lent, but not as a room.
+fn plant_in<'a>(
+    value: &'a mut [f64],
+    feature: &'a mut [u32],
+    threshold: &'a mut [f64],
+    score: &'a mut [f64],
+    truechild: &'a mut [u32],
+    falsechild: &'a mut [u32],
+    count: &'a mut [u32],
+    mass: &'a mut [f64],
+    work: &mut WorkRoom,
+    input: &Input,
+    tapes: &Tapes,
+    shape: Shape,
+    p: Params,
+) -> Planted
+    requires { PlantIn shape.features (tree_for shape p input.now tapes.now) (data_for input.now)
+        (node_room_of value.old feature.old threshold.old score.old truechild.old falsechild.old count.old mass.old)
+        (work_lengths work.old) }
+    ensures same_work { SameWork work.old work.new }
+    ensures work_long { work_lengths work.new ≡ work_lengths work.old }
+    ensures done { PlantDone (tree_for shape p input.now tapes.now) (data_for input.now)
+        (node_room_of value.old feature.old threshold.old score.old truechild.old falsechild.old count.old mass.old)
+        (node_room_of value.new feature.new threshold.new score.new truechild.new falsechild.new count.new mass.new)
+        result }
+{
+    let mut nodes = NodeRoom {
+        value,
+        feature,
+        threshold,
+        score,
+        truechild,
+        falsechild,
+        count,
+        mass,
+    };
+    tree_build::plant(&mut nodes, work, input, tapes, shape, p)
 }
 
-// Tree t, its nodes from place `at` of the node columns on.
+// Tree t, or where its bad draw was met; its nodes from place `at` of the node columns on.
 pub fn plant_next(
-    value: &mut [f64],
-    feature: &mut [u32],
-    threshold: &mut [f64],
-    score: &mut [f64],
-    truechild: &mut [u32],
-    falsechild: &mut [u32],
-    nodecount: &mut [u32],
-    nodemass: &mut [f64],
-    order: &mut [u32],
-    scratch: &mut [u32],
-    flags: &mut [bool],
-    wholes: &mut [[u32; 6]],
-    reals: &mut [[f64; 3]],
-    values: &[f64],
-    targets: &[f64],
-    weights: &[f64],
-    counts: &[u32],
-    listings: &[u32],
-    words: &[u32],
-    thresholds: &[f64],
-    wordstarts: &[usize],
-    thresholdstarts: &[usize],
-    rows: usize,
-    features: usize,
+    nodes: &mut NodeRoom,
+    work: &mut WorkRoom,
+    input: &Input,
+    tapes: &Tapes,
+    parts: &TapeStarts,
+    shape: Shape,
     p: Params,
     t: usize,
     at: usize,
-) -> Planted
-    requires { NextAsks
-        (lot_of rows features p weights.now counts.now words.now thresholds.now wordstarts.now thresholdstarts.now (data_in values.now targets.now listings.now))
-        t at (node_room_of value.old feature.old threshold.old score.old truechild.old falsechild.old nodecount.old nodemass.old)
-        (widths_of (length order.old) scratch.old flags.old wholes.old reals.old) }
-    ensures { NextDone
-        (lot_of rows features p weights.now counts.now words.now thresholds.now wordstarts.now thresholdstarts.now
-        (data_in values.now targets.now listings.now)) t at
-        (node_room_of value.old feature.old threshold.old score.old truechild.old falsechild.old
-        nodecount.old nodemass.old)
-        (node_room_of value.new feature.new threshold.new score.new truechild.new falsechild.new
-        nodecount.new nodemass.new) result }
+) -> Result<Report, Place>
+    requires { NextAsks (lot_in input.now tapes.now parts.now shape p) t at (room_in nodes.old) (work_lengths work.old) }
+    ensures same_nodes { SameNodes nodes.old nodes.new }
+    ensures same_work { SameWork work.old work.new }
+    ensures nodes_long { node_lengths (room_in nodes.new) ≡ node_lengths (room_in nodes.old) }
+    ensures work_long { work_lengths work.new ≡ work_lengths work.old }
+    ensures done { NextDone (lot_in input.now tapes.now parts.now shape p) t at (room_in nodes.old) (room_in nodes.new) result }
 {
-    let part = forest_parts::parts_of(wordstarts, thresholdstarts, rows, t);
-    let count = part.count;
-    let countend = part.countend;
-    let word = part.word;
-    let wordend = part.wordend;
-    let cut = part.threshold;
-    let cutend = part.thresholdend;
-    tree_build::plant(
-        &mut value[at..],
-        &mut feature[at..],
-        &mut threshold[at..],
-        &mut score[at..],
-        &mut truechild[at..],
-        &mut falsechild[at..],
-        &mut nodecount[at..],
-        &mut nodemass[at..],
-        order,
-        scratch,
-        flags,
-        wholes,
-        reals,
-        values,
-        targets,
-        weights,
-        &counts[count..countend],
-        listings,
-        &words[word..wordend],
-        &thresholds[cut..cutend],
-        rows,
-        features,
+    let Parts {
+        counts,
+        words,
+        thresholds,
+    } = forest_parts::parts_of(parts, shape.rows, t);
+    let own = Input {
+        counts: &input.counts[counts],
+        ..*input
+    };
+    let drawn = Tapes {
+        words: &tapes.words[words],
+        thresholds: &tapes.thresholds[thresholds],
+    };
+    plant_in(
+        &mut nodes.value[at..],
+        &mut nodes.feature[at..],
+        &mut nodes.threshold[at..],
+        &mut nodes.score[at..],
+        &mut nodes.truechild[at..],
+        &mut nodes.falsechild[at..],
+        &mut nodes.count[at..],
+        &mut nodes.mass[at..],
+        work,
+        &own,
+        &drawn,
+        shape,
         p,
     )
+    .map_err(|search| Place {
+        tree: t as u32,
+        search,
+    })
 }
 
 // Tree after tree, from the first to the last or to a bad draw.
 pub fn plant_all(
-    value: &mut [f64],
-    feature: &mut [u32],
-    threshold: &mut [f64],
-    score: &mut [f64],
-    truechild: &mut [u32],
-    falsechild: &mut [u32],
-    nodecount: &mut [u32],
-    nodemass: &mut [f64],
-    order: &mut [u32],
-    scratch: &mut [u32],
-    flags: &mut [bool],
-    wholes: &mut [[u32; 6]],
-    reals: &mut [[f64; 3]],
-    values: &[f64],
-    targets: &[f64],
-    weights: &[f64],
-    counts: &[u32],
-    listings: &[u32],
-    words: &[u32],
-    thresholds: &[f64],
-    wordstarts: &[usize],
-    thresholdstarts: &[usize],
-    rows: usize,
-    features: usize,
-    trees: usize,
+    nodes: &mut NodeRoom,
+    work: &mut WorkRoom,
+    input: &Input,
+    tapes: &Tapes,
+    parts: &TapeStarts,
+    shape: Shape,
     p: Params,
+    trees: usize,
 ) -> Told
-    requires { AllAsks trees
-        (lot_of rows features p weights.now counts.now words.now thresholds.now wordstarts.now thresholdstarts.now (data_in values.now targets.now listings.now))
-        (node_room_of value.old feature.old threshold.old score.old truechild.old falsechild.old nodecount.old nodemass.old)
-        (widths_of (length order.old) scratch.old flags.old wholes.old reals.old) }
-    ensures { AllDone trees
-        (lot_of rows features p weights.now counts.now words.now thresholds.now wordstarts.now thresholdstarts.now
-        (data_in values.now targets.now listings.now))
-        (node_room_of value.old feature.old threshold.old score.old truechild.old falsechild.old
-        nodecount.old nodemass.old)
-        (node_room_of value.new feature.new threshold.new score.new truechild.new falsechild.new
-        nodecount.new nodemass.new) result }
+    requires { AllAsks trees (lot_in input.now tapes.now parts.now shape p) (room_in nodes.old) (work_lengths work.old) }
+    ensures same_nodes { SameNodes nodes.old nodes.new }
+    ensures same_work { SameWork work.old work.new }
+    ensures nodes_long { node_lengths (room_in nodes.new) ≡ node_lengths (room_in nodes.old) }
+    ensures work_long { work_lengths work.new ≡ work_lengths work.old }
+    ensures done { AllDone trees (lot_in input.now tapes.now parts.now shape p) (room_in nodes.old) (room_in nodes.new) result }
 {
     let blank = Report {
         nodes: 0,
@@ -151,61 +142,18 @@ pub fn plant_all(
         words: 0,
         thresholds: 0,
     };
-    let mut reports = [blank; 1024];
-    let mut ends = [0; 1024];
+    let mut grown = [GrownTree {
+        report: blank,
+        end: 0,
+    }; 1024];
     let mut at: usize = 0;
-    let mut t: usize = 0;
-    while t < trees {
-        let r = plant_next(
-            value,
-            feature,
-            threshold,
-            score,
-            truechild,
-            falsechild,
-            nodecount,
-            nodemass,
-            order,
-            scratch,
-            flags,
-            wholes,
-            reals,
-            values,
-            targets,
-            weights,
-            counts,
-            listings,
-            words,
-            thresholds,
-            wordstarts,
-            thresholdstarts,
-            rows,
-            features,
-            p,
-            t,
-            at,
-        );
-        match r {
-            Planted::BadDraw(k) => {
-                let tree = t as u32;
-                let place = Place { tree, search: k };
-                return Told {
-                    end: Grove::Stopped(place),
-                    reports,
-                    ends,
-                };
-            }
-            Planted::Grown(report) => {
-                reports[t] = report;
-                at = forest_parts::end_of(at, report.nodes);
-                ends[t] = at as u32;
-            }
-        }
-        t += 1;
+    for t in 0..trees {
+        let report = plant_next(nodes, work, input, tapes, parts, shape, p, t, at)?;
+        at = forest_parts::end_of(at, report.nodes);
+        grown[t] = GrownTree {
+            report,
+            end: at as u32,
+        };
     }
-    Told {
-        end: Grove::Grown,
-        reports,
-        ends,
-    }
+    Ok(grown)
 }

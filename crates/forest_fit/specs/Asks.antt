@@ -1,5 +1,5 @@
 -- From a forest's passed checks to what the growth of its trees asks. Assumes nothing.
-use Rattle.std.specs.Prelude.{ℕ, ◌+◌, ◌-◌, ◌*◌, ◌<◌, ◌≤◌, max, ◌≡◌, refl, List, drop, T, eqb}
+use Rattle.std.specs.Prelude.{ℕ, ◌+◌, ◌-◌, ◌*◌, ◌<◌, ◌≤◌, max, ◌≡◌, refl, drop, T, eqb, Ok}
 use Rattle.std.proofs.Common.{suc-mul, mul-le-mul, mul-le-mul_right, sym, ◌∙◌, eqb→eq}
 use native.Mathlib.Omega.{arith}
 use Rattle.std.proofs.Math.Path.{subst}
@@ -7,8 +7,6 @@ use Rattle.std.proofs.Math.ListN.{length, length-drop}
 use Rattle.std.proofs.lemmas.List.{length-map}
 use Rattle.std.proofs.Math.Seq.{length-take-le}
 use Rattle.rules.specs.declared.Params.{Params}
-use Rattle.rules.specs.declared.Report.{Report}
-use Rattle.rules.specs.declared.Checked.{Checked}
 use Rattle.rules.specs.Words.{from, stretch, total}
 use Rattle.rules.specs.Lent.{OneTree, Reports, ForestRooms, WaitingRoom, waiting_room, kept, kept_rows}
 use Rattle.rules.specs.Checks.{checked, good_tape_starts, room_for, reports_exact}
@@ -19,10 +17,9 @@ use Rattle.lemmas.specs.Root.{Listed, fit-nodes, fit-reported}
 use Rattle.lemmas.specs.Passed.{ForestPassed, forest-passed, forest-framed, listed-right, Binary64, and2, and5, part_at}
 use Rattle.rooms.specs.Enough.{WorkRoom, work-room}
 use Rattle.work_columns.specs.Setup.{counted-passed}
-use Rattle.forest_build.specs.Lot.{widths_of}
-use Rattle.forest_build.specs.All.{AllAsks, ToldLong}
-use Rattle.forest_reports.specs.Reports.{ReportsLong, AllAsk}
-use Rattle.forest_grow.specs.Grown.{GrowAsks}
+use Rattle.forest_build.specs.All.{AllAsks}
+use Rattle.forest_reports.specs.Reports.{ReportsLong, TellAsks}
+use Rattle.forest_grow.specs.Grown.{lengths_lent, GrowAsks}
 use Rattle.forest_ready.specs.Ready.{Made}
 use Rattle.forest_fit.specs.Ends.{lot, node_room}
 
@@ -40,22 +37,15 @@ room-low F h = low (length (kept_rows F)) F.rows (omega (arith, keep-short (kept
     low : (k n : ℕ) → k ≤ n → n ≤ 65535 → max 1 (2 * k - 1) ≤ 131069
     low k n a b = omega arith
 
-module _ (C : ForestCall) (R : ForestRooms WaitingRoom) (e : checked (forest_tests waiting_room C R) ≡ Checked.Passed) where
+module _ (C : ForestCall) (R : ForestRooms WaitingRoom) (e : checked (forest_tests waiting_room C R) ≡ (Ok tt)) where
   right : ForestPassed waiting_room C R
   right = forest-passed waiting_room C R e
 
   room : WorkRoom C.shape R.work
   room = work-room C.shape R.work right.work
 
-  pub tell-asks : (rs : List Report) (es : List ℕ) → ToldLong rs es → AllAsk C.trees R.starts R.reports rs es
-  tell-asks rs es l =
-      record {
-        few = right.few_trees;
-        starts = right.starts_room;
-        reports = reports-exact C.trees R.reports right.reports;
-        told = omega (arith, right.few_trees, l.reports);
-        ends = omega (arith, right.few_trees, l.ends);
-      }
+  pub tell-asks : TellAsks C.trees R.starts R.reports
+  tell-asks = record { few = right.few_trees; starts = right.starts_room; reports = reports-exact C.trees R.reports right.reports }
 
   -- tree t's counts lie within the counts
   counted : (t : ℕ) → t < C.trees → t * C.shape.rows + C.shape.rows ≤ length C.given.counts
@@ -86,13 +76,13 @@ module _ (C : ForestCall) (R : ForestRooms WaitingRoom) (e : checked (forest_tes
     listed : (t : ℕ) → Listed (one_tree_at C t) C.given.inputs
     listed t = listed-right C.shape C.trees C.given right.passed (one_tree_at C t) (forest-framed C right.passed t) held
 
-    trees-ask : AllAsks C.trees (lot C p) (node_room R) (widths_of k R.work.scratch R.work.flags R.work.waiting.wholes R.work.waiting.reals)
+    trees-ask : AllAsks C.trees (lot C p) (node_room R) (lengths_lent k R.work)
     unfolding each_tree one_tree_at tapes_good params_of
     trees-ask =
         let q = right.passed in
         let (w, d) =
         and2 (good_tape_starts C.trees (length C.words) C.word_starts) (good_tape_starts C.trees (length C.thresholds) C.threshold_starts) right.tapes in
-        subst (λ p'. AllAsks C.trees (lot C p') (node_room R) (widths_of k R.work.scratch R.work.flags R.work.waiting.wholes R.work.waiting.reals))
+        subst (λ p'. AllAsks C.trees (lot C p') (node_room R) (lengths_lent k R.work))
         (sym m.same)
         (record {
           fine = λ t b c r.
@@ -131,5 +121,5 @@ module _ (C : ForestCall) (R : ForestRooms WaitingRoom) (e : checked (forest_tes
             → length (stretch (t * C.shape.rows) C.shape.rows C.given.counts) ≡ C.shape.rows
         part-long t b = length-take-le C.shape.rows (drop (t * C.shape.rows) C.given.counts) (omega (arith, length-drop (t * C.shape.rows) C.given.counts))
 
-    pub all-asks : GrowAsks C.trees (lot C p) (node_room R) R.work.order k (widths_of k R.work.scratch R.work.flags R.work.waiting.wholes R.work.waiting.reals)
+    pub all-asks : GrowAsks C.trees (lot C p) (node_room R) R.work k
     all-asks = record { high = subst (λ n. n ≤ length R.work.order) (sym ek) room.order; all = trees-ask }

@@ -2,152 +2,91 @@
 #![tactic(auto)]
 
 ghost use Rattle.std.specs.Prelude.{◌≡◌};
-ghost use Rattle.rules.specs.Lent.{waiting_room, given_of, columns_of, behind_of, reports_of, work_of, forest_rooms_of, outcome_of};
+ghost use Rattle.rules.specs.Lent.{waiting_room, forest_rooms_of, outcome_of};
+ghost use Rattle.rules.specs.Slices.{given_in, nodes_in, behind_in, reports_in, work_in, SameNodes, SameReports, SameWork};
 ghost use Rattle.rules.specs.Forest.{fit_forest, forest_call};
+ghost use Rattle.forest_fit.specs.Ends.{room_lengths, report_lengths};
 
 use checks::{Lengths, ReportLengths};
-use forest_ready::Plan;
-use rules::{ForestAnswer, Settings, Shape, Tried};
+use rules::{
+    FitError, ForestAnswer, Input, NodeRoom, ReportRoom, Settings, Shape, TapeStarts, Tapes, Tried,
+    WorkRoom,
+};
+
+// How long node and work rooms are.
+fn room_lengths(nodes: &NodeRoom, work: &WorkRoom) -> Lengths
+    ensures { result ≡ room_lengths nodes.now work.now }
+{
+    Lengths {
+        nodes: nodes.len(),
+        order: work.order.len(),
+        scratch: work.scratch.len(),
+        flags: work.flags.len(),
+        waiting: work.wholes.len().min(work.reals.len()),
+    }
+}
+
+// And the report columns.
+fn report_lengths(room: &ReportRoom) -> ReportLengths
+    ensures { result ≡ report_lengths room.now }
+{
+    ReportLengths {
+        nodes: room.nodes.len(),
+        depth: room.depth.len(),
+        mass: room.mass.len(),
+        searches: room.searches.len(),
+        words: room.words.len(),
+        thresholds: room.thresholds.len(),
+    }
+}
 
 pub fn fit_forest(
-    value: &mut [f64],
-    feature: &mut [u32],
-    threshold: &mut [f64],
-    score: &mut [f64],
-    truechild: &mut [u32],
-    falsechild: &mut [u32],
-    nodecount: &mut [u32],
-    nodemass: &mut [f64],
+    nodes: &mut NodeRoom,
     starts: &mut [u32],
-    nodes: &mut [u32],
-    depth: &mut [u32],
-    mass: &mut [f64],
-    searches: &mut [u32],
-    wordsused: &mut [u32],
-    thresholdsused: &mut [u32],
-    order: &mut [u32],
-    scratch: &mut [u32],
-    flags: &mut [bool],
-    wholes: &mut [[u32; 6]],
-    reals: &mut [[f64; 3]],
-    values: &[f64],
-    targets: &[f64],
-    weights: &[f64],
-    counts: &[u32],
-    listings: &[u32],
-    words: &[u32],
-    thresholds: &[f64],
-    wordstarts: &[usize],
-    thresholdstarts: &[usize],
+    reports: &mut ReportRoom,
+    work: &mut WorkRoom,
+    input: &Input,
+    tapes: &Tapes,
+    parts: &TapeStarts,
     shape: Shape,
     trees: usize,
     settings: Settings,
     tried: Tried,
 ) -> ForestAnswer
-    ensures { outcome_of result (forest_rooms_of
-        (columns_of value.new feature.new threshold.new score.new truechild.new falsechild.new)
-        (behind_of nodecount.new nodemass.new)
-        starts.new
-        (reports_of nodes.new depth.new mass.new searches.new wordsused.new thresholdsused.new)
-        (work_of order.new scratch.new flags.new wholes.new reals.new))
+    ensures same_nodes { SameNodes nodes.old nodes.new }
+    ensures same_reports { SameReports reports.old reports.new }
+    ensures same_work { SameWork work.old work.new }
+    ensures fitted { outcome_of result (forest_rooms_of (nodes_in nodes.new) (behind_in nodes.new) starts.new (reports_in reports.new) (work_in work.new))
         ≡ fit_forest waiting_room
-        (forest_call shape trees settings tried
-        (given_of values.now targets.now weights.now counts.now listings.now)
-        words.now thresholds.now wordstarts.now thresholdstarts.now)
-        (forest_rooms_of
-        (columns_of value.old feature.old threshold.old score.old truechild.old falsechild.old)
-        (behind_of nodecount.old nodemass.old)
-        starts.old
-        (reports_of nodes.old depth.old mass.old searches.old wordsused.old thresholdsused.old)
-        (work_of order.old scratch.old flags.old wholes.old reals.old)) }
+        (forest_call shape trees settings tried (given_in input.now) tapes.now.words.now tapes.now.thresholds.now parts.now.words.now parts.now.thresholds.now)
+        (forest_rooms_of (nodes_in nodes.old) (behind_in nodes.old) starts.old (reports_in reports.old) (work_in work.old)) }
 {
-    let places = slices::shortest_of_eight(
-        value.len(),
-        feature.len(),
-        threshold.len(),
-        score.len(),
-        truechild.len(),
-        falsechild.len(),
-        nodecount.len(),
-        nodemass.len(),
-    );
-    let waiting = slices::least(wholes.len(), reals.len());
-    let room = Lengths {
-        nodes: places,
-        order: order.len(),
-        scratch: scratch.len(),
-        flags: flags.len(),
-        waiting,
-    };
-    let reports = ReportLengths {
-        nodes: nodes.len(),
-        depth: depth.len(),
-        mass: mass.len(),
-        searches: searches.len(),
-        words: wordsused.len(),
-        thresholds: thresholdsused.len(),
-    };
-    let plan = forest_ready::ready(
-        values,
-        targets,
-        weights,
-        counts,
-        listings,
-        wordstarts,
-        thresholdstarts,
+    let room = room_lengths(nodes, work);
+    let columns = report_lengths(reports);
+    let ready = forest_ready::ready(
+        input,
+        tapes,
+        parts,
         shape,
         trees,
         settings,
         tried,
-        words.len(),
-        thresholds.len(),
         room,
         starts.len(),
-        reports,
+        columns,
     );
-    match plan {
-        Plan::Refused(r) => ForestAnswer::Refused(r),
-        Plan::Grow(growing) => {
-            let told = forest_grow::grow(
-                value,
-                feature,
-                threshold,
-                score,
-                truechild,
-                falsechild,
-                nodecount,
-                nodemass,
-                order,
-                scratch,
-                flags,
-                wholes,
-                reals,
-                values,
-                targets,
-                weights,
-                counts,
-                listings,
-                words,
-                thresholds,
-                wordstarts,
-                thresholdstarts,
-                shape.rows,
-                shape.features,
-                trees,
-                growing.params,
-                growing.size,
-            );
-            forest_reports::tell(
-                starts,
-                nodes,
-                depth,
-                mass,
-                searches,
-                wordsused,
-                thresholdsused,
-                trees,
-                told,
-            )
-        }
-    }
+    let growing = ready.map_err(FitError::Refused)?;
+    rooms::values_fit(input.values);
+    let told = forest_grow::grow(
+        nodes,
+        work,
+        input,
+        tapes,
+        parts,
+        shape,
+        growing.params,
+        trees,
+        growing.size,
+    );
+    forest_reports::tell(starts, reports, trees, &told)
 }

@@ -1,53 +1,68 @@
 -- Grown trees, and the rooms as they are left. Assumes nothing.
-use Rattle.std.specs.Prelude.{ℕ, ◌-◌, ◌≤◌, ◌≡◌, List, length, take, drop}
-use Rattle.std.proofs.Common.{sym, ◌∙◌, subst}
-use Rattle.rules.specs.declared.Report.{Report}
+use Rattle.std.specs.Prelude.{ℕ, Bool, Float, ◌≤◌, ◌≡◌, List, length, Ok, Err}
+use Rattle.std.proofs.Common.{ap, ◌∙◌}
 use Rattle.rules.specs.Lent.{Work, WaitingRoom, waiting_room, zero_columns, zero_behind, zero_work}
 use Rattle.rules.specs.Forest.{stopped, grow_trees}
-use Rattle.rooms.specs.Zero.{NodesLong, BehindLong, WorkLong, nodes-zero, behind-zero, work-zero}
-use Rattle.rooms.specs.Enough.{lent-long}
-use Rattle.node_entries.specs.Entries.{NodeRoom}
-use Rattle.forest_build.specs.declared.Grove.{Grove}
-use Rattle.forest_build.specs.declared.Grove.TheVariants as U
-use Rattle.forest_build.specs.declared.Told.{Told}
-use Rattle.forest_build.specs.Lot.{Lot, Widths, lot_trees}
-use Rattle.forest_build.specs.All.{AllAsks, AllGrown, Answers, ToldLong, AllDone}
+use Rattle.rooms.specs.Zero.{WorkLong, nodes-zero, behind-zero, work-zero}
+use Rattle.node_entries.specs.Entries.{NodeRoom, NodeLengths, node_lengths}
+use Rattle.tree_growth.specs.Places.{WorkLengths}
+use Rattle.forest_build.specs.Told.{Told}
+use Rattle.forest_build.specs.Lot.{Lot, lot_trees}
+use Rattle.forest_build.specs.All.{AllAsks, AllGrown, AllDone}
 
+-- all eight columns zero
 abbrev pub zero_nodes : NodeRoom → NodeRoom
 zero_nodes c = record { nodes = zero_columns c.nodes; behind = zero_behind c.behind }
 
-abbrev pub nodes_left : Grove → NodeRoom → NodeRoom
-nodes_left (U.Stopped d) c = zero_nodes c
-nodes_left U.Grown c = c
+-- the node room as it is left
+abbrev pub nodes_left : Told → NodeRoom → NodeRoom
+nodes_left (Err d) c = zero_nodes c
+nodes_left (Ok gs) c = c
 
-pub record GrowAsks (trees : ℕ) (L : Lot) (c : NodeRoom) (order : List ℕ) (size : ℕ) (w : Widths) : Type 0 where
-  pub high : size ≤ length order
-  pub all : AllAsks trees L c w
+-- how long work slices are
+abbrev pub lengths_of : List ℕ → List ℕ → List Bool → List (List ℕ) → List (List Float) → WorkLengths
+lengths_of order scratch flags wholes reals = record { order = length order; scratch = length scratch; flags = length flags; wholes = length wholes; reals = length reals }
 
--- the trees are asked of the part of the order that is lent
-pub grow-asks : (trees : ℕ) (L : Lot) (c : NodeRoom) (order : List ℕ) (size a b d e : ℕ)
-    → GrowAsks trees L c order size (record { order = size; scratch = a; flags = b; wholes = d; reals = e })
-    → AllAsks trees L c (record { order = length (take (size - 0) (drop 0 order)); scratch = a; flags = b; wholes = d; reals = e })
-grow-asks trees L c order size a b d e h =
-    subst (λ k. AllAsks trees L c (record { order = k; scratch = a; flags = b; wholes = d; reals = e })) (sym (lent-long size order h.high)) h.all
+-- those of the work room; of the order, as much as is lent
+abbrev pub lengths_lent : ℕ → Work WaitingRoom → WorkLengths
+lengths_lent size w =
+    record { order = size; scratch = length w.scratch; flags = length w.flags; wholes = length w.waiting.wholes; reals = length w.waiting.reals }
+
+-- the trees may be grown with so much of the order
+pub record GrowAsks (trees : ℕ) (L : Lot) (c : NodeRoom) (w : Work WaitingRoom) (size : ℕ) : Type 0 where
+  pub high : size ≤ length w.order
+  pub all : AllAsks trees L c (lengths_lent size w)
 
 -- where a bad draw was met, with the nodes zero; or all trees
-abbrev pub LeftBy : ℕ → Lot → NodeRoom → NodeRoom → List Report → List ℕ → Grove → Type 0
-LeftBy trees L c c' rs es (U.Stopped d) = (grow_trees 0 (lot_trees trees L) L.inputs ≡ stopped d) × (c' ≡ zero_nodes c)
-LeftBy trees L c c' rs es U.Grown = AllGrown trees L c c' rs es
+abbrev pub LeftBy : ℕ → Lot → NodeRoom → NodeRoom → Told → Type 0
+LeftBy trees L c c' (Err d) = (grow_trees 0 (lot_trees trees L) L.inputs ≡ stopped d) × (c' ≡ zero_nodes c)
+LeftBy trees L c c' (Ok gs) = AllGrown trees L c c' gs
 
+-- what the growth leaves of node and work rooms
 pub record GrowDone (trees : ℕ) (L : Lot) (c c' : NodeRoom) (w w' : Work WaitingRoom) (told : Told) : Type 0 where
-  pub long : ToldLong told.reports told.ends
   pub work : w' ≡ zero_work waiting_room w
-  pub left : LeftBy trees L c c' told.reports told.ends told.end
+  pub left : LeftBy trees L c c' told
 
-left_by : (trees : ℕ) (L : Lot) (c c₁ c' : NodeRoom) (rs : List Report) (es : List ℕ) → NodesLong c.nodes c₁.nodes → BehindLong c.behind c₁.behind
-    → (g : Grove) → Answers trees L c c₁ rs es g → c' ≡ nodes_left g c₁ → LeftBy trees L c c' rs es g
-left_by trees L c c₁ c' rs es l b (U.Stopped d) a e =
-    (a, e ∙ (λ i. record { nodes = nodes-zero c.nodes c₁.nodes l i; behind = behind-zero c.behind c₁.behind b i }))
-left_by trees L c c₁ c' rs es l b U.Grown a e = record { trees = a.trees; same = a.same; nodes = e ∙ a.nodes; reports = a.reports; starts = a.starts }
+-- of columns as long as others the zero room is the same
+room-zero : (c c₁ : NodeRoom) → node_lengths c₁ ≡ node_lengths c → zero_nodes c₁ ≡ zero_nodes c
+room-zero c c₁ e = λ i.
+    record {
+      nodes = nodes-zero c.nodes c₁.nodes (record {
+        value = ap (λ (n : NodeLengths). n.value) e;
+        feature = ap (λ (n : NodeLengths). n.feature) e;
+        threshold = ap (λ (n : NodeLengths). n.threshold) e;
+        score = ap (λ (n : NodeLengths). n.score) e;
+        truechild = ap (λ (n : NodeLengths). n.truechild) e;
+        falsechild = ap (λ (n : NodeLengths). n.falsechild) e;
+      }) i;
+      behind = behind-zero c.behind c₁.behind (record { count = ap (λ (n : NodeLengths). n.count) e; mass = ap (λ (n : NodeLengths). n.mass) e }) i;
+    }
 
-pub grow-done : (trees : ℕ) (L : Lot) (c c₁ c' : NodeRoom) (w w₁ w' : Work WaitingRoom) (told : Told) → NodesLong c.nodes c₁.nodes → BehindLong c.behind c₁.behind
-    → WorkLong w w₁ → AllDone trees L c c₁ told → w' ≡ zero_work waiting_room w₁ → c' ≡ nodes_left told.end c₁ → GrowDone trees L c c' w w' told
-grow-done trees L c c₁ c' w w₁ w' told lc lb lw d ew ec =
-    record { long = d.long; work = ew ∙ work-zero w w₁ lw; left = left_by trees L c c₁ c' told.reports told.ends lc lb told.end d.done ec }
+left_by : (trees : ℕ) (L : Lot) (c c₁ c' : NodeRoom) → node_lengths c₁ ≡ node_lengths c → (told : Told) → AllDone trees L c c₁ told → c' ≡ nodes_left told c₁ → LeftBy trees L c c' told
+left_by trees L c c₁ c' l (Err d) a e =
+    (a, e ∙ room-zero c c₁ l)
+left_by trees L c c₁ c' l (Ok gs) a e = record { trees = a.trees; same = a.same; nodes = e ∙ a.nodes; reports = a.reports; starts = a.starts }
+
+pub grow-done : (trees : ℕ) (L : Lot) (c c₁ c' : NodeRoom) (w w₁ w' : Work WaitingRoom) (told : Told) → node_lengths c₁ ≡ node_lengths c → WorkLong w w₁ → AllDone trees L c c₁ told
+    → w' ≡ zero_work waiting_room w₁ → c' ≡ nodes_left told c₁ → GrowDone trees L c c' w w' told
+grow-done trees L c c₁ c' w w₁ w' told lc lw d ew ec = record { work = ew ∙ work-zero w w₁ lw; left = left_by trees L c c₁ c' lc told d ec }

@@ -2,117 +2,89 @@
 #![tactic(auto)]
 
 ghost use Rattle.std.specs.Prelude.{◌≡◌};
-ghost use Rattle.rules.specs.Lent.{work_of};
-ghost use Rattle.node_entries.specs.Entries.{node_room_of};
-ghost use Rattle.tree_build.specs.Plant.{data_in};
-ghost use Rattle.forest_build.specs.Lot.{lot_of, widths_of};
-ghost use Rattle.forest_grow.specs.Grown.{nodes_left, GrowAsks, GrowDone};
+ghost use Rattle.rules.specs.Slices.{work_in, SameNodes, SameWork};
+ghost use Rattle.node_entries.specs.Entries.{room_in, node_lengths};
+ghost use Rattle.forest_build.specs.Lot.{lot_in};
+ghost use Rattle.forest_build.specs.All.{AllAsks, AllDone};
+ghost use Rattle.forest_grow.specs.Grown.{lengths_of, nodes_left, GrowAsks, GrowDone};
 
-use forest_build::{Grove, Told};
-use rules::Params;
+use forest_build::Told;
+use rules::{Input, NodeRoom, Params, Shape, TapeStarts, Tapes, WorkRoom};
+
+// The trees, in work slices that come one by one: of a room that is lent the front of the order can be lent, but not as a room.
+fn plant_in<'a>(
+    order: &'a mut [u32],
+    scratch: &'a mut [u32],
+    flags: &'a mut [bool],
+    wholes: &'a mut [[u32; 6]],
+    reals: &'a mut [[f64; 3]],
+    nodes: &mut NodeRoom,
+    input: &Input,
+    tapes: &Tapes,
+    parts: &TapeStarts,
+    shape: Shape,
+    p: Params,
+    trees: usize,
+) -> Told
+    requires { AllAsks trees (lot_in input.now tapes.now parts.now shape p) (room_in nodes.old)
+        (lengths_of order.old scratch.old flags.old wholes.old reals.old) }
+    ensures same_nodes { SameNodes nodes.old nodes.new }
+    ensures nodes_long { node_lengths (room_in nodes.new) ≡ node_lengths (room_in nodes.old) }
+    ensures done { AllDone trees (lot_in input.now tapes.now parts.now shape p) (room_in nodes.old) (room_in nodes.new) result }
+{
+    let mut work = WorkRoom {
+        order,
+        scratch,
+        flags,
+        wholes,
+        reals,
+    };
+    forest_build::plant_all(nodes, &mut work, input, tapes, parts, shape, p, trees)
+}
 
 // Grown trees stay as they are; a bad draw leaves the nodes zero.
-fn leave_nodes(
-    value: &mut [f64],
-    feature: &mut [u32],
-    threshold: &mut [f64],
-    score: &mut [f64],
-    truechild: &mut [u32],
-    falsechild: &mut [u32],
-    nodecount: &mut [u32],
-    nodemass: &mut [f64],
-    end: Grove,
-)
-    ensures { node_room_of value.new feature.new threshold.new score.new truechild.new falsechild.new
-        nodecount.new nodemass.new
-        ≡ nodes_left end (node_room_of value.old feature.old threshold.old score.old truechild.old falsechild.old
-        nodecount.old nodemass.old) }
+fn leave_nodes(nodes: &mut NodeRoom, told: &Told)
+    ensures same_nodes { SameNodes nodes.old nodes.new }
+    ensures left { room_in nodes.new ≡ nodes_left told.now (room_in nodes.old) }
 {
-    match end {
-        Grove::Stopped(_) => {
-            rooms::zero_nodes(value, feature, threshold, score, truechild, falsechild);
-            rooms::zero_behind(nodecount, nodemass);
-        }
-        Grove::Grown => {}
+    if told.is_err() {
+        rooms::zero_nodes(nodes);
     }
 }
 
 // Of the order, `size` places are lent to the trees.
 pub fn grow(
-    value: &mut [f64],
-    feature: &mut [u32],
-    threshold: &mut [f64],
-    score: &mut [f64],
-    truechild: &mut [u32],
-    falsechild: &mut [u32],
-    nodecount: &mut [u32],
-    nodemass: &mut [f64],
-    order: &mut [u32],
-    scratch: &mut [u32],
-    flags: &mut [bool],
-    wholes: &mut [[u32; 6]],
-    reals: &mut [[f64; 3]],
-    values: &[f64],
-    targets: &[f64],
-    weights: &[f64],
-    counts: &[u32],
-    listings: &[u32],
-    words: &[u32],
-    thresholds: &[f64],
-    wordstarts: &[usize],
-    thresholdstarts: &[usize],
-    rows: usize,
-    features: usize,
-    trees: usize,
+    nodes: &mut NodeRoom,
+    work: &mut WorkRoom,
+    input: &Input,
+    tapes: &Tapes,
+    parts: &TapeStarts,
+    shape: Shape,
     p: Params,
+    trees: usize,
     size: usize,
 ) -> Told
-    requires { GrowAsks trees
-        (lot_of rows features p weights.now counts.now words.now thresholds.now wordstarts.now thresholdstarts.now (data_in values.now targets.now listings.now))
-        (node_room_of value.old feature.old threshold.old score.old truechild.old falsechild.old nodecount.old nodemass.old)
-        order.old size (widths_of size scratch.old flags.old wholes.old reals.old) }
-    ensures { GrowDone trees
-        (lot_of rows features p weights.now counts.now words.now thresholds.now wordstarts.now thresholdstarts.now
-        (data_in values.now targets.now listings.now))
-        (node_room_of value.old feature.old threshold.old score.old truechild.old falsechild.old
-        nodecount.old nodemass.old)
-        (node_room_of value.new feature.new threshold.new score.new truechild.new falsechild.new
-        nodecount.new nodemass.new)
-        (work_of order.old scratch.old flags.old wholes.old reals.old)
-        (work_of order.new scratch.new flags.new wholes.new reals.new) result }
+    requires { GrowAsks trees (lot_in input.now tapes.now parts.now shape p) (room_in nodes.old) (work_in work.old) size }
+    ensures same_nodes { SameNodes nodes.old nodes.new }
+    ensures same_work { SameWork work.old work.new }
+    ensures done { GrowDone trees (lot_in input.now tapes.now parts.now shape p) (room_in nodes.old) (room_in nodes.new)
+        (work_in work.old) (work_in work.new) result }
 {
-    let told = forest_build::plant_all(
-        value,
-        feature,
-        threshold,
-        score,
-        truechild,
-        falsechild,
-        nodecount,
-        nodemass,
-        &mut order[0..size],
-        scratch,
-        flags,
-        wholes,
-        reals,
-        values,
-        targets,
-        weights,
-        counts,
-        listings,
-        words,
-        thresholds,
-        wordstarts,
-        thresholdstarts,
-        rows,
-        features,
-        trees,
+    let told = plant_in(
+        &mut work.order[..size],
+        work.scratch,
+        work.flags,
+        work.wholes,
+        work.reals,
+        nodes,
+        input,
+        tapes,
+        parts,
+        shape,
         p,
+        trees,
     );
-    rooms::zero_work(order, scratch, flags, wholes, reals);
-    let end = told.end;
-    leave_nodes(
-        value, feature, threshold, score, truechild, falsechild, nodecount, nodemass, end,
-    );
+    rooms::zero_work(work);
+    leave_nodes(nodes, &told);
     told
 }

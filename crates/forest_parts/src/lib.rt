@@ -4,35 +4,28 @@
 ghost use Rattle.std.specs.Prelude.{◌≡◌, ◌+◌, ◌<◌};
 ghost use Rattle.forest_parts.specs.Parts.{PartsAsk, parts_at};
 
+use rules::TapeStarts;
+use std::ops::Range;
+
 // From where to where a tree has the counts, the words and the thresholds.
-#[derive(Clone, Copy)]
+#[derive(Drop)]
 pub struct Parts {
-    pub count: usize,
-    pub countend: usize,
-    pub word: usize,
-    pub wordend: usize,
-    pub threshold: usize,
-    pub thresholdend: usize,
+    pub counts: Range<usize>,
+    pub words: Range<usize>,
+    pub thresholds: Range<usize>,
 }
 
-pub fn parts_of(wordstarts: &[usize], thresholdstarts: &[usize], rows: usize, t: usize) -> Parts
-    requires { PartsAsk rows t wordstarts.now thresholdstarts.now }
-    ensures { result ≡ parts_at rows t wordstarts.now thresholdstarts.now }
+pub fn parts_of(starts: &TapeStarts, rows: usize, t: usize) -> Parts
+    requires { PartsAsk rows t starts.now.words.now starts.now.thresholds.now }
+    ensures { result ≡ parts_at rows t starts.now.words.now starts.now.thresholds.now }
 {
     let count = t * rows;
-    let countend = count + rows;
-    let next = t + 1;
-    let word = wordstarts[t];
-    let wordend = wordstarts[next];
-    let threshold = thresholdstarts[t];
-    let thresholdend = thresholdstarts[next];
+    let words = starts.words;
+    let thresholds = starts.thresholds;
     Parts {
-        count,
-        countend,
-        word,
-        wordend,
-        threshold,
-        thresholdend,
+        counts: count..count + rows,
+        words: words[t]..words[t + 1],
+        thresholds: thresholds[t]..thresholds[t + 1],
     }
 }
 
@@ -41,6 +34,5 @@ pub fn end_of(at: usize, nodes: u32) -> usize
     requires { at + nodes < 4294967296 }
     ensures { result ≡ at + nodes }
 {
-    let end = at + nodes as usize;
-    end
+    at + nodes as usize
 }

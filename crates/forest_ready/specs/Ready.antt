@@ -2,15 +2,15 @@
 use Prim.Native.Nat.{ℕ, ◌*◌, ◌≤◌, min}
 use Rattle.std.proofs.Math.Nat.{mul-le-mul}
 use native.Mathlib.Omega.{arith}
-use Rattle.std.specs.Prelude.{◌≡◌, refl, false, List, [], replicate}
+use Rattle.std.specs.Prelude.{◌≡◌, refl, false, [], replicate, Result, Ok, Err, Option}
 use Rattle.std.proofs.Math.Path.{sym}
-use Rattle.std.proofs.Common.{subst}
 use Rattle.std.proofs.Math.ListN.{length-replicate}
 use Rattle.rules.specs.declared.Params.{Params}
 use Rattle.rules.specs.declared.Settings.{Settings}
 use Rattle.rules.specs.declared.Shape.{Shape}
-use Rattle.rules.specs.declared.Tried.{Tried}
-use Rattle.rules.specs.declared.Checked.{Checked}
+use Rattle.rules.specs.declared.Refusal.{Refusal}
+use Rattle.rules.specs.declared.Tapes.{Tapes}
+use Rattle.rules.specs.declared.TapeStarts.{TapeStarts}
 use Rattle.rules.specs.Words.{nought}
 use Rattle.rules.specs.Lent.{Given, ForestRooms, WaitingRoom, waiting_room, columns_of, behind_of, reports_of, work_of, forest_rooms_of}
 use Rattle.rules.specs.Checks.{checked}
@@ -21,26 +21,27 @@ use Rattle.checks.specs.declared.ReportLengths.{ReportLengths}
 use Rattle.checks.specs.Verdicts.{ForestHas}
 use Rattle.params.specs.Params.{ParamsMade}
 use Rattle.forest_ready.specs.declared.Growing.{Growing}
-use Rattle.forest_ready.specs.declared.Plan.{Plan}
-use Rattle.forest_ready.specs.declared.Plan.TheVariants as P
 
+-- the settings of a call, and how many features its searches try
 abbrev pub Made : ForestCall → Params → Type 0
 Made C p = ParamsMade C.settings (tried_of C.shape.features C.tried) C.shape.features p
 
+-- a call whose checks have passed, and what its trees grow by
 pub record Grows (C : ForestCall) (R : ForestRooms WaitingRoom) (g : Growing) : Type 0 where
-  pub passed : checked (forest_tests waiting_room C R) ≡ Checked.Passed
+  pub passed : checked (forest_tests waiting_room C R) ≡ (Ok tt)
   pub size : g.size ≡ C.shape.features * C.shape.rows
   pub made : Made C g.params
 
-abbrev pub Ready : ForestCall → ForestRooms WaitingRoom → Plan → Type 0
-Ready C R (P.Refused r) = Checked.Refused r ≡ checked (forest_tests waiting_room C R)
-Ready C R (P.Grow g) = Grows C R g
+-- or the refusal that the first check that fails tells
+abbrev pub Ready : ForestCall → ForestRooms WaitingRoom → Result Growing Refusal → Type 0
+Ready C R (Err r) = Err r ≡ checked (forest_tests waiting_room C R)
+Ready C R (Ok g) = Grows C R g
 
 -- ---- what is known of the shape alone: some rooms are as long as was said
 
-module _ (S : Shape) (n : ℕ) (G : Given) (w t : ℕ) (ws ts : List ℕ) (L : Lengths) (s : ℕ) (P : ReportLengths) where
-  some_call : Settings → Tried → ForestCall
-  some_call settings tried = forest_call S n settings tried G (replicate w 0) (replicate t nought) ws ts
+module _ (S : Shape) (n : ℕ) (G : Given) (D : Tapes) (B : TapeStarts) (L : Lengths) (s : ℕ) (P : ReportLengths) where
+  some_call : Settings → Option ℕ → ForestCall
+  some_call settings tried = forest_call S n settings tried G D.words.now D.thresholds.now B.words.now B.thresholds.now
 
   some_rooms : ForestRooms WaitingRoom
   some_rooms =
@@ -51,15 +52,15 @@ module _ (S : Shape) (n : ℕ) (G : Given) (w t : ℕ) (ws ts : List ℕ) (L : L
       (reports_of (replicate P.nodes 0) (replicate P.depth 0) (replicate P.mass nought) (replicate P.searches 0) (replicate P.words 0) (replicate P.thresholds 0))
       (work_of (replicate L.order 0) (replicate L.scratch 0) (replicate L.flags false) (replicate L.waiting []) (replicate L.waiting []))
 
-  some-has : (settings : Settings) (tried : Tried) → ForestHas S n G w t ws ts L s P (some_call settings tried) some_rooms
+  some-has : (settings : Settings) (tried : Option ℕ) → ForestHas S n G D B L s P (some_call settings tried) some_rooms
   unfolding some_call some_rooms
   some-has settings tried =
       record {
         shape = refl;
         trees = refl;
         given = refl;
-        words = sym (length-replicate w 0);
-        thresholds = sym (length-replicate t nought);
+        words = refl;
+        thresholds = refl;
         word_starts = refl;
         threshold_starts = refl;
         nodes =
@@ -87,8 +88,8 @@ module _ (S : Shape) (n : ℕ) (G : Given) (w t : ℕ) (ws ts : List ℕ) (L : L
       two : (k : ℕ) {a b : ℕ} → a ≡ k → b ≡ k → min a b ≡ k
       two k a b = omega arith
 
-  module _ (h : (C : ForestCall) (R : ForestRooms WaitingRoom) → ForestHas S n G w t ws ts L s P C R → Checked.Passed ≡ checked (forest_tests waiting_room C R))
-      (settings : Settings) (tried : Tried) where
+  module _ (h : (C : ForestCall) (R : ForestRooms WaitingRoom) → ForestHas S n G D B L s P C R → (Ok tt) ≡ checked (forest_tests waiting_room C R))
+      (settings : Settings) (tried : Option ℕ) where
     right : ForestPassed waiting_room (some_call settings tried) some_rooms
     right = forest-passed waiting_room (some_call settings tried) some_rooms (sym (h (some_call settings tried) some_rooms (some-has settings tried)))
 
@@ -99,12 +100,3 @@ module _ (S : Shape) (n : ℕ) (G : Given) (w t : ℕ) (ws ts : List ℕ) (L : L
     pub size_low : S.features * S.rows ≤ 1024 * 65535
     unfolding some_call
     size_low = mul-le-mul few-features right.passed.few_rows
-
--- ---- of the call itself
-
-pub made_of : (C : ForestCall) (S : Shape) (settings : Settings) (tried : Tried) (m : ℕ) (p : Params) → S ≡ C.shape → settings ≡ C.settings → tried ≡ C.tried
-    → m ≡ tried_of S.features tried → ParamsMade settings m S.features p → Made C p
-made_of C S settings tried m p es et ed em h =
-    subst (λ (F : Shape). ParamsMade C.settings (tried_of F.features C.tried) F.features p) es
-    (subst (λ d. ParamsMade C.settings (tried_of S.features d) S.features p) ed
-    (subst (λ t. ParamsMade t (tried_of S.features tried) S.features p) et (subst (λ k. ParamsMade settings k S.features p) em h)))

@@ -1,105 +1,62 @@
 // What a forest tells of its trees: the start table and the report columns.
 #![tactic(auto)]
 
-ghost use Rattle.std.specs.Prelude.{◌≡◌, ◌+◌, set, take, ◌∷◌};
+ghost use Rattle.std.specs.Prelude.{◌≡◌, ◌+◌, set, map, ◌∷◌};
 ghost use Rattle.rules.specs.Words.{front};
-ghost use Rattle.rules.specs.Lent.{reports_of, write_reports};
+ghost use Rattle.rules.specs.Lent.{write_reports};
+ghost use Rattle.rules.specs.Slices.{reports_in, SameReports};
+ghost use Rattle.forest_build.specs.Told.{report_of, end_of};
 ghost use Rattle.forest_reports.specs.Reports.{put_report, NextAsks, AllAsk, TellAsks, left_of, leaves};
 
-use forest_build::{Grove, Told};
-use rules::{ForestAnswer, Report};
+use forest_build::{GrownTree, Told};
+use rules::{FitError, ForestAnswer, ReportRoom};
 
 // Where tree t ends, and its report.
-fn note_next(
-    starts: &mut [u32],
-    nodes: &mut [u32],
-    depth: &mut [u32],
-    mass: &mut [f64],
-    searches: &mut [u32],
-    words: &mut [u32],
-    thresholds: &mut [u32],
-    t: usize,
-    end: u32,
-    r: Report,
-)
-    requires { NextAsks t starts.old (reports_of nodes.old depth.old mass.old searches.old words.old thresholds.old) }
-    ensures starts_after { starts.new ≡ set starts.old (t + 1) end }
-    ensures thresholds_after { reports_of nodes.new depth.new mass.new searches.new words.new thresholds.new
-        ≡ put_report t r (reports_of nodes.old depth.old mass.old searches.old words.old thresholds.old) }
+fn note_next(starts: &mut [u32], room: &mut ReportRoom, t: usize, tree: GrownTree)
+    requires { NextAsks t starts.old (reports_in room.old) }
+    ensures same { SameReports room.old room.new }
+    ensures starts_after { starts.new ≡ set starts.old (t + 1) tree.end }
+    ensures reports_after { reports_in room.new ≡ put_report t tree.report (reports_in room.old) }
 {
-    let next = t + 1;
-    starts[next] = end;
-    nodes[t] = r.nodes;
-    depth[t] = r.depth;
-    mass[t] = r.mass;
-    searches[t] = r.searches;
-    words[t] = r.words;
-    thresholds[t] = r.thresholds;
+    let r = tree.report;
+    starts[t + 1] = tree.end;
+    room.nodes[t] = r.nodes;
+    room.depth[t] = r.depth;
+    room.mass[t] = r.mass;
+    room.searches[t] = r.searches;
+    room.words[t] = r.words;
+    room.thresholds[t] = r.thresholds;
 }
 
 // Where each tree starts and the last one ends, and the reports of all.
-fn note_all(
-    starts: &mut [u32],
-    nodes: &mut [u32],
-    depth: &mut [u32],
-    mass: &mut [f64],
-    searches: &mut [u32],
-    words: &mut [u32],
-    thresholds: &mut [u32],
-    trees: usize,
-    reports: [Report; 1024],
-    ends: [u32; 1024],
-)
-    requires { AllAsk trees starts.old (reports_of nodes.old depth.old mass.old searches.old words.old thresholds.old) reports ends }
-    ensures starts_after { starts.new ≡ front (0 ∷ take trees ends) starts.old }
-    ensures thresholds_after { reports_of nodes.new depth.new mass.new searches.new words.new thresholds.new
-        ≡ write_reports (take trees reports)
-        (reports_of nodes.old depth.old mass.old searches.old words.old thresholds.old) }
+fn note_all(starts: &mut [u32], room: &mut ReportRoom, trees: &[GrownTree])
+    requires { AllAsk trees.now starts.old (reports_in room.old) }
+    ensures same { SameReports room.old room.new }
+    ensures starts_after { starts.new ≡ front (0 ∷ map end_of trees.now) starts.old }
+    ensures reports_after { reports_in room.new ≡ write_reports (map report_of trees.now) (reports_in room.old) }
 {
     starts[0] = 0;
-    let mut t: usize = 0;
-    while t < trees {
-        let r = reports[t];
-        let end = ends[t];
-        note_next(
-            starts, nodes, depth, mass, searches, words, thresholds, t, end, r,
-        );
-        t += 1;
+    for (t, tree) in trees.iter().enumerate() {
+        note_next(starts, room, t, *tree);
     }
 }
 
 // The start table and the reports of grown trees; a bad draw leaves them zero.
-pub fn tell(
-    starts: &mut [u32],
-    nodes: &mut [u32],
-    depth: &mut [u32],
-    mass: &mut [f64],
-    searches: &mut [u32],
-    words: &mut [u32],
-    thresholds: &mut [u32],
-    trees: usize,
-    told: Told,
-) -> ForestAnswer
-    requires { TellAsks trees starts.old (reports_of nodes.old depth.old mass.old searches.old words.old thresholds.old) told }
-    ensures { left_of result starts.new
-        (reports_of nodes.new depth.new mass.new searches.new words.new thresholds.new)
-        ≡ leaves trees told.reports told.ends told.end starts.old
-        (reports_of nodes.old depth.old mass.old searches.old words.old thresholds.old) }
+pub fn tell(starts: &mut [u32], room: &mut ReportRoom, trees: usize, told: &Told) -> ForestAnswer
+    requires { TellAsks trees starts.old (reports_in room.old) }
+    ensures same { SameReports room.old room.new }
+    ensures left { left_of result starts.new (reports_in room.new)
+        ≡ leaves trees told.now starts.old (reports_in room.old) }
 {
-    let end = told.end;
-    let reports = told.reports;
-    let ends = told.ends;
-    match end {
-        Grove::Stopped(place) => {
-            slices::zero_u32(starts);
-            rooms::zero_reports(nodes, depth, mass, searches, words, thresholds);
-            ForestAnswer::BadDraw(place)
+    match told {
+        Err(place) => {
+            slices::fill(starts, 0);
+            rooms::zero_reports(room);
+            Err(FitError::BadDraw(*place))
         }
-        Grove::Grown => {
-            note_all(
-                starts, nodes, depth, mass, searches, words, thresholds, trees, reports, ends,
-            );
-            ForestAnswer::Grown
+        Ok(grown) => {
+            note_all(starts, room, &grown[..trees]);
+            Ok(())
         }
     }
 }

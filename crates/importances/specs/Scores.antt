@@ -1,8 +1,8 @@
 -- The scores of a tree, entry by entry, and the importances of a forest, tree by tree. Assumes nothing.
 use Prim.Native.Nat.{ℕ, suc, ◌+◌, ◌-◌, ◌<◌, ◌≤◌}
-use Rattle.std.proofs.Common.{add-zero, add-one, sym, ◌∙◌}
+use Rattle.std.proofs.Common.{add-one, sym, ◌∙◌}
 use native.Mathlib.Omega.{arith}
-use Rattle.std.specs.Prelude.{◌≡◌, refl, Bool, true, false, not, List, map, length, Float}
+use Rattle.std.specs.Prelude.{◌≡◌, refl, Bool, true, false, not, List, map, Float}
 use Rattle.std.proofs.Math.Path.{ap, subst}
 use Rattle.std.proofs.Math.ListN.{get_or}
 use Rattle.std.proofs.Math.Dec.{T}
@@ -30,35 +30,23 @@ read-scored true e v = refl
 read-scored false e v = refl
 
 module _ (c : Columns) (a n : ℕ) where
-  -- the entries from node k on are left to add
-  pub record Adding (v₀ v : List Float) (k : ℕ) : Type 0 where
-    pub within : k ≤ n
-    pub long : length v ≡ length v₀
-    pub so : add_scores v (entries_at c (a + k) (n - k)) ≡ add_scores v₀ (entries_at c a n)
+  -- the scores with the entries from node k on
+  abbrev pub scores_on : ℕ → List Float → List Float
+  scores_on k v = add_scores v (entries_at c (a + k) (n - k))
 
-  pub adding-start : (v : List Float) → Adding v v 0
-  adding-start v = record { within = omega arith; long = refl; so = λ i. add_scores v (entries_at c (add-zero a i) (whole n i)) }
-    where
-      whole : (n : ℕ) → n - 0 ≡ n
-      whole n = omega arith
-
-  pub adding-turn : (v₀ v : List Float) {w : List Float} (k : ℕ) → Adding v₀ v k → k < n → length w ≡ length v
-      → w ≡ scored (not (is_leaf (read (entry_at c (a + k))))) (read (entry_at c (a + k))) v → Adding v₀ w (k + 1)
+  pub adding-turn : (all v : List Float) {w : List Float} (k : ℕ) → k < n → scores_on k v ≡ all
+      → w ≡ scored (not (is_leaf (read (entry_at c (a + k))))) (read (entry_at c (a + k))) v → scores_on (k + 1) w ≡ all
   unfolding entries_at add_scores is_leaf
-  adding-turn v₀ v {w} k f h l e =
-      record {
-        within = omega arith;
-        long = l ∙ f.long;
-        so = (λ i. add_scores ((e ∙ read-scored (not (is_leaf (entry_at c (a + k)))) (entry_at c (a + k)) v) i) (map (entry_at c) (from (up a k i) (n - (k + 1)))))
-            ∙ ap (λ l. add_scores v (map (entry_at c) l)) (sym (range-next (a + k) k n h)) ∙ f.so;
-      }
+  adding-turn all v {w} k h f e =
+      (λ i. add_scores ((e ∙ read-scored (not (is_leaf (entry_at c (a + k)))) (entry_at c (a + k)) v) i) (map (entry_at c) (from (up a k i) (n - (k + 1)))))
+      ∙ ap (λ l. add_scores v (map (entry_at c) l)) (sym (range-next (a + k) k n h)) ∙ f
     where
       up : (a k : ℕ) → a + (k + 1) ≡ suc (a + k)
       up a k = omega arith
 
-  pub adding-done : (v₀ v : List Float) (k : ℕ) → Adding v₀ v k → n ≤ k → v ≡ add_scores v₀ (entries_at c a n)
+  pub adding-done : (all v : List Float) (k : ℕ) → n ≤ k → scores_on k v ≡ all → v ≡ all
   unfolding entries_at add_scores
-  adding-done v₀ v k f h = ap (λ l. add_scores v (map (entry_at c) l)) (sym (range-end (a + k) k n h)) ∙ f.so
+  adding-done all v k h f = ap (λ l. add_scores v (map (entry_at c) l)) (sym (range-end (a + k) k n h)) ∙ f
 
   -- a split of a good tree is at one of the features
   pub split-known : (features k : ℕ) → TreeLies features a n c → k < n → no_child (get_or c.true_child (a + k) 0) (get_or c.false_child (a + k) 0) ≡ false → get_or c.feature (a + k) 0 < features
@@ -70,33 +58,25 @@ module _ (c : Columns) (a n : ℕ) where
 
 -- ---- tree by tree
 
-module _ (F : ForestTable) where
+module _ (features : ℕ) (F : ForestTable) where
   abbrev tree : ℕ → List Entry
   tree t = tree_at F.nodes F.starts t
 
-  -- the trees from t on are left to add
-  pub record Gathering (v₀ v own : List Float) (t : ℕ) : Type 0 where
-    pub within : t ≤ F.trees
-    pub long : length v ≡ length v₀
-    pub side : length own ≡ length v₀
-    pub so : add_importances (length v₀) v (map tree (from t (F.trees - t))) ≡ add_importances (length v₀) v₀ (trees_of F)
+  -- the importances with the trees from t on
+  abbrev pub importances_on : ℕ → List Float → List Float
+  importances_on t v = add_importances features v (map tree (from t (F.trees - t)))
 
-  pub gather-start : (v own : List Float) → length own ≡ length v → Gathering v v own 0
+  pub gather-start : (v : List Float) → importances_on 0 v ≡ add_importances features v (trees_of F)
   unfolding trees_of
-  gather-start v own s = record { within = omega arith; long = refl; side = s; so = ap (λ l. add_importances (length v) v (map tree l)) (sym (range_all 0 F.trees)) }
+  gather-start v = ap (λ l. add_importances features v (map tree l)) (sym (range_all 0 F.trees))
 
-  pub gather-turn : (v₀ v own : List Float) {w side : List Float} (t : ℕ) → Gathering v₀ v own t → t < F.trees → length w ≡ length v → length side ≡ length own
-      → w ≡ add_each v (normalised (scores_of (length v) (tree t))) → Gathering v₀ w side (t + 1)
+  pub gather-turn : (all v : List Float) {w : List Float} (t : ℕ) → t < F.trees → importances_on t v ≡ all
+      → w ≡ add_each v (normalised (scores_of features (tree t))) → importances_on (t + 1) w ≡ all
   unfolding add_importances
-  gather-turn v₀ v own t f h l m e =
-      record {
-        within = omega arith;
-        long = l ∙ f.long;
-        side = m ∙ f.side;
-        so = (λ i. add_importances (length v₀) ((e ∙ ap (λ k. add_each v (normalised (scores_of k (tree t)))) f.long) i) (map tree (from (add-one t i) (F.trees - (t + 1)))))
-            ∙ ap (λ l. add_importances (length v₀) v (map tree l)) (sym (range-next t t F.trees h)) ∙ f.so;
-      }
+  gather-turn all v t h f e =
+      (λ i. add_importances features (e i) (map tree (from (add-one t i) (F.trees - (t + 1)))))
+      ∙ ap (λ l. add_importances features v (map tree l)) (sym (range-next t t F.trees h)) ∙ f
 
-  pub gather-done : (v₀ v own : List Float) (t : ℕ) → Gathering v₀ v own t → F.trees ≤ t → v ≡ add_importances (length v₀) v₀ (trees_of F)
+  pub gather-done : (all v : List Float) (t : ℕ) → F.trees ≤ t → importances_on t v ≡ all → v ≡ all
   unfolding add_importances
-  gather-done v₀ v own t f h = ap (λ l. add_importances (length v₀) v (map tree l)) (sym (range-end t t F.trees h)) ∙ f.so
+  gather-done all v t h f = ap (λ l. add_importances features v (map tree l)) (sym (range-end t t F.trees h)) ∙ f

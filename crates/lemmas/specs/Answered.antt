@@ -1,13 +1,11 @@
 -- What a fit that answers has passed, grown and written. Assumes nothing.
-use Rattle.std.specs.Prelude.{ℕ, zero, suc, ◌+◌, ◌<◌, ◌≤◌, ◌≡◌, List, [], ◌∷◌, ◌++◌, map, length, get_or}
+use Rattle.std.specs.Prelude.{ℕ, zero, suc, ◌+◌, ◌<◌, ◌≤◌, ◌≡◌, List, [], ◌∷◌, ◌++◌, map, length, get_or, Ok, Err}
 use Rattle.std.proofs.Math.Nat.{le_trans}
 use Rattle.std.proofs.Common.{zero-add, add-zero, not-suc-le-zero, le_of_suc-le-suc, arith, sym, ◌∙◌, length-append}
 use Rattle.std.proofs.Math.Path.{refl, ap, subst}
 use Rattle.std.proofs.Math.ListN.{length-map}
 use Rattle.rules.specs.declared.Report.{Report}
-use Rattle.rules.specs.declared.Checked.{Checked}
-use Rattle.rules.specs.declared.TreeAnswer.{TreeAnswer}
-use Rattle.rules.specs.declared.ForestAnswer.{ForestAnswer}
+use Rattle.rules.specs.Results.{Checked, TreeAnswer, ForestAnswer}
 use Rattle.rules.specs.Words.{from, front, total}
 use Rattle.rules.specs.Lent.{Data, OneTree, WaitingForm, TreeRooms, ForestRooms, shortest_of_eight, write_entries, write_reports, zero_work}
 use Rattle.rules.specs.Checks.{checked, room_for}
@@ -19,38 +17,39 @@ use Rattle.lemmas.specs.Outs.{Then, then-of}
 use Rattle.lemmas.specs.Root.{Listed, fit-nodes}
 use Rattle.lemmas.specs.Passed.{ForestPassed, tree-passed, forest-passed, tree-framed, forest-framed, Binary64, listed-right}
 use Rattle.lemmas.specs.Tables.{length-entries}
+use Rattle.rules.specs.declared.FitError.{FitError}
 
 -- ---- one tree
 
 abbrev IsGrown : TreeAnswer → Type 0
-IsGrown (TreeAnswer.Refused n) = ⊥
-IsGrown (TreeAnswer.BadDraw d) = ⊥
-IsGrown (TreeAnswer.Grown r) = Unit {0}
+IsGrown (Err (FitError.Refused n)) = ⊥
+IsGrown (Err (FitError.BadDraw d)) = ⊥
+IsGrown (Ok r) = Unit {0}
 
 abbrev pub report_or : Report → TreeAnswer → Report
-report_or d (TreeAnswer.Refused n) = d
-report_or d (TreeAnswer.BadDraw x) = d
-report_or d (TreeAnswer.Grown r) = r
+report_or d (Err (FitError.Refused n)) = d
+report_or d (Err (FitError.BadDraw x)) = d
+report_or d (Ok r) = r
 
 module _ {W : Type 0} (K : WaitingForm W) where
   pub record TreeAnswered (C : TreeCall) (R : TreeRooms W) (r : Report) : Type 0 where
-    pub passed : checked (tree_tests K C R) ≡ Checked.Passed
+    pub passed : checked (tree_tests K C R) ≡ Ok tt
     pub tree : Tree
     pub grew : fit (one_tree_of C) C.given.inputs ≡ ok tree
     pub reported : tree.report ≡ r
     pub after : (fit_tree K C R).rooms ≡ record { nodes = write_entries (entries tree.nodes) R.nodes; behind = write_behind tree.nodes R.behind; work = zero_work K R.work }
 
-  pub tree-answered : (C : TreeCall) (R : TreeRooms W) (r : Report) → (fit_tree K C R).answer ≡ TreeAnswer.Grown r → TreeAnswered C R r
+  pub tree-answered : (C : TreeCall) (R : TreeRooms W) (r : Report) → (fit_tree K C R).answer ≡ Ok r → TreeAnswered C R r
   unfolding fit_tree tree_ends tree_done grown_tree
   tree-answered C R r h = go (checked (tree_tests K C R)) refl (fit (one_tree_of C) C.given.inputs) refl h
     where
-      go : (k : Checked) → checked (tree_tests K C R) ≡ k → (o : Out Tree) → fit (one_tree_of C) C.given.inputs ≡ o → (tree_ends K k o R).answer ≡ TreeAnswer.Grown r → TreeAnswered C R r
-      go Checked.Passed q (bad s) e h = absurd (subst IsGrown (sym h) tt)
-      go Checked.Passed q (ok t) e h = record { passed = q; tree = t; grew = e; reported = ap (report_or r) h; after = λ i. (tree_ends K (q i) (e i) R).rooms }
-      go (Checked.Refused r₀) q o e h = absurd (subst IsGrown (sym h) tt)
+      go : (k : Checked) → checked (tree_tests K C R) ≡ k → (o : Out Tree) → fit (one_tree_of C) C.given.inputs ≡ o → (tree_ends K k o R).answer ≡ Ok r → TreeAnswered C R r
+      go (Ok _) q (bad s) e h = absurd (subst IsGrown (sym h) tt)
+      go (Ok _) q (ok t) e h = record { passed = q; tree = t; grew = e; reported = ap (report_or r) h; after = λ i. (tree_ends K (q i) (e i) R).rooms }
+      go (Err r₀) q o e h = absurd (subst IsGrown (sym h) tt)
 
   -- its listings were in order
-  pub tree-listed : (C : TreeCall) (R : TreeRooms W) → Binary64 C.given.inputs.values → checked (tree_tests K C R) ≡ Checked.Passed
+  pub tree-listed : (C : TreeCall) (R : TreeRooms W) → Binary64 C.given.inputs.values → checked (tree_tests K C R) ≡ Ok tt
       → Listed (one_tree_of C) C.given.inputs × (0 < (one_tree_of C).params.features)
   unfolding one_tree_of params_of
   tree-listed C R held q =
@@ -125,13 +124,13 @@ grew-room (F ∷ Fs) D (t ∷ ts) g h =
     sum t a a' b x y h₁ h₂ h₃ h₄ = omega arith
 
 abbrev ForestGrown : ForestAnswer → Type 0
-ForestGrown (ForestAnswer.Refused n) = ⊥
-ForestGrown (ForestAnswer.BadDraw d) = ⊥
-ForestGrown ForestAnswer.Grown = Unit {0}
+ForestGrown (Err (FitError.Refused n)) = ⊥
+ForestGrown (Err (FitError.BadDraw d)) = ⊥
+ForestGrown (Ok _) = Unit {0}
 
 module _ {W : Type 0} (K : WaitingForm W) where
   pub record ForestAnswered (C : ForestCall) (R : ForestRooms W) : Type 0 where
-    pub passed : checked (forest_tests K C R) ≡ Checked.Passed
+    pub passed : checked (forest_tests K C R) ≡ Ok tt
     pub trees : List Tree
     pub grew : Grew (each_tree C) C.given.inputs trees
     pub after : (fit_forest K C R).rooms ≡ record {
@@ -142,15 +141,15 @@ module _ {W : Type 0} (K : WaitingForm W) where
       work = zero_work K R.work;
     }
 
-  pub forest-answered : (C : ForestCall) (R : ForestRooms W) → (fit_forest K C R).answer ≡ ForestAnswer.Grown → ForestAnswered C R
+  pub forest-answered : (C : ForestCall) (R : ForestRooms W) → (fit_forest K C R).answer ≡ Ok tt → ForestAnswered C R
   unfolding fit_forest forest_ends forest_done grown_forest
   forest-answered C R h = go (checked (forest_tests K C R)) refl (grow_trees 0 (each_tree C) C.given.inputs) refl h
     where
-      go : (k : Checked) → checked (forest_tests K C R) ≡ k → (f : Forest) → grow_trees 0 (each_tree C) C.given.inputs ≡ f → (forest_ends K k f R).answer ≡ ForestAnswer.Grown → ForestAnswered C R
-      go Checked.Passed q (stopped d) e h = absurd (subst ForestGrown (sym h) tt)
-      go Checked.Passed q (grown_all ts) e h =
+      go : (k : Checked) → checked (forest_tests K C R) ≡ k → (f : Forest) → grow_trees 0 (each_tree C) C.given.inputs ≡ f → (forest_ends K k f R).answer ≡ Ok tt → ForestAnswered C R
+      go (Ok _) q (stopped d) e h = absurd (subst ForestGrown (sym h) tt)
+      go (Ok _) q (grown_all ts) e h =
           record { passed = q; trees = ts; grew = subst (GrewAll (each_tree C) C.given.inputs) e (trees-grew 0 (each_tree C) C.given.inputs); after = λ i. (forest_ends K (q i) (e i) R).rooms }
-      go (Checked.Refused r₀) q f e h = absurd (subst ForestGrown (sym h) tt)
+      go (Err r₀) q f e h = absurd (subst ForestGrown (sym h) tt)
 
   module _ (C : ForestCall) (R : ForestRooms W) (a : ForestAnswered C R) where
     pub forest-right : ForestPassed K C R

@@ -1,7 +1,7 @@
 -- What a search that finds a cut has seen to: the cut leaves rows on both sides, and the least leaf on both; and the two sides are good nodes again. Where a cut of the
 -- best splitter stands: at least the greatest value of its true side, and below the least of its false side.
 -- Assumes nothing.
-use Rattle.std.specs.Prelude.{ℕ, ◌+◌, ◌-◌, ◌<◌, ◌≤◌, min, ◌≡◌, Bool, ◌&&◌, take, T, Float}
+use Rattle.std.specs.Prelude.{ℕ, ◌+◌, ◌-◌, ◌<◌, ◌≤◌, min, ◌≡◌, Bool, ◌&&◌, take, T, Float, Some, None}
 use native.Mathlib.Omega.{arith}
 use Rattle.std.proofs.Math.Path.{refl, ap, subst}
 use Rattle.std.proofs.Common.{sym, ◌∙◌}
@@ -17,8 +17,7 @@ use Rattle.rules.specs.declared.Splitter.{Splitter}
 use Rattle.rules.specs.declared.Splitter.TheVariants.{Best, Random}
 use Rattle.rules.specs.declared.Height.{Height}
 use Rattle.rules.specs.declared.Cut.{Cut}
-use Rattle.rules.specs.declared.Held.{Held}
-use Rattle.rules.specs.declared.Held.TheVariants.{Nothing, Holds}
+use Rattle.rules.specs.Results.{Held}
 use Rattle.rules.specs.Words.{put_if, keep, total, each_once}
 use Rattle.rules.specs.Totals.{empty}
 use Rattle.rules.specs.Threshold.{threshold_between}
@@ -65,8 +64,8 @@ FoundIs Q no_cut = Unit {0}
 FoundIs Q (cut_found c) = Q c
 
 pub found-is : (Q : Cut → Type 0) (h : Held) → HeldIs Q h → FoundIs Q (found h)
-found-is Q Nothing g = tt
-found-is Q (Holds c q) g = g
+found-is Q None g = tt
+found-is Q (Some (c, q)) g = g
 
 abbrev pub Suits : Params → NodeRows → Found → Type 0
 Suits P node f = FoundIs (Fine P node) f
@@ -272,7 +271,7 @@ module _ (P : Params) {S : Type 0} (src : Source S) (fair : Fair P src) where
     unfolding search
     search-held s =
         then-then (src.shuffle s) _ _ _ (fair.order s)
-        (λ o h. then-then (try_all src P node (take (min P.tried P.features) o.0) (record { best = Nothing; left = o.1 })) _ _ _ (tries-held (λ j. j < P.features) Q node one _ _ h tt)
+        (λ o h. then-then (try_all src P node (take (min P.tried P.features) o.0) (record { best = None; left = o.1 })) _ _ _ (tries-held (λ j. j < P.features) Q node one _ _ h tt)
         (λ r q. found-is Q r.best q))
 
   pub search-fine : (s : S) (node : NodeRows) → Good P node → Then (search src P s node) (λ r. Suits P node r.0)

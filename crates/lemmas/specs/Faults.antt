@@ -1,5 +1,5 @@
 -- The tests of listings: how they end, and that they all pass exactly where each row stands once and no value falls. Assumes nothing.
-use Rattle.std.specs.Prelude.{ℕ, suc, ◌+◌, ◌*◌, ◌<◌, ◌≤◌, ◌≡◌, Bool, true, false, ◌&&◌, cond, Float}
+use Rattle.std.specs.Prelude.{ℕ, suc, ◌+◌, ◌*◌, ◌<◌, ◌≤◌, ◌≡◌, Bool, true, false, ◌&&◌, cond, Float, Ok, Err}
 use Rattle.std.proofs.Common.{zero-add, ◌∙◌, subst, eq-eqb}
 use Rattle.std.proofs.Math.Path.{refl, sym, ap}
 use Rattle.std.proofs.Math.Bool.{not, and-false}
@@ -8,7 +8,7 @@ use Rattle.std.proofs.Math.ListN.{length}
 use Rattle.std.proofs.Math.Dec.{ltb}
 use Rattle.std.specs.Float.Ieee.{lt}
 use Rattle.rules.specs.declared.Shape.{Shape}
-use Rattle.rules.specs.declared.Checked.{Checked}
+use Rattle.rules.specs.Results.{Checked}
 use Rattle.rules.specs.Words.{from, every, along, along_from, joined, member, fresh, each_once}
 use Rattle.rules.specs.Lent.{cell, listing_at}
 use Rattle.rules.specs.Checks.{Test, checked}
@@ -33,8 +33,8 @@ listings_good S xs ls = every (good_listing S xs ls) (from 0 S.features)
 -- ---- whether all pass
 
 abbrev pub is_passed : Checked → Bool
-is_passed Checked.Passed = true
-is_passed (Checked.Refused r) = false
+is_passed (Ok _) = true
+is_passed (Err r) = false
 
 -- ---- of a column
 
@@ -66,8 +66,8 @@ module _ (rows : ℕ) (value : ℕ → Float) where
       rest = checked (tests_from rows value column lacking (k ∷ before) (suc place) l)
 
       go : (a b c : Bool) → is_passed rest ≡ (fresh rows (k ∷ before) l && stays (k ∷ before) l)
-          → is_passed (cond a (cond (not b) (cond (not c) rest (Checked.Refused (fault 13 column place 0))) (Checked.Refused (fault 12 column place lacking)))
-          (Checked.Refused (fault 11 column place 0)))
+          → is_passed (cond a (cond (not b) (cond (not c) rest (Err (fault 13 column place 0))) (Err (fault 12 column place lacking)))
+          (Err (fault 11 column place 0)))
           ≡ (a && not b && fresh rows (k ∷ before) l && (not c && stays (k ∷ before) l))
       go false b c e = refl
       go true true c e = refl
@@ -86,8 +86,8 @@ passed-append : (us vs : List Test) → is_passed (checked (us ++ vs)) ≡ (is_p
 passed-append us vs = ap is_passed (checked-append us vs) ∙ go (checked us)
   where
     go : (c : Checked) → is_passed (and_then c (checked vs)) ≡ (is_passed c && is_passed (checked vs))
-    go Checked.Passed = refl
-    go (Checked.Refused r) = refl
+    go (Ok _) = refl
+    go (Err r) = refl
 
 every-alike : (p q : ℕ → Bool) (l : List ℕ) → Every (λ k. p k ≡ q k) l → every p l ≡ every q l
 unfolding every

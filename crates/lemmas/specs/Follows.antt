@@ -1,7 +1,7 @@
 -- One growth follows another, over any two sources. Where each draw that the one gives can be given by the other, so is each search, each split and the whole growth.
 -- It goes backward, from what is left in the end to what was there at the start: a tape that holds what was drawn then serves as the other's. Assumes nothing.
 use Prim.Native.Nat.{ℕ, zero, suc, ◌-◌, min}
-use Rattle.std.specs.Prelude.{◌≡◌, refl, Bool, get_or, take, Float}
+use Rattle.std.specs.Prelude.{◌≡◌, refl, Bool, get_or, take, Float, None}
 use Rattle.std.proofs.Math.Path.{ap}
 use Rattle.std.proofs.Common.{◌∙◌}
 use Rattle.std.proofs.Math.Bool.{true, false}
@@ -10,7 +10,6 @@ use Rattle.std.specs.Float.Ieee.{lt}
 use Rattle.rules.specs.declared.Params.{Params}
 use Rattle.rules.specs.declared.Splitter.{Splitter}
 use Rattle.rules.specs.declared.Splitter.TheVariants.{Best, Random}
-use Rattle.rules.specs.declared.Held.TheVariants.{Nothing}
 use Rattle.rules.specs.Draws.{Out, bad, ok, bind, Source}
 use Rattle.rules.specs.Search.{Element, Column, at, NodeRows, final, Tries, draw_in, random_in, try_one, try_all, Found, found, search}
 use Rattle.rules.specs.Growth.{Waiting, State, leaf_of, search_if, runs, expand, grow, grow_all, from_root}
@@ -73,7 +72,7 @@ module _ (P : Params) {S U : Type 0} (one : Source S) (two : Source U) (R : S �
   search-follows s node =
       follows_then R _ _ _ _ _ _ _ _ _ (shuffles s)
       (λ o. follows_then R _ _ _ _ _ _ _ _ _
-      (tries-follow node (take (min P.tried P.features) o.0) (record { best = Nothing; left = o.1 }))
+      (tries-follow node (take (min P.tried P.features) o.0) (record { best = None; left = o.1 }))
       (λ r u' q'. let (u, q, e) = counts r.left u' q' in (u, q, ap (λ v. ok (found r.best, v)) e)))
 
 -- ---- a growth, where each choice follows

@@ -1,6 +1,6 @@
 -- A search at two heights. The two hold candidates at the same places and with the same proxies: so what holds of the two cuts at each place of a column holds of the
 -- two cuts held. Assumes nothing.
-use Rattle.std.specs.Prelude.{ℕ, ◌+◌, ◌-◌, ◌≤◌, ◌≡◌, true, false, not, get_or, T, ltb, Float}
+use Rattle.std.specs.Prelude.{ℕ, ◌+◌, ◌-◌, ◌≤◌, ◌≡◌, true, false, not, get_or, T, ltb, Float, Some, None}
 use Rattle.std.proofs.Common.{add-zero, arith, sym, subst, ◌∙◌, nltb→le}
 use Rattle.std.proofs.Math.Path.{refl, ap}
 use Rattle.std.proofs.Math.Bool.{Bool, cond}
@@ -11,8 +11,7 @@ use Rattle.rules.specs.declared.Totals.{Totals}
 use Rattle.rules.specs.declared.Params.{Params}
 use Rattle.rules.specs.declared.Height.{Height}
 use Rattle.rules.specs.declared.Cut.{Cut}
-use Rattle.rules.specs.declared.Held.{Held}
-use Rattle.rules.specs.declared.Held.TheVariants.{Nothing, Holds}
+use Rattle.rules.specs.Results.{Held}
 use Rattle.rules.specs.declared.Sweep.{Sweep}
 use Rattle.rules.specs.Words.{total}
 use Rattle.rules.specs.Totals.{empty, take_in, less, proxy}
@@ -54,38 +53,38 @@ run-below j earlier low run v less equal =
 
 -- none yet, or two cuts with one proxy
 abbrev pub HeldBoth : (Cut → Cut → Type 0) → Held → Held → Type 0
-HeldBoth R Nothing Nothing = Unit {0}
-HeldBoth R Nothing (Holds c' q') = ⊥
-HeldBoth R (Holds c q) Nothing = ⊥
-HeldBoth R (Holds c q) (Holds c' q') = R c c' × (q ≡ q')
+HeldBoth R None None = Unit {0}
+HeldBoth R None (Some (c', q')) = ⊥
+HeldBoth R (Some (c, q)) None = ⊥
+HeldBoth R (Some (c, q)) (Some (c', q')) = R c c' × (q ≡ q')
 
 better-both : (R : Cut → Cut → Type 0) (h h' : Held) (c c' : Cut) (q : Float) → HeldBoth R h h' → R c c' → HeldBoth R (better h c q) (better h' c' q)
 unfolding better
-better-both R Nothing Nothing c c' q b r = (r, refl)
-better-both R Nothing (Holds d' p') c c' q b r = absurd b
-better-both R (Holds d p) Nothing c c' q b r = absurd b
-better-both R (Holds d p) (Holds d' p') c c' q b r = go (lt p q) (lt p' q) (ap (λ z. lt z q) b.1)
+better-both R None None c c' q b r = (r, refl)
+better-both R None (Some (d', p')) c c' q b r = absurd b
+better-both R (Some (d, p)) None c c' q b r = absurd b
+better-both R (Some (d, p)) (Some (d', p')) c c' q b r = go (lt p q) (lt p' q) (ap (λ z. lt z q) b.1)
   where
-    go : (x y : Bool) → x ≡ y → HeldBoth R (cond x (Holds c q) (Holds d p)) (cond y (Holds c' q) (Holds d' p'))
-    go x y e = subst (λ z. HeldBoth R (cond x (Holds c q) (Holds d p)) (cond z (Holds c' q) (Holds d' p'))) e (same x)
+    go : (x y : Bool) → x ≡ y → HeldBoth R (cond x (Some (c, q)) (Some (d, p))) (cond y (Some (c', q)) (Some (d', p')))
+    go x y e = subst (λ z. HeldBoth R (cond x (Some (c, q)) (Some (d, p))) (cond z (Some (c', q)) (Some (d', p')))) e (same x)
       where
-        same : (x : Bool) → HeldBoth R (cond x (Holds c q) (Holds d p)) (cond x (Holds c' q) (Holds d' p'))
+        same : (x : Bool) → HeldBoth R (cond x (Some (c, q)) (Some (d, p))) (cond x (Some (c', q)) (Some (d', p')))
         same true = (r, refl)
         same false = b
 
 -- one that is held
 abbrev pub HeldIs : (Cut → Type 0) → Held → Type 0
-HeldIs Q Nothing = Unit {0}
-HeldIs Q (Holds c q) = Q c
+HeldIs Q None = Unit {0}
+HeldIs Q (Some (c, q)) = Q c
 
 twice : (Q : Cut → Type 0) (h : Held) → HeldIs Q h → HeldBoth (λ c c'. Q c) h h
-twice Q Nothing g = tt
-twice Q (Holds c q) g = (g, refl)
+twice Q None g = tt
+twice Q (Some (c, q)) g = (g, refl)
 
 first : (Q : Cut → Type 0) (h h' : Held) → HeldBoth (λ c c'. Q c) h h' → HeldIs Q h
-first Q Nothing h' b = tt
-first Q (Holds c q) Nothing b = absurd b
-first Q (Holds c q) (Holds c' q') b = b.0
+first Q None h' b = tt
+first Q (Some (c, q)) None b = absurd b
+first Q (Some (c, q)) (Some (c', q')) b = b.0
 
 -- two candidates that are taken have passed both tests of the least leaf
 pub judge-both : (P : Params) (g : Height) (R : Cut → Cut → Type 0) (node : NodeRows) (h h' : Held) (t : Totals) (k : ℕ) (c c' : Cut) → HeldBoth R h h'

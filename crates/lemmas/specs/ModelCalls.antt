@@ -1,13 +1,11 @@
 -- How the calls of a model file end: a table that passes is written, a file that is read is laid out in the rooms, and such a table passes. Assumes nothing.
-use Rattle.std.specs.Prelude.{ℕ, zero, suc, ◌<◌, ◌≤◌, ◌≡◌, refl, Bool, true, false, ◌&&◌, cond, List, length, T, leb}
+use Rattle.std.specs.Prelude.{ℕ, zero, suc, ◌<◌, ◌≤◌, ◌≡◌, refl, Bool, true, false, ◌&&◌, cond, List, length, T, leb, Ok, Err}
 use Rattle.std.proofs.Common.{sym, ◌∙◌, subst, leb→le, le→leb}
 use Rattle.std.proofs.Math.Path.{ap}
 use Rattle.std.proofs.lemmas.Bool.{lt-leb}
 use Rattle.std.specs.Float.Ieee.Fits.{and_l, and_r, and_i}
 use Rattle.rules.specs.declared.Sizes.{Sizes}
-use Rattle.rules.specs.declared.Reply.{Reply}
-use Rattle.rules.specs.declared.ModelReply.{ModelReply}
-use Rattle.rules.specs.declared.SizeReply.{SizeReply}
+use Rattle.rules.specs.Results.{Reply, ModelReply, SizeReply}
 use Rattle.rules.specs.Words.{every, front, total}
 use Rattle.rules.specs.Lent.{Entry, outcome_of, shortest}
 use Rattle.rules.specs.Checks.{first_failed, replies, features_in, trees_in}
@@ -34,15 +32,15 @@ table-passed features F h =
     let (g, h₄) = past 7 (good_forest features F) _ h₃ in
     record { wide = and_l (features_in features) (trees_in F.trees) s; number = and_r (features_in features) (trees_in F.trees) s; enough = e; good = g }
 
-pub check-passed : (features : ℕ) (F : ForestTable) → check_forest features F ≡ Reply.Done → TablePassed features F
+pub check-passed : (features : ℕ) (F : ForestTable) → check_forest features F ≡ Ok tt → TablePassed features F
 unfolding check_forest replies
 check-passed features F h = table-passed features F (go (first_failed (forest_table_tests features F)) h)
   where
     IsDone : Reply → Type 0
-    IsDone (Reply.Refused n) = ⊥
-    IsDone Reply.Done = Unit {0}
+    IsDone (Err n) = ⊥
+    IsDone (Ok _) = Unit {0}
 
-    go : (n : ℕ) → replies n ≡ Reply.Done → n ≡ 0
+    go : (n : ℕ) → replies n ≡ Ok tt → n ≡ 0
     go zero h = refl
     go (suc n) h = absurd (subst IsDone (sym h) tt)
 
@@ -54,18 +52,18 @@ module _ (features : ℕ) (F : ForestTable) (p : TablePassed features F) where
   unfolding forest_table_tests
   table-passes = goes_on 1 _ _ sizes-pass (goes_on 6 _ _ p.enough (goes_on 8 _ _ p.good none-fails))
 
-  pub size-done : model_size features F ≡ SizeReply.Bytes (length (file_of features (trees_of F)))
+  pub size-done : model_size features F ≡ Ok (length (file_of features (trees_of F)))
   unfolding model_size sized
   size-done = ap (λ n. sized n (length (file_of features (trees_of F)))) table-passes
 
   pub write_done : (out : List ℕ) → length (file_of features (trees_of F)) ≤ length out
-      → write_model features F out ≡ outcome_of (SizeReply.Bytes (length (file_of features (trees_of F)))) (front (file_of features (trees_of F)) out)
+      → write_model features F out ≡ outcome_of (Ok (length (file_of features (trees_of F)))) (front (file_of features (trees_of F)) out)
   unfolding write_model write_tests wrote forest_table_tests
   write_done out long =
       ap (λ n. wrote n (file_of features (trees_of F)) out)
       (goes_on 1 _ _ sizes-pass (goes_on 6 _ _ p.enough (goes_on 8 _ _ p.good (goes_on 6 _ _ (le→leb (length (file_of features (trees_of F))) (length out) long) none-fails))))
 
-  pub write-short : (out : List ℕ) → length out < length (file_of features (trees_of F)) → write_model features F out ≡ outcome_of (SizeReply.Refused 6) out
+  pub write-short : (out : List ℕ) → length out < length (file_of features (trees_of F)) → write_model features F out ≡ outcome_of (Err 6) out
   unfolding write_model write_tests wrote forest_table_tests
   write-short out short =
       ap (λ n. wrote n (file_of features (trees_of F)) out)
@@ -73,19 +71,19 @@ module _ (features : ℕ) (F : ForestTable) (p : TablePassed features F) where
       (fails 6 _ _ (lt-leb (length (file_of features (trees_of F))) (length out) short))))))
 
 abbrev IsBytes : SizeReply → Type 0
-IsBytes (SizeReply.Refused r) = ⊥
-IsBytes (SizeReply.Bytes m) = Unit {0}
+IsBytes (Err r) = ⊥
+IsBytes (Ok m) = Unit {0}
 
 abbrev bytes_in : ℕ → SizeReply → ℕ
-bytes_in n (SizeReply.Refused r) = n
-bytes_in n (SizeReply.Bytes m) = m
+bytes_in n (Err r) = n
+bytes_in n (Ok m) = m
 
 -- what is known where the size is told
-pub size-answered : (features : ℕ) (F : ForestTable) (n : ℕ) → model_size features F ≡ SizeReply.Bytes n → TablePassed features F × (n ≡ length (file_of features (trees_of F)))
+pub size-answered : (features : ℕ) (F : ForestTable) (n : ℕ) → model_size features F ≡ Ok n → TablePassed features F × (n ≡ length (file_of features (trees_of F)))
 unfolding model_size sized
 size-answered features F n h = go (first_failed (forest_table_tests features F)) refl h
   where
-    go : (k : ℕ) → first_failed (forest_table_tests features F) ≡ k → sized k (length (file_of features (trees_of F))) ≡ SizeReply.Bytes n
+    go : (k : ℕ) → first_failed (forest_table_tests features F) ≡ k → sized k (length (file_of features (trees_of F))) ≡ Ok n
         → TablePassed features F × (n ≡ length (file_of features (trees_of F)))
     go (suc k) q h = absurd (subst IsBytes (sym h) tt)
     go zero q h = (table-passed features F q, ap (bytes_in n) (sym h))
@@ -97,14 +95,14 @@ pub record WriteAnswered (features : ℕ) (F : ForestTable) (out : List ℕ) (n 
   pub room : n ≤ length out
   pub after : (write_model features F out).rooms ≡ front (file_of features (trees_of F)) out
 
-pub write-answered : (features : ℕ) (F : ForestTable) (out : List ℕ) (n : ℕ) → (write_model features F out).answer ≡ SizeReply.Bytes n → WriteAnswered features F out n
+pub write-answered : (features : ℕ) (F : ForestTable) (out : List ℕ) (n : ℕ) → (write_model features F out).answer ≡ Ok n → WriteAnswered features F out n
 unfolding write_model write_tests wrote forest_table_tests
 write-answered features F out n h = go (first_failed (write_tests features F out)) refl h
   where
     file : List ℕ
     file = file_of features (trees_of F)
 
-    go : (k : ℕ) → first_failed (write_tests features F out) ≡ k → (wrote k file out).answer ≡ SizeReply.Bytes n → WriteAnswered features F out n
+    go : (k : ℕ) → first_failed (write_tests features F out) ≡ k → (wrote k file out).answer ≡ Ok n → WriteAnswered features F out n
     go (suc k) q h = absurd (subst IsBytes (sym h) tt)
     go zero q h =
         let (s, q₂) = past 0 (features_in features && trees_in F.trees) _ q in
@@ -122,12 +120,12 @@ write-answered features F out n h = go (first_failed (write_tests features F out
 -- ---- a file that is read
 
 pub read_done : (bs : List ℕ) (M : Model) (end : ℕ) (R : TableRooms) → model_in bs ≡ says M end → T (rooms_enough M.trees R)
-    → read_model bs R ≡ outcome_of (ModelReply.Read (sizes_of M)) (filled_by M.trees R)
+    → read_model bs R ≡ outcome_of (Ok (sizes_of M)) (filled_by M.trees R)
 unfolding read_model reading
 read_done bs M end R h enough = ap (λ f. reading f R) h ∙ go (rooms_enough M.trees R) enough
   where
-    go : (b : Bool) → T b → cond b (outcome_of (ModelReply.Read (sizes_of M)) (filled_by M.trees R)) (outcome_of (ModelReply.Refused (record { number = 6; place = 0 })) R)
-        ≡ outcome_of (ModelReply.Read (sizes_of M)) (filled_by M.trees R)
+    go : (b : Bool) → T b → cond b (outcome_of (Ok (sizes_of M)) (filled_by M.trees R)) (outcome_of {A = ModelReply} (Err (record { number = 6; place = 0 })) R)
+        ≡ outcome_of (Ok (sizes_of M)) (filled_by M.trees R)
     go true t = refl
     go false t = absurd t
 
@@ -141,23 +139,23 @@ pub record ReadAnswered (bs : List ℕ) (R : TableRooms) (s : Sizes) : Type 0 wh
   pub after : (read_model bs R).rooms ≡ filled_by model.trees R
 
 abbrev IsRead : ModelReply → Type 0
-IsRead (ModelReply.Refused m) = ⊥
-IsRead (ModelReply.Read s) = Unit {0}
+IsRead (Err m) = ⊥
+IsRead (Ok s) = Unit {0}
 
-pub read-answered : (bs : List ℕ) (R : TableRooms) (s : Sizes) → (read_model bs R).answer ≡ ModelReply.Read s → ReadAnswered bs R s
+pub read-answered : (bs : List ℕ) (R : TableRooms) (s : Sizes) → (read_model bs R).answer ≡ Ok s → ReadAnswered bs R s
 unfolding read_model reading
 read-answered bs R s h = go (model_in bs) refl h
   where
     sizes_in : ModelReply → Sizes
-    sizes_in (ModelReply.Refused m) = s
-    sizes_in (ModelReply.Read t) = t
+    sizes_in (Err m) = s
+    sizes_in (Ok t) = t
 
-    go : (f : Field Model) → model_in bs ≡ f → (reading f R).answer ≡ ModelReply.Read s → ReadAnswered bs R s
+    go : (f : Field Model) → model_in bs ≡ f → (reading f R).answer ≡ Ok s → ReadAnswered bs R s
     go (misread m) q h = absurd (subst IsRead (sym h) tt)
     go (says M end) q h = room (rooms_enough M.trees R) refl h
       where
         room : (b : Bool) → rooms_enough M.trees R ≡ b
-            → (cond b (outcome_of (ModelReply.Read (sizes_of M)) (filled_by M.trees R)) (outcome_of (ModelReply.Refused (record { number = 6; place = 0 })) R)).answer ≡ ModelReply.Read s
+            → (cond b (outcome_of (Ok (sizes_of M)) (filled_by M.trees R)) (outcome_of {A = ModelReply} (Err (record { number = 6; place = 0 })) R)).answer ≡ Ok s
             → ReadAnswered bs R s
         room true e h =
             record {

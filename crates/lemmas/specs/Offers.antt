@@ -1,7 +1,7 @@
 -- A search finds a cut exactly where a feature that it tries offers one: for the best splitter a place of its column, for the random splitter the threshold drawn for it, that leaves
 -- the least leaf on both sides; and the cut is at one of the features tried. Also what a search takes from the tapes: its choice words, and a threshold for each feature tried whose lowest
 -- value is below its highest. Over both heights at once: where a cut stands between two values does not matter here. Assumes nothing.
-use Rattle.std.specs.Prelude.{ℕ, suc, ◌+◌, ◌-◌, ◌<◌, ◌≤◌, min, ◌≡◌, refl, ◌&&◌, ◌||◌, cond, get_or, take, T, ltb, Float}
+use Rattle.std.specs.Prelude.{ℕ, suc, ◌+◌, ◌-◌, ◌<◌, ◌≤◌, min, ◌≡◌, refl, ◌&&◌, ◌||◌, cond, get_or, take, T, ltb, Float, Some, None}
 use Rattle.std.proofs.Common.{zero-add, arith, ◌∙◌, inl, inr, leb→le, le→leb, ltb→lt, nltb→le}
 use Rattle.std.proofs.Math.Path.{sym, ap, subst}
 use Rattle.std.proofs.Math.Bool.{Bool, true, false, not, or-true, or-false, or_assoc}
@@ -17,8 +17,7 @@ use Rattle.rules.specs.declared.Params.{Params}
 use Rattle.rules.specs.declared.Splitter.{Splitter}
 use Rattle.rules.specs.declared.Splitter.TheVariants.{Best, Random}
 use Rattle.rules.specs.declared.Cut.{Cut}
-use Rattle.rules.specs.declared.Held.{Held}
-use Rattle.rules.specs.declared.Held.TheVariants.{Nothing, Holds}
+use Rattle.rules.specs.Results.{Held}
 use Rattle.rules.specs.declared.Sweep.{Sweep}
 use Rattle.rules.specs.Words.{put_if, keep, total, member, each_once}
 use Rattle.rules.specs.Totals.{empty, less, proxy}
@@ -122,10 +121,10 @@ is_held h = is_cut (found h)
 -- once a candidate is held, one stays held
 better-holds : (h : Held) (c : Cut) (q : Float) → is_held (better h c q) ≡ true
 unfolding better
-better-holds Nothing c q = refl
-better-holds (Holds b p) c q = go (lt p q)
+better-holds None c q = refl
+better-holds (Some (b, p)) c q = go (lt p q)
   where
-    go : (x : Bool) → is_held (cond x (Holds c q) (Holds b p)) ≡ true
+    go : (x : Bool) → is_held (cond x (Some (c, q)) (Some (b, p))) ≡ true
     go true = refl
     go false = refl
 
@@ -354,7 +353,7 @@ search-offers P node sound d f d' e =
 
     tries : List ℕ × Tapes → Out (Found × Tapes)
     tries o =
-        bind (try_all (tape P.features) P node (take (min P.tried P.features) o.0) (record { best = Nothing; left = o.1 }))
+        bind (try_all (tape P.features) P node (take (min P.tried P.features) o.0) (record { best = None; left = o.1 }))
         (λ r. ok (found r.best, (tape P.features).done r.left))
 
     go : (b : Bool) → (T b → T (each_once P.features (take P.features d.words))) → Then (bind (take_words b P.features d) tries) (λ m. Searched P node d m.0 m.1)

@@ -1,6 +1,6 @@
 -- What a fit knows once its checks have passed: lengths, ranges, and that its listings are in order. Assumes nothing.
 use Prim.Native.Nat.{ℕ, suc, ◌+◌, ◌*◌, ◌<◌, ◌≤◌, min}
-use Rattle.std.proofs.Common.{zero-add, le_trans, arith, sym, ◌∙◌, eqb→eq}
+use Rattle.std.proofs.Common.{zero-add, le_trans, arith, sym, ◌∙◌, eqb→eq, Ok, Err}
 use Rattle.std.proofs.Math.Decide.{ℕ_discrete}
 use Rattle.std.specs.Prelude.{◌≡◌, refl, Bool, true, false, ◌&&◌, ◌||◌, cond, List, [], ◌∷◌, ◌++◌, length, leb, eqb}
 use Rattle.std.proofs.Math.Path.{ap, subst}
@@ -12,7 +12,7 @@ use Rattle.std.specs.Float.Ieee.Scale.{finite}
 use Rattle.std.specs.Float.Ieee.Fits.{and_l, and_r}
 use Rattle.floats.specs.Order.{le-trans64}
 use Rattle.rules.specs.declared.Shape.{Shape}
-use Rattle.rules.specs.declared.Checked.{Checked}
+use Rattle.rules.specs.Results.{Checked}
 use Rattle.rules.specs.Words.{from, every, along, total, each_once}
 use Rattle.rules.specs.Lent.{Given, OneTree, Columns, Behind, WaitingForm, TreeRooms, ForestRooms, values_at, listing_at, unweighted, shortest, shortest_of_eight, cell}
 use Rattle.rules.specs.Checks.{Test, test, checked, first_failed, within, rows_in, features_in, trees_in, shape_in, lengths, good_tape_starts, good_weight, numbers_good, counts_good, counts_one, room_for, work_enough, reports_exact}
@@ -47,23 +47,23 @@ none-fails = sym none-failed
 
 -- what they tell
 abbrev pub IsPassed : Checked → Type 0
-IsPassed Checked.Passed = Unit {0}
-IsPassed (Checked.Refused r) = ⊥
+IsPassed (Ok _) = Unit {0}
+IsPassed (Err r) = ⊥
 
-pub past-test : (t : Test) (ts : List Test) → checked (t ∷ ts) ≡ Checked.Passed → T t.passes × (checked ts ≡ Checked.Passed)
+pub past-test : (t : Test) (ts : List Test) → checked (t ∷ ts) ≡ Ok tt → T t.passes × (checked ts ≡ (Ok tt))
 unfolding checked
 past-test t ts h = go t.passes h
   where
-    go : (b : Bool) → cond b (checked ts) (Checked.Refused t.tells) ≡ Checked.Passed → T b × (checked ts ≡ Checked.Passed)
+    go : (b : Bool) → cond b (checked ts) (Err t.tells) ≡ Ok tt → T b × (checked ts ≡ (Ok tt))
     go true h = (tt, h)
     go false h = absurd (subst IsPassed (sym h) tt)
 
-pub past_all : (us vs : List Test) → checked (us ++ vs) ≡ Checked.Passed → (checked us ≡ Checked.Passed) × (checked vs ≡ Checked.Passed)
+pub past_all : (us vs : List Test) → checked (us ++ vs) ≡ Ok tt → (checked us ≡ (Ok tt)) × (checked vs ≡ (Ok tt))
 past_all us vs h = go (checked us) refl (sym (checked-append us vs) ∙ h)
   where
-    go : (c : Checked) → checked us ≡ c → and_then c (checked vs) ≡ Checked.Passed → (checked us ≡ Checked.Passed) × (checked vs ≡ Checked.Passed)
-    go Checked.Passed e h = (e, h)
-    go (Checked.Refused r) e h = absurd (subst IsPassed (sym h) tt)
+    go : (c : Checked) → checked us ≡ c → and_then c (checked vs) ≡ Ok tt → (checked us ≡ (Ok tt)) × (checked vs ≡ (Ok tt))
+    go (Ok _) e h = (e, h)
+    go (Err r) e h = absurd (subst IsPassed (sym h) tt)
 
 pub and2 : (a b : Bool) → T (a && b) → T a × T b
 and2 a b t = (and_l a b t, and_r a b t)
@@ -96,7 +96,7 @@ pub record Passed (S : Shape) (trees : ℕ) (G : Given) : Type 0 where
   pub listings : T (listings_good S G.inputs.values G.inputs.listings)
 
 from-tests : (S : Shape) (trees : ℕ) (G : Given) → T (shape_in S) → T (lengths S trees G) → T (numbers_good G) → T (counts_good G)
-    → checked (order_tests S G.inputs.values G.inputs.listings) ≡ Checked.Passed → Passed S trees G
+    → checked (order_tests S G.inputs.values G.inputs.listings) ≡ Ok tt → Passed S trees G
 unfolding within lengths numbers_good counts_good
 from-tests S trees G i l n c g =
     let (r, f) = and2 (rows_in S.rows) (features_in S.features) i in
@@ -133,7 +133,7 @@ module _ {W : Type 0} (K : WaitingForm W) where
     pub room : room_for (one_tree_of C) ≤ shortest_of_eight R.nodes R.behind
     pub work : T (work_enough K C.shape R.work)
 
-  pub tree-passed : (C : TreeCall) (R : TreeRooms W) → checked (tree_tests K C R) ≡ Checked.Passed → TreePassed C R
+  pub tree-passed : (C : TreeCall) (R : TreeRooms W) → checked (tree_tests K C R) ≡ Ok tt → TreePassed C R
   unfolding tree_tests
   tree-passed C R h₁ =
       let (t₁, h₂) = past-test _ _ h₁ in let (t₂, h₃) = past-test _ _ h₂ in let (t₃, h₄) = past-test _ _ h₃ in
@@ -153,7 +153,7 @@ module _ {W : Type 0} (K : WaitingForm W) where
     pub starts_room : suc C.trees ≤ length R.starts
     pub reports : T (reports_exact C.trees R.reports)
 
-  pub forest-passed : (C : ForestCall) (R : ForestRooms W) → checked (forest_tests K C R) ≡ Checked.Passed → ForestPassed C R
+  pub forest-passed : (C : ForestCall) (R : ForestRooms W) → checked (forest_tests K C R) ≡ Ok tt → ForestPassed C R
   unfolding forest_tests rooms_good within
   forest-passed C R h₁ =
       let (t₁, h₂) = past-test _ _ h₁ in let (t₂, h₃) = past-test _ _ h₂ in let (t₃, h₄) = past-test _ _ h₃ in

@@ -3,11 +3,11 @@ use Prim.Native.Nat.{ℕ, suc, ◌+◌, ◌-◌, ◌<◌, ◌≤◌}
 use Rattle.std.proofs.Common.{add-one, ◌∙◌, drop_of_length-le, drop-cons, lt-ltb, le-ltb}
 use native.Mathlib.Omega.{arith}
 use Rattle.std.specs.Prelude.{◌≡◌, Bool, false, not, ◌&&◌, get_or, drop, ltb}
-use Rattle.std.proofs.Math.Path.{refl, sym, ap}
+use Rattle.std.proofs.Math.Path.{sym, ap}
 use Rattle.std.proofs.Math.Bool.{true}
 use mathlib.Core.List.{List, [], ◌∷◌}
 use Rattle.std.proofs.Math.ListN.{length}
-use Rattle.rules.specs.Words.{from, put_if, keep, every, along, along_from, total, member, fresh}
+use Rattle.rules.specs.Words.{from, every, total, member, fresh}
 
 -- all that is asked is what is left to ask
 module _ {all rest : Bool} (b next : Bool) (so : all ≡ rest) (turn : rest ≡ (b && next)) where
@@ -20,67 +20,6 @@ module _ {all rest : Bool} (b next : Bool) (so : all ≡ rest) (turn : rest ≡ 
 module _ {ℓ} {A : Type ℓ} where
   pub drop-next : (l : List A) (i : ℕ) (d : A) → i < length l → drop i l ≡ get_or l i d ∷ drop (i + 1) l
   drop-next l i d h = drop-cons l i d h ∙ ap (λ n. get_or l i d ∷ drop n l) (sym (add-one i))
-
-  -- ---- every entry
-
-  pub every-same : (p q : A → Bool) → ((x : A) → p x ≡ q x) → (l : List A) → every p l ≡ every q l
-  every-same p q h l = λ i. every (λ x. h x i) l
-
-  module _ (p : A → Bool) (l : List A) (i : ℕ) where
-    pub every-next : (d : A) → i < length l → every p (drop i l) ≡ (p (get_or l i d) && every p (drop (i + 1) l))
-    unfolding every
-    every-next d h = ap (every p) (drop-next l i d h)
-
-    pub every-goes : (d : A) → i < length l → every p l ≡ every p (drop i l) → p (get_or l i d) ≡ true → every p l ≡ every p (drop (i + 1) l)
-    every-goes d h so t = goes _ _ so (every-next d h) t
-
-    pub every-stops : (d : A) → i < length l → every p l ≡ every p (drop i l) → p (get_or l i d) ≡ false → false ≡ every p l
-    every-stops d h so t = stops _ _ so (every-next d h) t
-
-    pub every-ends : length l ≤ i → every p l ≡ every p (drop i l) → true ≡ every p l
-    unfolding every
-    every-ends h so = sym (so ∙ ap (every p) (drop_of_length-le l h))
-
-  -- ---- every entry with the one before it
-
-  module _ (p : A → A → Bool) (l : List A) where
-    pub along-none : length l ≡ 0 → true ≡ along p l
-    unfolding along
-    along-none h = none l h
-      where
-        none : (l : List A) → length l ≡ 0 → true ≡ along p l
-        none [] h = refl
-        none (x ∷ l) h = absurd (no (length l) h)
-          where
-            no : (n : ℕ) → suc n ≡ 0 → ⊥
-            no n h = omega arith
-
-    pub along-starts : (d : A) → 0 < length l → along p l ≡ along_from p (get_or l 0 d) (drop 1 l)
-    unfolding along
-    along-starts d h = some l h
-      where
-        some : (l : List A) → 0 < length l → along p l ≡ along_from p (get_or l 0 d) (drop 1 l)
-        some [] h = absurd (no h)
-          where
-            no : ◌<◌ 0 0 → ⊥
-            no h = omega arith
-        some (x ∷ l) h = refl
-
-    module _ (x : A) (i : ℕ) where
-      along-next : (d : A) → i < length l → along_from p x (drop i l) ≡ (p x (get_or l i d) && along_from p (get_or l i d) (drop (i + 1) l))
-      unfolding along_from
-      along-next d h = ap (along_from p x) (drop-next l i d h)
-
-      pub along-goes : (d : A) → i < length l → along p l ≡ along_from p x (drop i l) → p x (get_or l i d) ≡ true
-          → along p l ≡ along_from p (get_or l i d) (drop (i + 1) l)
-      along-goes d h so t = goes _ _ so (along-next d h) t
-
-      pub along-stops : (d : A) → i < length l → along p l ≡ along_from p x (drop i l) → p x (get_or l i d) ≡ false → false ≡ along p l
-      along-stops d h so t = stops _ _ so (along-next d h) t
-
-      pub along-ends : length l ≤ i → along p l ≡ along_from p x (drop i l) → true ≡ along p l
-      unfolding along_from
-      along-ends h so = sym (so ∙ ap (along_from p x) (drop_of_length-le l h))
 
 -- ---- the numbers from i up to n
 
@@ -131,37 +70,6 @@ module _ (p : ℕ → Bool) (n i : ℕ) where
 pub count-starts : (p : ℕ → Bool) (n : ℕ) → every p (from 0 n) ≡ every_on p n 0
 count-starts p n = ap (every p) (range_all 0 n)
 
--- ---- how many of them pass a test
-
-abbrev pub kept_on : (ℕ → Bool) → ℕ → ℕ → ℕ
-kept_on p n i = length (keep p (from i (n - i)))
-
-module _ (p : ℕ → Bool) (n i : ℕ) where
-  kept_next : i < n → kept_on p n i ≡ length (put_if (p i) i (keep p (from (i + 1) (n - (i + 1)))))
-  unfolding keep
-  kept_next h = ap (λ l. length (keep p l)) (from_next i n h)
-
-  kept-yes : i < n → p i ≡ true → kept_on p n i ≡ suc (kept_on p n (i + 1))
-  unfolding put_if
-  kept-yes h t = kept_next h ∙ ap (λ b. length (put_if b i (keep p (from (i + 1) (n - (i + 1)))))) t
-
-  kept-no : i < n → p i ≡ false → kept_on p n i ≡ kept_on p n (i + 1)
-  unfolding put_if
-  kept-no h t = kept_next h ∙ ap (λ b. length (put_if b i (keep p (from (i + 1) (n - (i + 1)))))) t
-
-  pub kept-counts : {whole : ℕ} (k : ℕ) → i < n → whole ≡ k + kept_on p n i → p i ≡ true → whole ≡ k + 1 + kept_on p n (i + 1)
-  kept-counts k h so t = omega (arith, kept-yes h t)
-
-  pub kept-passes : {whole : ℕ} (k : ℕ) → i < n → whole ≡ k + kept_on p n i → p i ≡ false → whole ≡ k + kept_on p n (i + 1)
-  kept-passes k h so t = omega (arith, kept-no h t)
-
-  pub kept-ends : {whole : ℕ} (k : ℕ) → n ≤ i → whole ≡ k + kept_on p n i → k ≡ whole
-  unfolding keep
-  kept-ends k h so = omega (arith, ap (λ l. length (keep p l)) (range-end i i n h))
-
-pub kept-starts : (p : ℕ → Bool) (n : ℕ) → length (keep p (from 0 n)) ≡ 0 + kept_on p n 0
-kept-starts p n = omega (arith, ap (λ l. length (keep p l)) (range_all 0 n))
-
 -- ---- what they weigh together
 
 abbrev pub total_on : (ℕ → ℕ) → ℕ → ℕ → ℕ
@@ -178,9 +86,6 @@ module _ (f : ℕ → ℕ) (n i : ℕ) where
   pub total-ends : {whole : ℕ} (sum : ℕ) → n ≤ i → whole ≡ sum + total_on f n i → sum ≡ whole
   unfolding total
   total-ends sum h so = omega (arith, ap (total f) (range-end i i n h))
-
-pub total-starts : (f : ℕ → ℕ) (n : ℕ) → total f (from 0 n) ≡ 0 + total_on f n 0
-total-starts f n = omega (arith, ap (total f) (range_all 0 n))
 
 -- ---- numbers below n, none of them twice
 

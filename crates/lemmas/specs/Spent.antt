@@ -1,6 +1,6 @@
 -- What a growth draws from the tapes: `features` choice words a search, and at most one threshold for each feature tried. It makes no more searches than nodes;
 -- so from a good root the number of the search at a bad draw is within the bound on nodes. Assumes nothing.
-use Rattle.std.specs.Prelude.{ℕ, suc, ◌+◌, ◌-◌, ◌*◌, ◌<◌, ◌≤◌, min, ◌≡◌, refl, Bool, ◌&&◌, length, get_or, take, Float}
+use Rattle.std.specs.Prelude.{ℕ, suc, ◌+◌, ◌-◌, ◌*◌, ◌<◌, ◌≤◌, min, ◌≡◌, refl, Bool, ◌&&◌, length, get_or, take, Float, None}
 use Rattle.std.proofs.Common.{mul-suc, mul-zero, arith, sym, ap, ◌∙◌}
 use Rattle.std.proofs.Math.Path.{subst}
 use Rattle.std.proofs.Math.Bool.{true, false}
@@ -11,7 +11,6 @@ use Rattle.std.specs.Float.Ieee.{le, lt}
 use Rattle.rules.specs.declared.Params.{Params}
 use Rattle.rules.specs.declared.Splitter.{Splitter}
 use Rattle.rules.specs.declared.Splitter.TheVariants.{Best, Random}
-use Rattle.rules.specs.declared.Held.TheVariants.{Nothing}
 use Rattle.rules.specs.Words.{total, each_once}
 use Rattle.rules.specs.Draws.{Out, bad, Tapes, take_words, take_threshold, next_threshold, tape}
 use Rattle.rules.specs.Search.{Column, at, NodeRows, final, Tries, draw_in, random_in, try_one, try_all, Found, search}
@@ -124,7 +123,7 @@ module _ (P : Params) (words thresholds : ℕ) where
   search-drawn n top l d node h =
       ends-then _ _ _ _ _ (takes-words P d top inside)
       (λ o q. ends-then _ _ _ _ _
-      (tries-all P d top inside node (tried o.0) (record { best = Nothing; left = o.1 }) (fewer q (few o.0)))
+      (tries-all P d top inside node (tried o.0) (record { best = None; left = o.1 }) (fewer q (few o.0)))
       (λ r k. counted d r.left n h k))
     where
       inside : d.searches ≤ top

@@ -1,31 +1,18 @@
 -- Chains of tests, as code makes them: the first that fails decides. How a call ends by its verdict, and what a shape in range says. Assumes nothing.
-use Rattle.std.specs.Prelude.{ℕ, zero, suc, ◌*◌, ◌≤◌, ◌≡◌, refl, Bool, true, false, ◌&&◌, ◌||◌, List, [], ◌∷◌, ◌++◌, length, leb, Float}
-use Rattle.std.proofs.Common.{mul-le-mul, arith, ap, ◌∙◌, subst}
+use Rattle.std.specs.Prelude.{ℕ, zero, suc, ◌*◌, ◌≤◌, ◌≡◌, refl, Bool, true, false, ◌&&◌, List, [], ◌∷◌, ◌++◌, length, leb, Float, Ok, Err}
+use Rattle.std.proofs.Common.{mul-le-mul, ap, ◌∙◌, subst}
 use Rattle.std.proofs.Math.Path.{sym}
 use Rattle.std.proofs.Math.Bool.{cond}
 use Rattle.std.proofs.Math.Dec.{T, leb→le}
 use Rattle.std.specs.Float.Ieee.Fits.{and_l, and_r}
 use Rattle.rules.specs.declared.Shape.{Shape}
 use Rattle.rules.specs.declared.Refusal.{Refusal}
-use Rattle.rules.specs.declared.Checked.{Checked}
-use Rattle.rules.specs.declared.Reply.{Reply}
+use Rattle.rules.specs.Results.{Checked}
 use Rattle.rules.specs.Lent.{unweighted}
 use Rattle.rules.specs.Reading.{reads}
-use Rattle.rules.specs.Checks.{Test, test, checked, number_of, first_failed, replies, within, rows_in, features_in, shape_in}
+use Rattle.rules.specs.Checks.{Test, test, checked, number_of, first_failed, within, rows_in, features_in, shape_in}
 
 -- ---- bools
-
-pub and-on : (a rest : Bool) {r : Bool} → a ≡ true → r ≡ rest → r ≡ (a && rest)
-and-on a rest h e = e ∙ sym (ap (λ b. b && rest) h)
-
-pub and-off : (a rest : Bool) → a ≡ false → false ≡ (a && rest)
-and-off a rest h = sym (ap (λ b. b && rest) h)
-
-pub or-done : (a rest : Bool) → a ≡ true → true ≡ (a || rest)
-or-done a rest h = sym (ap (λ b. b || rest) h)
-
-pub or-on : (a rest : Bool) {r : Bool} → a ≡ false → r ≡ rest → r ≡ (a || rest)
-or-on a rest h e = e ∙ sym (ap (λ b. b || rest) h)
 
 pub and_both : (a b : Bool) → (a && b) ≡ true → (a ≡ true) × (b ≡ true)
 and_both true b h = (refl, h)
@@ -37,13 +24,13 @@ and_both false false h = (h, h)
 module _ (t : Test) (ts : List Test) where
   pub goes_on : {c : Checked} → t.passes ≡ true → c ≡ checked ts → c ≡ checked (t ∷ ts)
   unfolding checked
-  goes_on h e = e ∙ sym (ap (λ z. cond z (checked ts) (Checked.Refused t.tells)) h)
+  goes_on h e = e ∙ sym (ap (λ z. cond z (checked ts) (Err t.tells)) h)
 
-  pub stops : t.passes ≡ false → Checked.Refused t.tells ≡ checked (t ∷ ts)
+  pub stops : t.passes ≡ false → Err t.tells ≡ checked (t ∷ ts)
   unfolding checked
-  stops h = sym (ap (λ z. cond z (checked ts) (Checked.Refused t.tells)) h)
+  stops h = sym (ap (λ z. cond z (checked ts) (Err t.tells)) h)
 
-pub none_left : Checked.Passed ≡ checked []
+pub none_left : (Ok tt) ≡ checked []
 unfolding checked
 none_left = refl
 
@@ -60,8 +47,8 @@ none-failed = ap number_of none_left
 
 -- one list of tests after another
 abbrev pub and_then : Checked → Checked → Checked
-and_then Checked.Passed c = c
-and_then (Checked.Refused r) c = Checked.Refused r
+and_then (Ok _) c = c
+and_then (Err r) c = Err r
 
 pub checked-append : (us vs : List Test) → checked (us ++ vs) ≡ and_then (checked us) (checked vs)
 unfolding checked
@@ -69,46 +56,29 @@ checked-append [] vs = refl
 checked-append (t ∷ us) vs = go t.passes (checked-append us vs)
   where
     go : (b : Bool) → checked (us ++ vs) ≡ and_then (checked us) (checked vs)
-        → cond b (checked (us ++ vs)) (Checked.Refused t.tells) ≡ and_then (cond b (checked us) (Checked.Refused t.tells)) (checked vs)
+        → cond b (checked (us ++ vs)) (Err t.tells) ≡ and_then (cond b (checked us) (Err t.tells)) (checked vs)
     go true e = e
     go false e = refl
 
 module _ (us vs : List Test) where
-  pub all-go-on : {c : Checked} → checked us ≡ Checked.Passed → c ≡ checked vs → c ≡ checked (us ++ vs)
+  pub all-go-on : {c : Checked} → checked us ≡ Ok tt → c ≡ checked vs → c ≡ checked (us ++ vs)
   all-go-on h e = e ∙ sym (checked-append us vs ∙ ap (λ z. and_then z (checked vs)) h)
 
-  pub all-stop : (r : Refusal) → checked us ≡ Checked.Refused r → Checked.Refused r ≡ checked (us ++ vs)
+  pub all-stop : (r : Refusal) → checked us ≡ Err r → Err r ≡ checked (us ++ vs)
   all-stop r h = sym (checked-append us vs ∙ ap (λ z. and_then z (checked vs)) h)
-
-pub replies-done : (n : ℕ) → n ≡ 0 → Reply.Done ≡ replies n
-unfolding replies
-replies-done n h = sym (ap replies h)
-
-pub replies-refused : (n : ℕ) → (n ≡ 0 → ⊥) → Reply.Refused n ≡ replies n
-unfolding replies
-replies-refused zero h = absurd (h refl)
-replies-refused (suc n) h = refl
 
 -- ---- how a reader ends: done, or refused with its result room as it was
 
-pub reads-done : {n m : ℕ} {new told : List Float} (old : List Float) → n ≡ m → n ≡ 0 → told ≡ new → record { answer = Reply.Done; rooms = told } ≡ reads m new old
+pub reads-done : {n m : ℕ} {new told : List Float} (old : List Float) → n ≡ m → n ≡ 0 → told ≡ new → record { answer = Ok tt; rooms = told } ≡ reads m new old
 unfolding reads
 reads-done old e h t = λ i. reads ((sym h ∙ e) i) (t i) old
 
-pub reads-refused : (n : ℕ) {m : ℕ} (new old : List Float) → n ≡ m → (n ≡ 0 → ⊥) → record { answer = Reply.Refused n; rooms = old } ≡ reads m new old
+pub reads-refused : (n : ℕ) {m : ℕ} (new old : List Float) → n ≡ m → (n ≡ 0 → ⊥) → record { answer = Err n; rooms = old } ≡ reads m new old
 unfolding reads
 reads-refused zero new old e h = absurd (h refl)
 reads-refused (suc n) new old e h = ap (λ m. reads m new old) e
 
 -- ---- an empty slice says that there are no weights
-
-pub no-weights : (ws : List Float) → length ws ≡ 0 → unweighted ws ≡ true
-unfolding unweighted
-no-weights [] h = refl
-no-weights (w ∷ ws) h = absurd (no (length ws) h)
-  where
-    no : (n : ℕ) → suc n ≡ 0 → ⊥
-    no n h = omega arith
 
 pub some-weights : (ws : List Float) → (length ws ≡ 0 → ⊥) → unweighted ws ≡ false
 unfolding unweighted

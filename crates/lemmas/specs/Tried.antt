@@ -1,9 +1,8 @@
 -- The number of features tried by default is the floor of the root of their number, and no other number is. Assumes nothing.
-use Rattle.std.specs.Prelude.{ℕ, zero, suc, ◌+◌, ◌*◌, ◌<◌, ◌≤◌, ◌≡◌, refl, ◌⊎◌, Bool, true, false, not, cond, T, leb}
+use Rattle.std.specs.Prelude.{ℕ, zero, suc, ◌+◌, ◌*◌, ◌<◌, ◌≤◌, ◌≡◌, refl, ◌⊎◌, Bool, true, false, not, cond, T, leb, None}
 use Rattle.std.proofs.Common.{zero-add, mul-le-mul, arith, sym, subst, inl, inr, leb→le}
 use Rattle.std.proofs.Math.Dec.{nleb→lt}
 use Rattle.floats.specs.Root.{root-unique}
-use Rattle.rules.specs.declared.Tried.TheVariants.{Unsaid}
 use Rattle.rules.specs.Forest.{squares, tried_of}
 
 abbrev pub IsRoot : ℕ → ℕ → Type 0
@@ -48,7 +47,7 @@ upto n (suc k) = go (leb (suc k * suc k) n) (λ t. leb→le (suc k * suc k) n t)
         more : (s k : ℕ) → s ≤ k → s ≤ suc k
         more s k h = omega arith
 
-pub is-root : (n : ℕ) → IsRoot n (tried_of n Unsaid)
+pub is-root : (n : ℕ) → IsRoot n (tried_of n None)
 unfolding tried_of
 is-root n = go (upto n n)
   where
@@ -68,5 +67,5 @@ is-root n = go (upto n n)
         big n s q h = omega arith
     go (a, b, inr l) = (a, l)
 
-pub root-only : (n s : ℕ) → IsRoot n s → s ≡ tried_of n Unsaid
-root-only n s h = root-unique n s (tried_of n Unsaid) h.0 h.1 (is-root n).0 (is-root n).1
+pub root-only : (n s : ℕ) → IsRoot n s → s ≡ tried_of n None
+root-only n s h = root-unique n s (tried_of n None) h.0 h.1 (is-root n).0 (is-root n).1

@@ -1,7 +1,7 @@
 -- Two growths alike but for the height at which the best splitter cuts. Their cuts stand between the same two values, so each pair of cuts sends the same rows the same
 -- way, and the two trees are the same but for their thresholds. Assumes nothing.
 use Prim.Native.Nat.{ℕ, zero, suc, ◌-◌, ◌<◌, min}
-use Rattle.std.specs.Prelude.{◌≡◌, not, ◌&&◌, set, T, ltb}
+use Rattle.std.specs.Prelude.{◌≡◌, not, ◌&&◌, set, T, ltb, Some, None}
 use Rattle.std.proofs.Math.Path.{refl, ap, subst}
 use Rattle.std.proofs.Common.{sym, ◌∙◌}
 use Rattle.std.proofs.Math.Bool.{Bool, true, false, cond}
@@ -13,8 +13,7 @@ use Rattle.rules.specs.declared.Height.{Height}
 use Rattle.rules.specs.declared.Splitter.{Splitter}
 use Rattle.rules.specs.declared.Splitter.TheVariants.{Best, Random}
 use Rattle.rules.specs.declared.Cut.{Cut}
-use Rattle.rules.specs.declared.Held.{Held}
-use Rattle.rules.specs.declared.Held.TheVariants.{Nothing, Holds}
+use Rattle.rules.specs.Results.{Held}
 use Rattle.rules.specs.declared.Kind.{Kind}
 use Rattle.rules.specs.declared.Kind.TheVariants.{Leaf, Split}
 use Rattle.rules.specs.Words.{keep, total}
@@ -148,13 +147,13 @@ module _ (P : Params) (g : Height) (M : Element → Type 0) (values : (j : ℕ) 
       js o = take (min P.tried P.features) o.0
 
       start : List ℕ × S → Tries S
-      start o = record { best = Nothing; left = o.1 }
+      start o = record { best = None; left = o.1 }
 
       held : (h h' : Held) → HeldBoth (Twin P.splitter node) h h' → FoundBoth node (found h) (found h')
-      held Nothing Nothing b = tt
-      held Nothing (Holds c' q') b = absurd b
-      held (Holds c q) Nothing b = absurd b
-      held (Holds c q) (Holds c' q') b = b.0
+      held None None b = tt
+      held None (Some (c', q')) b = absurd b
+      held (Some (c, q)) None b = absurd b
+      held (Some (c, q)) (Some (c', q')) b = b.0
 
   -- ---- a split
 

@@ -2,7 +2,7 @@
 -- nowhere but before a search, and there only whether the node's level is below it. Assumes nothing.
 use Prim.Native.Nat.{ℕ, zero, suc, ◌-◌, ◌<◌, ◌≤◌, max, min}
 use native.Mathlib.Omega.{arith}
-use Rattle.std.specs.Prelude.{◌≡◌, not, ◌&&◌, length, get_or, take, Float}
+use Rattle.std.specs.Prelude.{◌≡◌, not, ◌&&◌, length, get_or, take, Float, None}
 use Rattle.std.proofs.Math.Path.{refl, sym, ap}
 use Rattle.std.proofs.Common.{◌∙◌, lt→ltb}
 use Rattle.std.proofs.Math.Bool.{Bool, true, false}
@@ -12,8 +12,7 @@ use Rattle.std.specs.Float.Ieee.{lt, eq}
 use Rattle.rules.specs.declared.Params.{Params}
 use Rattle.rules.specs.declared.Splitter.{Splitter}
 use Rattle.rules.specs.declared.Splitter.TheVariants.{Best, Random}
-use Rattle.rules.specs.declared.Held.{Held}
-use Rattle.rules.specs.declared.Held.TheVariants.{Nothing}
+use Rattle.rules.specs.Results.{Held}
 use Rattle.rules.specs.declared.Sweep.{Sweep}
 use Rattle.rules.specs.Totals.{empty}
 use Rattle.rules.specs.Draws.{Out, bad, ok, bind, Source}
@@ -79,7 +78,7 @@ module _ (P : Params) (n : ℕ) where
     unfolding search
     search-same s node =
         bind_all (src.shuffle s) _ _
-        (λ o i. bind (all_same node (take (min P.tried P.features) o.0) (record { best = Nothing; left = o.1 }) i) (λ r. ok (found r.best, src.done r.left)))
+        (λ o i. bind (all_same node (take (min P.tried P.features) o.0) (record { best = None; left = o.1 }) i) (λ r. ok (found r.best, src.done r.left)))
 
 -- ---- nor does a growth that stays below it
 

@@ -2,7 +2,7 @@
 -- A pop gives the node that growth reads off the columns (`pop-agrees`), which is the first of the waiting nodes of the definition (`taken-agree`). Both have as
 -- many places, and are zero together (`places-agree`, `zeroed-agrees`). What a push does to both is in proofs/, Pushes.
 -- Assumes nothing.
-use Rattle.std.specs.Prelude.{ℕ, zero, suc, ◌-◌, ◌<◌, ◌≤◌, min, ◌≡◌, refl, ◌&&◌, cond, List, [], ◌∷◌, map, length, get_or, set, replicate, ltb, leb, Float}
+use Rattle.std.specs.Prelude.{ℕ, zero, suc, ◌-◌, ◌<◌, ◌≤◌, min, ◌≡◌, refl, ◌&&◌, cond, List, [], ◌∷◌, map, length, get_or, set, replicate, ltb, leb, Float, Some, None}
 use Rattle.std.proofs.Math.Nat.{min-eq_left}
 use Rattle.std.proofs.Common.{le_refl, sym, ap, ◌∙◌, lt→ltb, le→leb}
 use Rattle.std.proofs.lemmas.List.{length-map}
@@ -13,7 +13,6 @@ use Rattle.node_entries.specs.declared.WaitingNode.{WaitingNode}
 use Rattle.node_entries.specs.Entries.{wholes_of, reals_of, waiting_in, waiting_at}
 use Rattle.node_growth.specs.Rooms.{Ground, waiting_of, waiting_list}
 use Rattle.lent_forms.specs.declared.Waiting.{Waiting}
-use Rattle.lent_forms.specs.declared.Popped.TheVariants.{Nothing, Top}
 use Rattle.lent_forms.specs.WaitingList.{no_entry, popped, listed}
 
 -- ---- the list as columns
@@ -33,6 +32,7 @@ apart w =
       cut = w.threshold;
     }
 
+-- and back
 abbrev pub together : WaitingNode → Waiting
 together w =
     record {
@@ -46,12 +46,15 @@ together w =
       threshold = w.cut;
     }
 
+-- the column of whole numbers
 abbrev pub wholes_in : List Waiting → List (List ℕ)
 wholes_in l = map (λ w. wholes_of (apart w)) l
 
+-- the column of reals
 abbrev pub reals_in : List Waiting → List (List Float)
 reals_in l = map (λ w. reals_of (apart w)) l
 
+-- both columns
 abbrev pub flat : List Waiting → WaitingRoom
 flat l = record { wholes = wholes_in l; reals = reals_in l }
 
@@ -98,11 +101,11 @@ read-agrees (w ∷ l) zero = refl
 read-agrees (w ∷ l) (suc m) = read-agrees l m
 
 -- where one of n nodes waits, the one that growth reads at n - 1
-pub pop-agrees : (l : List Waiting) (n : ℕ) → 0 < n → n ≤ length l → popped l n ≡ Top (together (waiting_at (wholes_in l) (reals_in l) (n - 1)))
+pub pop-agrees : (l : List Waiting) (n : ℕ) → 0 < n → n ≤ length l → popped l n ≡ Some (together (waiting_at (wholes_in l) (reals_in l) (n - 1)))
 pop-agrees l n g h =
-    ap (λ c. cond (c && leb n (length l)) (Top (get_or l (n - 1) no_entry)) Nothing) (is_true (ltb 0 n) (lt→ltb 0 n g))
-    ∙ ap (λ c. cond c (Top (get_or l (n - 1) no_entry)) Nothing) (is_true (leb n (length l)) (le→leb n (length l) h))
-    ∙ ap (λ e. Top (together e)) (sym (read-agrees l (n - 1)))
+    ap (λ c. cond (c && leb n (length l)) (Some (get_or l (n - 1) no_entry)) None) (is_true (ltb 0 n) (lt→ltb 0 n g))
+    ∙ ap (λ c. cond c (Some (get_or l (n - 1) no_entry)) None) (is_true (leb n (length l)) (le→leb n (length l) h))
+    ∙ ap (λ e. Some (together e)) (sym (read-agrees l (n - 1)))
 
 -- ---- what the list stands for
 

@@ -1,11 +1,9 @@
 -- A lent list of waiting nodes: what a push leaves and what a pop gives, on every list and at every number of nodes that wait. Definitions only.
-use Rattle.std.specs.Prelude.{ℕ, ◌-◌, Bool, ◌&&◌, cond, List, length, get_or, set, ltb, leb}
+use Rattle.std.specs.Prelude.{ℕ, ◌-◌, Bool, ◌&&◌, cond, List, length, get_or, set, ltb, leb, Option, Some, None}
 use Rattle.std.specs.Float.{nan}
 use Rattle.rules.specs.Words.{nought, filled}
 use Rattle.rules.specs.Lent.{WaitingForm, Outcome}
 use Rattle.lent_forms.specs.declared.Waiting.{Waiting}
-use Rattle.lent_forms.specs.declared.Popped.{Popped}
-use Rattle.lent_forms.specs.declared.Popped.TheVariants.{Nothing, Top}
 
 -- what is read where a list has no entry
 abbrev pub no_entry : Waiting
@@ -16,8 +14,8 @@ abbrev pub pushed : List Waiting → ℕ → Waiting → Outcome Bool (List Wait
 pushed l n w = record { answer = ltb n (length l); rooms = set l n w }
 
 -- the last of the n that wait, if any waits and the list has so many entries
-abbrev pub popped : List Waiting → ℕ → Popped
-popped l n = cond (ltb 0 n && leb n (length l)) (Top (get_or l (n - 1) no_entry)) Nothing
+abbrev pub popped : List Waiting → ℕ → Option Waiting
+popped l n = cond (ltb 0 n && leb n (length l)) (Some (get_or l (n - 1) no_entry)) None
 
 -- an entry whose numbers are all zero
 abbrev pub zero_entry : Waiting

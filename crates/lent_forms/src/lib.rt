@@ -28,30 +28,24 @@ pub struct Waiting {
     pub threshold: f64,
 }
 
-// What was taken off: nothing where none waits.
-#[derive(Clone, Copy)]
-pub enum Popped {
-    Nothing,
-    Top(Waiting),
-}
-
 // The node joins the n that wait. Where the list has no place for it, the list stays as it is and the answer is no.
 pub fn push(list: &mut [Waiting], n: usize, w: Waiting) -> bool
     ensures { outcome_of result list.new ≡ pushed list.old n w }
 {
-    if n < list.len() {
+    let fits = n < list.len();
+    if fits {
         list[n] = w;
-        return true;
     }
-    false
+    fits
 }
 
-// The last of the n that wait.
-pub fn pop(list: &[Waiting], n: usize) -> Popped
+// The last of the n that wait, or nothing where none waits.
+pub fn pop(list: &[Waiting], n: usize) -> Option<Waiting>
     ensures { result ≡ popped list.now n }
 {
-    if (0 < n) & (n <= list.len()) {
-        return Popped::Top(list[n - 1]);
+    if 0 < n && n <= list.len() {
+        Some(list[n - 1])
+    } else {
+        None
     }
-    Popped::Nothing
 }

@@ -3,12 +3,12 @@ use Rattle.std.specs.Prelude.{ℕ, ◌*◌, ◌<◌, ◌≤◌, ◌≡◌, List,
 use Rattle.rules.specs.declared.Shape.{Shape}
 
 -- feature j's listing, and the values that it is walked along
-pub record Walkable (rows features j : ℕ) (xs : List Float) (l : List ℕ) : Type 0 where
-  pub few : rows ≤ 65535
-  pub few_features : features ≤ 1024
-  pub known : j < features
-  pub values_long : length xs ≡ rows * features
-  pub listing_long : length l ≡ rows
+pub record Walkable (S : Shape) (j : ℕ) (xs : List Float) (l : List ℕ) : Type 0 where
+  pub few : S.rows ≤ 65535
+  pub few_features : S.features ≤ 1024
+  pub known : j < S.features
+  pub values_long : length xs ≡ S.rows * S.features
+  pub listing_long : length l ≡ S.rows
 
 -- values and listings of a shape
 pub record Laid (S : Shape) (xs : List Float) (ls : List ℕ) : Type 0 where

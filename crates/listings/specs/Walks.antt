@@ -1,32 +1,46 @@
 -- A walk along a column: what is left to test is what was to be tested, the marks are the rows behind, and the last of them is held by its value. The marks of a whole
 -- column, and the row told. Assumes nothing.
 use Prim.Native.Nat.{ℕ, suc, ◌+◌, ◌-◌, ◌<◌, ◌≤◌}
-use Rattle.std.proofs.Common.{add-one, ◌∙◌, drop_of_length-le, length-set, get_or-set_same, get_or-set_other, eq-eqb, ne_eqb, lt-ltb, le-ltb, eqb-true}
+use Rattle.std.proofs.Common.{add-one, add-zero, ◌∙◌, drop_of_length-le, length-set, get_or-set_same, get_or-set_other, eq-eqb, ne_eqb, lt-ltb, le-ltb, eqb-true, Ok, Err, MatchResult}
+use Rattle.std.specs.Result.{IsErrAnd}
 use native.Mathlib.Omega.{arith}
-use Rattle.std.specs.Prelude.{◌≡◌, refl, Bool, not, ◌||◌, List, [], ◌∷◌, length, set, drop, ltb, eqb, Float}
+use Rattle.std.specs.Prelude.{◌≡◌, refl, Bool, not, ◌||◌, List, [], ◌∷◌, length, set, take, drop, ltb, eqb, Float}
 use Rattle.std.proofs.Math.Path.{sym, ap}
 use Rattle.std.proofs.Math.Bool.{true, false, cond, or-true, or-false}
 use Rattle.std.proofs.Math.ListN.{get_or}
 use Rattle.std.specs.Float.Ieee.{lt}
 use Rattle.std.proofs.lemmas.Bool.{eqb-false}
+use Rattle.std.proofs.lemmas.List.{get_or-take, length-take-le}
+use Rattle.std.specs.List.{position_or_len}
 use Rattle.rules.specs.declared.Refusal.{Refusal}
-use Rattle.rules.specs.declared.Checked.{Checked}
+use Rattle.rules.specs.Results.{Checked}
 use Rattle.rules.specs.Words.{from, joined, member}
 use Rattle.rules.specs.Checks.{Test, checked}
-use Rattle.rules.specs.Listing.{falls, lacking_from, fault, tests_from}
+use Rattle.rules.specs.Listing.{falls, lacking_from, lowest_lacking, fault, tests_from}
 use Rattle.lemmas.specs.Tests.{and_then, checked-append}
 use Rattle.lemmas.specs.Scans.{drop-next, range-end, from_next}
 use Rattle.lemmas.specs.Marks.{mark-more}
 
 -- ---- the row told
 
+-- what a refusal is turned into, if there is one
+abbrev pub on_refusal : (Refusal → Refusal) → Checked → Checked
+on_refusal f (Ok _) = Ok tt
+on_refusal f (Err r) = Err (f r)
+
+-- which is what `map_err` answers
+pub on_refusal-mapped : (f : Refusal → Refusal) (c r : Checked) (Q : Refusal → Refusal → Type 0) → MatchResult c (λ x. r ≡ Ok x) (λ e. IsErrAnd r (Q e))
+    → ((e d : Refusal) → Q e d → d ≡ f e) → r ≡ on_refusal f c
+on_refusal-mapped f (Ok _) r Q h k = h
+on_refusal-mapped f (Err e) (Err d) Q h k = ap Err (k e d h)
+on_refusal-mapped f (Err e) (Ok _) Q h k = absurd h
+
 -- with a row met before, this row is told
-abbrev pub with_row : ℕ → Checked → Checked
-with_row x Checked.Passed = Checked.Passed
-with_row x (Checked.Refused r) = Checked.Refused (cond (eqb r.number 12) (record { number = r.number; part = r.part; place = r.place; row = x }) r)
+abbrev pub with_row : ℕ → Refusal → Refusal
+with_row x r = cond (eqb r.number 12) (record r { row = x }) r
 
 pub row_told : (rows : ℕ) (value : ℕ → Float) (column lacking : ℕ) (before : List ℕ) (place : ℕ) (l : List ℕ)
-    → checked (tests_from rows value column lacking before place l) ≡ with_row lacking (checked (tests_from rows value column 0 before place l))
+    → checked (tests_from rows value column lacking before place l) ≡ on_refusal (with_row lacking) (checked (tests_from rows value column 0 before place l))
 unfolding tests_from checked
 row_told rows value column lacking before place [] = refl
 row_told rows value column lacking before place (k ∷ l) =
@@ -37,9 +51,9 @@ row_told rows value column lacking before place (k ∷ l) =
 
     three : Bool → Bool → Bool → ℕ → Checked
     three a b c x =
-        cond a (cond b (cond c (rest x) (Checked.Refused (fault 13 column place 0))) (Checked.Refused (fault 12 column place x))) (Checked.Refused (fault 11 column place 0))
+        cond a (cond b (cond c (rest x) (Err (fault 13 column place 0))) (Err (fault 12 column place x))) (Err (fault 11 column place 0))
 
-    go : (a b c : Bool) → rest lacking ≡ with_row lacking (rest 0) → three a b c lacking ≡ with_row lacking (three a b c 0)
+    go : (a b c : Bool) → rest lacking ≡ on_refusal (with_row lacking) (rest 0) → three a b c lacking ≡ on_refusal (with_row lacking) (three a b c 0)
     go true true true e = e
     go true true false e = refl
     go true false c e = refl
@@ -69,7 +83,7 @@ module _ (rows : ℕ) (value : ℕ → Float) (column : ℕ) (l : List ℕ) wher
   walk-starts seen last clear = record { behind = []; within = omega arith; many = refl; held = tt; left = refl; marks = clear }
 
   module _ (seen : List Bool) (last : Float) (i : ℕ) (w : Walked seen last i) where
-    pub walk_ends : length l ≤ i → Checked.Passed ≡ asked [] 0 l
+    pub walk_ends : length l ≤ i → (Ok tt) ≡ asked [] 0 l
     unfolding tests_from checked
     walk_ends h = sym (w.left ∙ ap (asked w.behind i) (drop_of_length-le l h))
 
@@ -79,14 +93,14 @@ module _ (rows : ℕ) (value : ℕ → Float) (column : ℕ) (l : List ℕ) wher
 
       three : Bool → Bool → Bool → Checked
       three a b c =
-          cond a (cond (not b) (cond (not c) (asked (row ∷ w.behind) (suc i) (drop (i + 1) l)) (Checked.Refused (fault 13 column i 0))) (Checked.Refused (fault 12 column i 0)))
-          (Checked.Refused (fault 11 column i 0))
+          cond a (cond (not b) (cond (not c) (asked (row ∷ w.behind) (suc i) (drop (i + 1) l)) (Err (fault 13 column i 0))) (Err (fault 12 column i 0)))
+          (Err (fault 11 column i 0))
 
       here : asked [] 0 l ≡ three (ltb row rows) (member row w.behind) (falls value w.behind row)
       unfolding tests_from checked three
       here = w.left ∙ ap (asked w.behind i) (drop-next l i 0 h)
 
-      pub walk-out : rows ≤ row → Checked.Refused (fault 11 column i 0) ≡ asked [] 0 l
+      pub walk-out : rows ≤ row → Err (fault 11 column i 0) ≡ asked [] 0 l
       unfolding three
       walk-out b = sym (here ∙ ap (λ z. three z (member row w.behind) (falls value w.behind row)) (le-ltb row rows b))
 
@@ -94,7 +108,7 @@ module _ (rows : ℕ) (value : ℕ → Float) (column : ℕ) (l : List ℕ) wher
         marked : (z : Bool) → get_or seen row false ≡ z → member row w.behind ≡ z
         marked z e = sym (w.marks row b) ∙ e
 
-        pub walk-twice : get_or seen row false ≡ true → Checked.Refused (fault 12 column i 0) ≡ asked [] 0 l
+        pub walk-twice : get_or seen row false ≡ true → Err (fault 12 column i 0) ≡ asked [] 0 l
         unfolding three
         walk-twice e = sym (here ∙ λ j. three (lt-ltb row rows b j) (marked true e j) (falls value w.behind row))
 
@@ -114,7 +128,7 @@ module _ (rows : ℕ) (value : ℕ → Float) (column : ℕ) (l : List ℕ) wher
           unfolding three
           step = here ∙ λ j. three (lt-ltb row rows b j) (marked false e j) (sym fallen j)
 
-          pub walk-falls : z ≡ true → Checked.Refused (fault 13 column i 0) ≡ asked [] 0 l
+          pub walk-falls : z ≡ true → Err (fault 13 column i 0) ≡ asked [] 0 l
           unfolding three
           walk-falls t = sym (step ∙ ap (three true false) t)
 
@@ -171,27 +185,40 @@ module _ (l : List ℕ) (seen₀ seen : List Bool) (i : ℕ) (m : MarksTo l seen
 
 -- ---- the first number that is not marked
 
-module _ (l : List ℕ) (rows i : ℕ) where
-  pub lacking-ends : rows ≤ i → i ≡ lacking_from l i (rows - i)
-  unfolding lacking_from
-  lacking-ends h = ap (lacking_from l i) none
-    where
-      none : 0 ≡ rows - i
-      none = omega (arith, h)
+-- marked or not from a number on: the first that is not is the lowest lacking
+pub lacking-clear : (l : List ℕ) (seen : List Bool) (a : ℕ) → ((k : ℕ) → k < length seen → get_or seen k false ≡ member (a + k) l)
+    → lacking_from l a (length seen) ≡ a + position_or_len (λ b. not b) seen
+unfolding lacking_from
+lacking-clear l [] a h = omega arith
+lacking-clear l (b ∷ seen) a h = go b here (lacking-clear l seen (suc a) (λ k m. h (suc k) (omega (arith, m)) ∙ ap (λ n. member n l) (along a k)))
+  where
+    along : (a k : ℕ) → a + suc k ≡ suc a + k
+    along a k = omega arith
 
-  module _ (h : i < rows) where
-    next : lacking_from l i (rows - i) ≡ cond (member i l) (lacking_from l (i + 1) (rows - (i + 1))) i
-    unfolding lacking_from
-    next = ap (lacking_from l i) one ∙ ap (λ n. cond (member i l) (lacking_from l n (rows - (i + 1))) i) (sym (add-one i))
-      where
-        one : rows - i ≡ suc (rows - (i + 1))
-        one = omega (arith, h)
+    here : b ≡ member a l
+    here = h 0 (omega arith) ∙ ap (λ n. member n l) (add-zero a)
 
-    pub lacking-goes : member i l ≡ true → lacking_from l i (rows - i) ≡ lacking_from l (i + 1) (rows - (i + 1))
-    lacking-goes t = next ∙ ap (λ b. cond b (lacking_from l (i + 1) (rows - (i + 1))) i) t
+    go : (b : Bool) → b ≡ member a l → lacking_from l (suc a) (length seen) ≡ suc a + position_or_len (λ b. not b) seen
+        → cond (member a l) (lacking_from l (suc a) (length seen)) a ≡ a + position_or_len (λ b. not b) (b ∷ seen)
+    go true e r = ap (λ c. cond c (lacking_from l (suc a) (length seen)) a) (sym e) ∙ r ∙ omega arith
+    go false e r = ap (λ c. cond c (lacking_from l (suc a) (length seen)) a) (sym e) ∙ sym (add-zero a)
 
-    pub lacking-here : member i l ≡ false → i ≡ lacking_from l i (rows - i)
-    lacking-here t = sym (next ∙ ap (λ b. cond b (lacking_from l (i + 1) (rows - (i + 1))) i) t)
+-- the same of the first so many marks
+pub lowest-clear : (l : List ℕ) (seen : List Bool) (n rows : ℕ) → n ≡ rows → rows ≤ length seen → ((k : ℕ) → k < rows → get_or seen k false ≡ member k l)
+    → position_or_len (λ b. not b) (take n seen) ≡ lowest_lacking rows l
+unfolding lowest_lacking
+lowest-clear l seen n rows e long h =
+    zero-first _ _ (lacking-clear l (take n seen) 0 (λ k m. get_or-take n seen k false (omega (arith, m, count)) ∙ h k (omega (arith, m, count)) ∙ ap (λ i. member i l) (start k)))
+    ∙ ap (lacking_from l 0) (count ∙ e)
+  where
+    count : length (take n seen) ≡ n
+    count = length-take-le n seen (omega (arith, e, long))
+
+    start : (k : ℕ) → k ≡ 0 + k
+    start k = omega arith
+
+    zero-first : (a b : ℕ) → a ≡ 0 + b → b ≡ a
+    zero-first a b e = omega arith
 
 -- ---- column after column
 
@@ -199,7 +226,7 @@ module _ (f : ℕ → List Test) (n j : ℕ) where
   abbrev on : ℕ → Checked
   on k = checked (joined f (from k (n - k)))
 
-  pub columns-end : n ≤ j → Checked.Passed ≡ on j
+  pub columns-end : n ≤ j → (Ok tt) ≡ on j
   unfolding joined checked
   columns-end h = ap (λ l. checked (joined f l)) (sym (range-end j j n h))
 
@@ -208,8 +235,8 @@ module _ (f : ℕ → List Test) (n j : ℕ) where
     unfolding joined
     turn = ap (λ l. checked (joined f l)) (from_next j n h) ∙ checked-append (f j) (joined f (from (j + 1) (n - (j + 1))))
 
-    pub columns-go : checked (f j) ≡ Checked.Passed → on j ≡ on (j + 1)
+    pub columns-go : checked (f j) ≡ (Ok tt) → on j ≡ on (j + 1)
     columns-go e = turn ∙ ap (λ c. and_then c (on (j + 1))) e
 
-    pub columns-stop : (r : Refusal) → checked (f j) ≡ Checked.Refused r → Checked.Refused r ≡ on j
+    pub columns-stop : (r : Refusal) → checked (f j) ≡ Err r → Err r ≡ on j
     columns-stop r e = sym (turn ∙ ap (λ c. and_then c (on (j + 1))) e)

@@ -1,7 +1,7 @@
 // Where a listing is damaged first. A scan of a column stops at the first place that fails a test.
 #![tactic(auto)]
 
-ghost use Rattle.std.specs.Prelude.{◌≡◌, false, cond, ◌||◌, List, [], ℕ, ◌≤◌, ◌<◌, length, get_or, eqb};
+ghost use Rattle.std.specs.Prelude.{◌≡◌, false, not, cond, ◌||◌, List, [], ℕ, ◌≤◌, ◌<◌, length, get_or, eqb};
 ghost use Rattle.std.specs.Float.Ieee.{lt};
 ghost use Rattle.rules.specs.Words.{member};
 ghost use Rattle.rules.specs.Lent.{cell};
@@ -9,63 +9,56 @@ ghost use Rattle.rules.specs.Checks.{checked};
 ghost use Rattle.rules.specs.Listing.{fault, lowest_lacking, tests_from, column_tests, order_tests};
 ghost use Rattle.listings.specs.Asks.{Laid, Listed, Walkable};
 ghost use Rattle.listings.specs.Walks.{with_row};
+ghost use Rattle.std.specs.List.{position_or_len};
 
 use rules::{Checked, Refusal, Shape};
 
 // ---- the first fault of a column
 
-fn fault_at(number: u32, column: usize, place: usize) -> Checked
+fn fault_at(number: u32, column: usize, place: usize) -> Refusal
     requires { (column ≤ 65535) × (place ≤ 65535) }
-    ensures { result ≡ Checked.Refused (fault number column place 0) }
+    ensures { result ≡ fault number column place 0 }
 {
-    let part = column as u32;
-    let at = place as u32;
-    Checked::Refused(Refusal {
+    Refusal {
         number,
-        part,
-        place: at,
+        part: column as u32,
+        place: place as u32,
         row: 0,
-    })
+    }
 }
 
 // Nothing comes before the first place.
 fn below(place: usize, next: f64, last: f64) -> bool
     ensures { result ≡ cond (eqb place 0) false (lt next last) }
 {
-    if place == 0 {
-        return false;
-    }
-    next < last
+    place > 0 && next < last
 }
 
-// The first fault of feature j's listing, but for the row that it lacks. The marks are a local array, since lent flags may be too short and must
-// stay as they were.
-fn fault_in(listing: &[u32], values: &[f64], rows: usize, features: usize, j: usize) -> Checked
-    requires { Walkable rows features j values.now listing.now }
-    ensures { result ≡ checked (tests_from rows (cell features values.now j) j 0 [] 0 listing.now) }
+// The first fault of feature j's listing, but for the row that it lacks. The marks are a local array: there is no heap, and lent flags may be
+// too short and must stay as they were.
+fn fault_in(listing: &[u32], values: &[f64], shape: Shape, j: usize) -> Checked
+    requires { Walkable shape j values.now listing.now }
+    ensures { result ≡ checked (tests_from shape.rows (cell shape.features values.now j) j 0 [] 0 listing.now) }
 {
     let mut seen = [false; 65536];
     let mut last = 0.0;
-    let mut i: usize = 0;
-    while i < listing.len() {
-        let row = listing[i] as usize;
-        if rows <= row {
-            return fault_at(11, j, i);
+    for (i, k) in listing.iter().enumerate() {
+        let row = *k as usize;
+        if shape.rows <= row {
+            return Err(fault_at(11, j, i));
         }
-        let next = slices::cell_at(values, features, row, j);
+        let next = slices::cell_at(values, shape.features, row, j);
         let twice = seen[row];
-        let fallen = below(i, next, last);
         if twice {
-            return fault_at(12, j, i);
+            return Err(fault_at(12, j, i));
         }
-        if fallen {
-            return fault_at(13, j, i);
+        if below(i, next, last) {
+            return Err(fault_at(13, j, i));
         }
         seen[row] = true;
         last = next;
-        i += 1;
     }
-    Checked::Passed
+    Ok(())
 }
 
 // ---- the lowest row that it lacks
@@ -73,28 +66,18 @@ fn fault_in(listing: &[u32], values: &[f64], rows: usize, features: usize, j: us
 fn mark(seen: &mut [bool], listing: &[u32])
     ensures { (k : ℕ) → k < length seen.old → get_or seen.new k false ≡ (get_or seen.old k false || member k listing.now) }
 {
-    let mut i: usize = 0;
-    while i < listing.len() {
-        let k = listing[i] as usize;
+    for x in listing {
+        let k = *x as usize;
         if k < seen.len() {
             seen[k] = true;
         }
-        i += 1;
     }
 }
 
-fn first_clear(seen: &[bool], rows: usize) -> usize
-    requires { rows ≤ length seen.now }
-    ensures { (result ≤ rows) × ((l : List ℕ) → ((k : ℕ) → k < rows → get_or seen.now k false ≡ member k l) → result ≡ lowest_lacking rows l) }
+fn first_clear(seen: &[bool]) -> usize
+    ensures { result ≡ position_or_len (λ b. not b) seen.now }
 {
-    let mut row: usize = 0;
-    while row < rows {
-        if !seen[row] {
-            return row;
-        }
-        row += 1;
-    }
-    row
+    seen.iter().position(|s| !*s).unwrap_or(seen.len())
 }
 
 fn lowest_lacking(listing: &[u32], rows: usize) -> u32
@@ -103,30 +86,22 @@ fn lowest_lacking(listing: &[u32], rows: usize) -> u32
 {
     let mut seen = [false; 65536];
     mark(&mut seen, listing);
-    let row = first_clear(&seen, rows);
-    row as u32
+    first_clear(&seen[..rows]) as u32
 }
 
 // A row met before tells the lowest row lacking. It is sought when the scan for the fault has returned, so that the marks of one are on
 // the stack at a time.
-fn with_lacking(found: Checked, listing: &[u32], rows: usize) -> Checked
+fn with_lacking(f: Refusal, listing: &[u32], rows: usize) -> Refusal
     requires { rows ≤ 65535 }
-    ensures { result ≡ with_row (lowest_lacking rows listing.now) found }
+    ensures { result ≡ with_row (lowest_lacking rows listing.now) f }
 {
-    match found {
-        Checked::Passed => Checked::Passed,
-        Checked::Refused(f) => {
-            if f.number != 12 {
-                return Checked::Refused(f);
-            }
-            let row = lowest_lacking(listing, rows);
-            Checked::Refused(Refusal {
-                number: f.number,
-                part: f.part,
-                place: f.place,
-                row,
-            })
+    if f.number == 12 {
+        Refusal {
+            row: lowest_lacking(listing, rows),
+            ..f
         }
+    } else {
+        f
     }
 }
 
@@ -137,13 +112,10 @@ fn column_fault(shape: Shape, values: &[f64], listings: &[u32], j: usize) -> Che
     requires { Listed shape j values.now listings.now }
     ensures { result ≡ checked (column_tests shape values.now listings.now j) }
 {
-    let rows = shape.rows;
-    let features = shape.features;
-    let base = j * rows;
-    let end = base + rows;
-    let listing = &listings[base..end];
-    let found = fault_in(listing, values, rows, features, j);
-    with_lacking(found, listing, rows)
+    let base = j * shape.rows;
+    let listing = &listings[base..base + shape.rows];
+    let found = fault_in(listing, values, shape, j);
+    found.map_err(|f| with_lacking(f, listing, shape.rows))
 }
 
 // The first fault of the listings of all features.
@@ -151,17 +123,8 @@ pub fn first_fault(shape: Shape, values: &[f64], listings: &[u32]) -> Checked
     requires { Laid shape values.now listings.now }
     ensures { result ≡ checked (order_tests shape values.now listings.now) }
 {
-    let features = shape.features;
-    let mut j: usize = 0;
-    while j < features {
-        let found = column_fault(shape, values, listings, j);
-        match found {
-            Checked::Refused(f) => {
-                return Checked::Refused(f);
-            }
-            Checked::Passed => {}
-        }
-        j += 1;
+    for j in 0..shape.features {
+        column_fault(shape, values, listings, j)?;
     }
-    Checked::Passed
+    Ok(())
 }

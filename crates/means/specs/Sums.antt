@@ -7,17 +7,20 @@ use Rattle.std.proofs.Math.Path.{refl, sym, ap}
 use Rattle.std.proofs.Math.Bool.{true, false}
 use Rattle.std.specs.Float.Ieee.{binary64, add, div}
 use Rattle.rules.specs.declared.Shape.{Shape}
+use Rattle.means.specs.declared.sums.Sample.{Sample}
+use Rattle.means.specs.declared.sums.Tree.{Tree}
 use Rattle.rules.specs.Words.{nought, float, from, put_if, total, filled}
-use Rattle.rules.specs.Lent.{Entry, values_at}
+use Rattle.rules.specs.Lent.{Entry, values_at, entries_at}
+use Rattle.rules.specs.Slices.{columns_in}
 use Rattle.rules.specs.Table.{ForestTable, tree_at, trees_of}
 use Rattle.rules.specs.Reading.{leaf_value, add_trees, mean_of}
 use Rattle.rules.specs.OutOfBag.{out_trees, out_of_bag_mean}
 use Rattle.lemmas.specs.Scans.{range-next, range-end, range_all}
 use Rattle.tables.specs.Table.{TreeLies, TreesLie}
 use Rattle.tables.specs.Laws.{tree-lies}
-use Rattle.walks.specs.Walks.{leaf_at}
+use Rattle.walks.specs.Walks.{Readable, leaf_at}
 use Rattle.bags.specs.Bags.{is_out, out_mark, out_number, out-beyond}
-use Rattle.predict.specs.Rows.{rewritten, length-rewritten, rewritten-twice, rewritten-same, rewritten-kept, rewritten-all, rewritten-filled}
+use Rattle.means.specs.Rows.{rewritten, length-rewritten, rewritten-twice, rewritten-same, rewritten-kept, rewritten-all, rewritten-filled}
 
 -- a tree taken in, where its count is 0
 abbrev pub with_tree : List ℕ → ℕ → (ℕ → Float) → ℕ → Float → Float
@@ -27,6 +30,13 @@ with_tree counts base f k x = cond (is_out counts (base + k)) (add binary64 x (f
 pub taken_in : (counts : List ℕ) → length counts ≡ 0 → (base : ℕ) (f : ℕ → Float) (k : ℕ) (x : Float) → add binary64 x (f k) ≡ with_tree counts base f k x
 taken_in counts h base f k x = sym (ap (λ b. cond b (add binary64 x (f k)) x) (out-beyond counts (base + k) (omega arith)))
 
+-- what row i comes to in a tree, and its sum once the tree is taken in
+abbrev pub leaf_in : Sample → Tree → ℕ → Float
+leaf_in s t = leaf_at s.shape.features s.values.now (entries_at (columns_in t.table) t.a t.n)
+
+abbrev pub with_tree_of : Sample → Tree → ℕ → Float → Float
+with_tree_of s t = with_tree s.counts.now t.base (leaf_in s t)
+
 -- and the trees from tree t on
 abbrev pub summed : ℕ → ℕ → List Float → List ℕ → ℕ → List (List Entry) → ℕ → Float → Float
 summed rows features xs counts t ts k x = add_trees x (out_trees rows counts k t ts) (values_at features xs k)
@@ -35,6 +45,10 @@ summed rows features xs counts t ts k x = add_trees x (out_trees rows counts k t
 
 pub record Countable (base : ℕ) : Type 0 where
   pub low : base ≤ 67107840
+
+-- a good tree, and values and places of all rows
+abbrev pub TreeReadable : Sample → Tree → List Float → Type 0
+TreeReadable s t out = Readable s.shape.rows s.shape.features t.a t.n s.values.now (columns_in t.table) out
 
 -- a good forest, and values and places of all rows
 pub record ForestReadable (rows features : ℕ) (xs : List Float) (F : ForestTable) (out : List Float) : Type 0 where

@@ -1,65 +1,54 @@
 -- What is seen of a model file that is gone through: where nodes end, how many there are. Assumes nothing.
-use Rattle.std.specs.Prelude.{ℕ, suc, ◌+◌, ◌-◌, ◌≤◌, ◌<◌, ◌≡◌, refl, Bool, true, false, ◌&&◌, List, [], length, leb, ltb}
-use Rattle.std.proofs.Common.{add-one, arith, sym, ◌∙◌, subst, true≢false, leb-true, leb-false, lt-ltb, le-ltb}
+use Rattle.std.specs.Prelude.{ℕ, suc, ◌+◌, ◌-◌, ◌≤◌, ◌<◌, ◌≡◌, refl, Bool, true, List, [], length, eqb, cond, Result, Ok, Err}
+use Rattle.std.proofs.Common.{add-one, zero-add, eq-eqb, ne_eqb, arith, sym, ◌∙◌, subst}
 use Rattle.std.proofs.Math.Path.{ap}
-use Rattle.std.proofs.Math.Bool.{and-false}
+use Rattle.std.proofs.lemmas.Bool.Decides.{nat_tests}
 use Rattle.rules.specs.declared.Misread.{Misread}
+use Rattle.rules.specs.Results.{ModelReply}
 use Rattle.rules.specs.Words.{total}
 use Rattle.rules.specs.Lent.{Entry}
-use Rattle.rules.specs.Model.{Field, misread, says, and_then, field, before, node_at, nodes_at, count_good, trees_at, Model, sizes_of}
+use Rattle.rules.specs.Model.{Field, misread, says, wrong, and_then, header_in, model_in, field, before, node_at, nodes_at, count_good, trees_at, Model, sizes_of}
 use Rattle.lemmas.specs.Lists.{is_true}
 use Rattle.lemmas.specs.Fields.{parts, says_first, goes_on, field-met}
-use Rattle.lemmas.specs.FileRead.{nodes-read}
-use Rattle.fields.specs.Fields.{ranged, stops_at}
-use Rattle.model_check.specs.declared.NodesSeen.{NodesSeen}
-use Rattle.model_check.specs.declared.TreesSeen.{TreesSeen}
-use Rattle.model_check.specs.declared.ModelSeen.{ModelSeen}
+use Rattle.lemmas.specs.FileRead.{nodes-read, header_read, trees-read}
+use Rattle.fields.specs.declared.Header.{Header}
+use Rattle.fields.specs.Fields.{Read, Read-is, read_as, header_field, Said, said_as, header-said, stops_at}
 
-abbrev pub nodes_seen : Field (List Entry) → NodesSeen
-nodes_seen (misread m) = NodesSeen.Misread m
-nodes_seen (says es at) = NodesSeen.Ends at
+-- where nodes end
+abbrev pub nodes_seen : Field (List Entry) → Result ℕ Misread
+nodes_seen (misread m) = Err m
+nodes_seen (says es at) = Ok at
 
 -- a tree, with the count that it says
 pub record Counted : Type 0 where
   pub number : ℕ
   pub entries : List Entry
 
+-- the next tree that a file says
 unfoldable pub one_tree : List ℕ → ℕ → ℕ → ℕ → Field Counted
 one_tree bs features sofar at =
     and_then (field bs 4 16 (count_good sofar) at) (λ n at.
     and_then (nodes_at bs features n 0 n at) (λ es at.
     says (record { number = n; entries = es }) at))
 
-abbrev pub tree_seen : Field Counted → TreesSeen
-tree_seen (misread m) = TreesSeen.Misread m
-tree_seen (says t at) = TreesSeen.Ends t.number at
+-- how many nodes it has
+abbrev pub tree_seen : Field Counted → Read ℕ
+tree_seen f = read_as (λ t. t.number) f
 
--- trees after so many nodes
-abbrev pub trees_seen : ℕ → Field (List (List Entry)) → TreesSeen
-trees_seen sofar (misread m) = TreesSeen.Misread m
-trees_seen sofar (says ts at) = TreesSeen.Ends (sofar + total length ts) at
+-- trees after so many nodes: how many nodes there are after them
+abbrev pub trees_seen : ℕ → Field (List (List Entry)) → Read ℕ
+trees_seen sofar f = read_as (λ ts. sofar + total length ts) f
 
-abbrev pub model_seen : Field Model → ModelSeen
-model_seen (misread m) = ModelSeen.Misread m
-model_seen (says M at) = ModelSeen.Good (sizes_of M)
+-- what the file holds
+abbrev pub model_seen : Field Model → ModelReply
+model_seen (misread m) = Err m
+model_seen (says M at) = Ok (sizes_of M)
 
 -- ---- the count of a tree
 
-pub ranged-count : (sofar x : ℕ) → sofar ≤ 4294967295 → ranged 1 (4294967296 - sofar) x ≡ count_good sofar x
-unfolding count_good
-ranged-count sofar x s = ap (λ b. leb 1 x && b) (go (leb (sofar + x) 4294967295) refl)
-  where
-    go : (b : Bool) → leb (sofar + x) 4294967295 ≡ b → ltb x (4294967296 - sofar) ≡ leb (sofar + x) 4294967295
-    go true q = lt-ltb x (4294967296 - sofar) (omega (arith, s, leb-true (sofar + x) 4294967295 q)) ∙ sym q
-    go false q = le-ltb x (4294967296 - sofar) (omega (arith, s, leb-false (sofar + x) 4294967295 q)) ∙ sym q
-
 pub count-few : (sofar n : ℕ) → count_good sofar n ≡ true → sofar + n ≤ 4294967295
 unfolding count_good
-count-few sofar n h = go (leb 1 n) (leb (sofar + n) 4294967295) refl h
-  where
-    go : (a b : Bool) → leb (sofar + n) 4294967295 ≡ b → (a && b) ≡ true → sofar + n ≤ 4294967295
-    go a true q e = leb-true (sofar + n) 4294967295 q
-    go a false q e = absurd (true≢false (sym e ∙ and-false a))
+count-few sofar n h = grind (arith, nat_tests)
 
 -- ---- nodes, one after another
 
@@ -127,7 +116,8 @@ module _ (bs : List ℕ) (features sofar trees t at : ℕ) where
 
 -- ---- as many nodes as are said
 
-pub tree-said-whole : (bs : List ℕ) (features sofar at : ℕ) (u : Counted) (end : ℕ) → one_tree bs features sofar at ≡ says u end → (length u.entries ≡ u.number) × (sofar + u.number ≤ 4294967295)
+pub tree-said-whole : (bs : List ℕ) (features sofar at : ℕ) (u : Counted) (end : ℕ) → one_tree bs features sofar at ≡ says u end
+    → (length u.entries ≡ u.number) × (sofar + u.number ≤ 4294967295)
 unfolding one_tree
 tree-said-whole bs features sofar at u end h =
     let w = parts _ _ u end h in
@@ -140,54 +130,67 @@ tree-said-whole bs features sofar at u end h =
 pub before-trees : (sofar : ℕ) (es : List Entry) (n : ℕ) (f : Field (List (List Entry))) → length es ≡ n → trees_seen sofar (before es f) ≡ trees_seen (sofar + n) f
 unfolding before and_then total
 before-trees sofar es n (misread m) h = refl
-before-trees sofar es n (says ts at) h = ap (λ x. TreesSeen.Ends x at) (sum sofar (length es) n (total length ts) h)
+before-trees sofar es n (says ts at) h = ap (λ x. Ok (x, at)) (sum sofar (length es) n (total length ts) h)
   where
     sum : (s l n k : ℕ) → l ≡ n → s + (l + k) ≡ s + n + k
     sum s l n k h = omega arith
 
 -- ---- what the code's answers say
 
-seen_apart : {A : Type 0} (m : Misread) (at : ℕ) → NodesSeen.Misread m ≡ NodesSeen.Ends at → A
-seen_apart m at h = absurd (true≢false (let z : true ≡ false = cc in z))
-
-tree_apart : {A : Type 0} (m : Misread) (n at : ℕ) → TreesSeen.Misread m ≡ TreesSeen.Ends n at → A
-tree_apart m n at h = absurd (true≢false (let z : true ≡ false = cc in z))
-
 -- nodes that end somewhere are some entries
 pub record SaidNodes (f : Field (List Entry)) (end : ℕ) : Type 0 where
   pub entries : List Entry
   pub said : f ≡ says entries end
 
-pub nodes-misread : (f : Field (List Entry)) (m : Misread) → nodes_seen f ≡ NodesSeen.Misread m → f ≡ misread m
-nodes-misread (misread l) m h = let e : l ≡ m = cc in ap misread e
-nodes-misread (says es at) m h = cc
+pub nodes-misread : (f : Field (List Entry)) {m : Misread} → ◌≡◌ {A = Result ℕ Misread} (Err m) (nodes_seen f) → f ≡ misread m
+nodes-misread (misread l) {m} h = let e : l ≡ m = cc in ap misread e
+nodes-misread (says es at) h = cc
 
-pub nodes-said : (f : Field (List Entry)) (end : ℕ) → nodes_seen f ≡ NodesSeen.Ends end → SaidNodes f end
-nodes-said (misread l) end h = seen_apart l end h
-nodes-said (says es at) end h = record { entries = es; said = let q : at ≡ end = cc in ap (says es) q }
+pub nodes-said : (f : Field (List Entry)) {end : ℕ} → ◌≡◌ {A = Result ℕ Misread} (Ok end) (nodes_seen f) → SaidNodes f end
+nodes-said (misread l) h = cc
+nodes-said (says es at) {end} h = record { entries = es; said = let q : at ≡ end = cc in ap (says es) q }
 
-pub record SaidTree (f : Field Counted) (n end : ℕ) : Type 0 where
-  pub entries : List Entry
-  pub said : f ≡ says (record { number = n; entries = entries }) end
+module _ (bs : List ℕ) (features sofar trees t at : ℕ) {n next : ℕ} (h : t < trees) (e : Read-is (Ok (n, next)) (tree_seen (one_tree bs features sofar at))) where
+  one : Said (λ (u : Counted). u.number) (one_tree bs features sofar at) n next
+  one = said_as (λ (u : Counted). u.number) _ e
 
-pub tree-misread : (f : Field Counted) (m : Misread) → tree_seen f ≡ TreesSeen.Misread m → f ≡ misread m
-tree-misread (misread l) m h = let e : l ≡ m = cc in ap misread e
-tree-misread (says u at) m h = cc
+  whole : (length one.what.entries ≡ one.what.number) × (sofar + one.what.number ≤ 4294967295)
+  whole = tree-said-whole bs features sofar at one.what next one.said
 
-pub tree-said : (f : Field Counted) (n end : ℕ) → tree_seen f ≡ TreesSeen.Ends n end → SaidTree f n end
-tree-said (misread l) n end h = tree_apart l n end h
-tree-said (says u at) n end h =
-    record { entries = u.entries; said = let p : u.number ≡ n = cc in let q : at ≡ end = cc in λ i. says (record { number = p i; entries = u.entries }) (q i) }
+  pub tree-few : sofar + n ≤ 4294967295
+  tree-few = omega (arith, whole.1, one.is)
 
-pub record SaidTrees (sofar : ℕ) (f : Field (List (List Entry))) (n end : ℕ) : Type 0 where
-  pub trees : List (List Entry)
-  pub said : f ≡ says trees end
-  pub number : sofar + total length trees ≡ n
+  pub tree-step : trees_seen (sofar + n) (trees_at bs features (sofar + n) (trees - (t + 1)) next) ≡ trees_seen sofar (trees_at bs features sofar (trees - t) at)
+  tree-step =
+      (λ i. trees_seen (sofar + sym one.is i) (trees_at bs features (sofar + sym one.is i) (trees - (t + 1)) next))
+      ∙ sym (ap (trees_seen sofar) (trees-next bs features sofar trees t at one.what next h one.said) ∙ before-trees sofar one.what.entries one.what.number _ whole.0)
 
-pub trees-misread : (sofar : ℕ) (f : Field (List (List Entry))) (m : Misread) → trees_seen sofar f ≡ TreesSeen.Misread m → f ≡ misread m
-trees-misread sofar (misread l) m h = let e : l ≡ m = cc in ap misread e
-trees-misread sofar (says u at) m h = cc
+-- ---- the whole file
 
-pub trees-said : (sofar : ℕ) (f : Field (List (List Entry))) (n end : ℕ) → trees_seen sofar f ≡ TreesSeen.Ends n end → SaidTrees sofar f n end
-trees-said sofar (misread l) n end h = tree_apart l n end h
-trees-said sofar (says ts at) n end h = record { trees = ts; said = let q : at ≡ end = cc in ap (says ts) q; number = let p : sofar + total length ts ≡ n = cc in p }
+module _ (bs : List ℕ) (h : Header) (next n place : ℕ) (header : Read-is (Ok (h, next)) (header_field (header_in bs)))
+    (all : Read-is (Ok (n, place)) (trees_seen 0 (trees_at bs h.features 0 h.trees next))) where
+  told : Said (λ ts. 0 + total length ts) (trees_at bs h.features 0 h.trees next) n place
+  told = said_as (λ ts. 0 + total length ts) _ all
+
+  -- by whether it ends after its trees
+  abbrev ended : Bool → Field Model
+  ended b = cond b (says (record { features = h.features; trees = told.what }) place) (wrong 17 place)
+
+  model-ends : model_in bs ≡ ended (eqb place (length bs))
+  unfolding model_in
+  model-ends = goes_on _ (header-said header) ∙ goes_on _ told.said
+
+  pub nodes-few : n ≤ 4294967295
+  nodes-few = omega (arith, (trees-read bs _ _ _ _ _ _ (header_read bs _ _ (header-said header)).inside told.said).few (omega arith), told.is)
+
+  pub model-good : place ≡ length bs → ◌≡◌ {A = ModelReply} (Ok (record { features = h.features; trees = h.trees; nodes = n })) (model_seen (model_in bs))
+  unfolding sizes_of
+  model-good e =
+      (λ i. Ok (record { features = h.features; trees = sym trees i; nodes = (sym told.is ∙ zero-add _) i }))
+      ∙ sym (ap model_seen (model-ends ∙ ap ended (eq-eqb place (length bs) e)))
+    where
+      trees : length told.what ≡ h.trees
+      trees = (trees-read bs _ _ _ _ _ _ (header_read bs _ _ (header-said header)).inside told.said).number
+
+  pub model-left : (place ≡ length bs → ⊥) → ◌≡◌ {A = ModelReply} (Err (record { number = 17; place = place })) (model_seen (model_in bs))
+  model-left e = sym (ap model_seen (model-ends ∙ ap ended (ne_eqb place (length bs) e)))

@@ -2,120 +2,74 @@
 #![tactic(auto)]
 
 ghost use Rattle.std.specs.Prelude.{◌≡◌, ◌≤◌};
-ghost use Rattle.rules.specs.Model.{nodes_at, trees_at, model_in};
+ghost use Rattle.rules.specs.Model.{count_good, nodes_at, trees_at, model_in};
 ghost use Rattle.model_check.specs.Seen.{one_tree, nodes_seen, tree_seen, trees_seen, model_seen};
 
-use fields::{HeaderField, NodeField, NumberField};
-use rules::{Misread, Sizes};
+use fields::Read;
+use rules::{Misread, ModelReply, Sizes};
 
-// Nodes that are all good end at some place.
-#[derive(Clone, Copy)]
-pub enum NodesSeen {
-    Misread(Misread),
-    Ends(usize),
-}
-
-// So do trees, which have so many nodes.
-#[derive(Clone, Copy)]
-pub enum TreesSeen {
-    Misread(Misread),
-    Ends(u64, usize),
-}
-
-#[derive(Clone, Copy)]
-pub enum ModelSeen {
-    Misread(Misread),
-    Good(Sizes),
-}
-
-// The n nodes of a tree.
-fn nodes_seen(bytes: &[u8], features: usize, n: usize, start: usize) -> NodesSeen
-    requires { (n ≤ 4294967295) × (features ≤ 4294967295) }
+// The n nodes of a tree: where they end, if all are good.
+fn nodes_seen(bytes: &[u8], features: usize, n: usize, start: usize) -> Result<usize, Misread>
+    requires nodes_below { n ≤ 4294967295 }
+    requires features_below { features ≤ 4294967295 }
     ensures { result ≡ nodes_seen (nodes_at bytes.now features n 0 n start) }
 {
     let mut at = start;
-    let mut k: usize = 0;
-    while k < n {
-        let node = fields::node_in(bytes, features, n, k, at);
-        match node {
-            NodeField::Misread(m) => {
-                return NodesSeen::Misread(m);
-            }
-            NodeField::Says(_, next) => {
-                at = next;
-                k += 1;
-            }
-        }
+    for k in 0..n {
+        let (_node, next) = fields::node_in(bytes, features, n, k, at)?;
+        at = next;
     }
-    NodesSeen::Ends(at)
+    Ok(at)
 }
 
-// A tree after trees of so many nodes.
-fn tree_seen(bytes: &[u8], features: usize, sofar: u64, at: usize) -> TreesSeen
-    requires { (sofar ≤ 4294967295) × (features ≤ 4294967295) }
+// A tree of n nodes may come after so many.
+#[tactic(auto, using(std::proofs::lemmas::Bool::Decides::nat_tests), unfolding(rules::specs::Model::count_good))]
+fn count_good(sofar: u64, n: u64) -> bool
+    requires { sofar ≤ 4294967295 }
+    ensures { result ≡ count_good sofar n }
+{
+    1 <= n && n <= 4294967295 - sofar
+}
+
+// A tree after trees of so many nodes: how many it has.
+fn tree_seen(bytes: &[u8], features: usize, sofar: u64, at: usize) -> Read<u64>
+    requires sofar_below { sofar ≤ 4294967295 }
+    requires features_below { features ≤ 4294967295 }
     ensures { result ≡ tree_seen (one_tree bytes.now features sofar at) }
 {
-    let high = 4294967296 - sofar;
-    let count = fields::number_in(bytes, at, 4, 16, 1, high);
-    match count {
-        NumberField::Misread(m) => TreesSeen::Misread(m),
-        NumberField::Says(n, next) => {
-            let number = n as usize;
-            let nodes = nodes_seen(bytes, features, number, next);
-            match nodes {
-                NodesSeen::Misread(m) => TreesSeen::Misread(m),
-                NodesSeen::Ends(end) => TreesSeen::Ends(n, end),
-            }
-        }
-    }
+    let (n, next) = fields::number_in(bytes, at, 4, 16, |n| count_good(sofar, n))?;
+    let end = nodes_seen(bytes, features, n as usize, next)?;
+    Ok((n, end))
 }
 
-fn trees_seen(bytes: &[u8], features: usize, trees: u32, start: usize) -> TreesSeen
+// All trees: how many nodes they have.
+fn trees_seen(bytes: &[u8], features: usize, trees: u32, start: usize) -> Read<u64>
     requires { features ≤ 4294967295 }
     ensures { result ≡ trees_seen 0 (trees_at bytes.now features 0 trees start) }
 {
     let mut at = start;
     let mut sofar: u64 = 0;
-    let mut t: u32 = 0;
-    while t < trees {
-        let tree = tree_seen(bytes, features, sofar, at);
-        match tree {
-            TreesSeen::Misread(m) => {
-                return TreesSeen::Misread(m);
-            }
-            TreesSeen::Ends(n, next) => {
-                at = next;
-                sofar += n;
-                t += 1;
-            }
-        }
+    for _ in 0..trees {
+        let (n, next) = tree_seen(bytes, features, sofar, at)?;
+        at = next;
+        sofar += n;
     }
-    TreesSeen::Ends(sofar, at)
+    Ok((sofar, at))
 }
 
 // All of a file, with nothing after the last node.
-pub fn model_seen(bytes: &[u8]) -> ModelSeen
+pub fn model_seen(bytes: &[u8]) -> ModelReply
     ensures { result ≡ model_seen (model_in bytes.now) }
 {
-    let header = fields::header_in(bytes);
-    match header {
-        HeaderField::Misread(m) => ModelSeen::Misread(m),
-        HeaderField::Says(h, next) => {
-            let all = trees_seen(bytes, h.features as usize, h.trees, next);
-            match all {
-                TreesSeen::Misread(m) => ModelSeen::Misread(m),
-                TreesSeen::Ends(n, place) => {
-                    if place != bytes.len() {
-                        return ModelSeen::Misread(Misread { number: 17, place });
-                    }
-                    let nodes = n as u32;
-                    ModelSeen::Good(Sizes {
-                        features: h.features,
-                        trees: h.trees,
-                        nodes,
-                    })
-                }
-            }
-        }
+    let (header, next) = fields::header_in(bytes)?;
+    let (n, place) = trees_seen(bytes, header.features as usize, header.trees, next)?;
+    if place == bytes.len() {
+        Ok(Sizes {
+            features: header.features,
+            trees: header.trees,
+            nodes: n as u32,
+        })
+    } else {
+        Err(Misread { number: 17, place })
     }
 }

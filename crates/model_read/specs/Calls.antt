@@ -1,6 +1,6 @@
 -- A model file that is seen to be good or not, and the answer that follows. Assumes nothing.
-use Rattle.std.specs.Prelude.{ℕ, suc, ◌≤◌, ◌<◌, ◌≡◌, refl, Bool, ◌&&◌, cond, List, eqb}
-use Rattle.std.proofs.Common.{arith, ◌∙◌, true≢false}
+use Rattle.std.specs.Prelude.{ℕ, suc, ◌≤◌, ◌<◌, ◌≡◌, refl, Bool, ◌&&◌, cond, List, eqb, Ok, Err}
+use Rattle.std.proofs.Common.{arith, ◌∙◌}
 use Rattle.std.proofs.Math.Path.{sym, ap, subst}
 use Rattle.std.proofs.Math.Bool.{true, false, and-false}
 use Rattle.std.proofs.Math.ListN.{length}
@@ -8,7 +8,7 @@ use Rattle.std.proofs.Math.Dec.{leb}
 use borrow.Author.Tests.{le-leb, lt-leb}
 use Rattle.rules.specs.declared.Misread.{Misread}
 use Rattle.rules.specs.declared.Sizes.{Sizes}
-use Rattle.rules.specs.declared.ModelReply.{ModelReply}
+use Rattle.rules.specs.Results.{ModelReply}
 use Rattle.rules.specs.Words.{joined, total, front}
 use Rattle.rules.specs.Lent.{Columns, Entry, Outcome, outcome_of, shortest, write_entries}
 use Rattle.rules.specs.Model.{Field, misread, says, wrong, Header, header_in, trees_at, Model, model_in, TableRooms, table_rooms_of, starts_of, rooms_enough, filled_by, sizes_of, reading, read_model}
@@ -17,7 +17,6 @@ use Rattle.lemmas.specs.Tests.{within-top}
 use Rattle.lemmas.specs.Fields.{no_says, says_first, says-next, parts, field-met}
 use Rattle.lemmas.specs.FileRead.{trees-read, model-read}
 use Rattle.node_entries.specs.Entries.{LongAll}
-use Rattle.model_check.specs.declared.ModelSeen.{ModelSeen}
 use Rattle.model_check.specs.Seen.{model_seen}
 use Rattle.model_read.specs.Trees.{TreesAsk}
 
@@ -66,23 +65,21 @@ pub record Good (bs : List ℕ) (s : Sizes) : Type 0 where
   pub said : model_in bs ≡ says model end
   pub sizes : sizes_of model ≡ s
 
-seen_apart : {A : Type 0} (m : Misread) (s : Sizes) → ModelSeen.Misread m ≡ ModelSeen.Good s → A
-seen_apart m s h = absurd (true≢false (let z : true ≡ false = cc in z))
-
-pub good-seen : (bs : List ℕ) (s : Sizes) → model_seen (model_in bs) ≡ ModelSeen.Good s → Good bs s
+pub good-seen : (bs : List ℕ) (s : Sizes) → ◌≡◌ {A = ModelReply} (Ok s) (model_seen (model_in bs)) → Good bs s
 good-seen bs s h = go (model_in bs) refl h
   where
-    go : (f : Field Model) → model_in bs ≡ f → model_seen f ≡ ModelSeen.Good s → Good bs s
-    go (misread m) e q = seen_apart m s q
+    go : (f : Field Model) → model_in bs ≡ f → ◌≡◌ {A = ModelReply} (Ok s) (model_seen f) → Good bs s
+    go (misread m) e q = cc
     go (says M end) e q = record { model = M; end = end; said = e; sizes = let z : sizes_of M ≡ s = cc in z }
 
-pub misread-answered : (bs : List ℕ) (R : TableRooms) (m : Misread) → model_seen (model_in bs) ≡ ModelSeen.Misread m → outcome_of (ModelReply.Refused m) R ≡ read_model bs R
+pub misread-answered : (bs : List ℕ) (R : TableRooms) (m : Misread) {a : ModelReply} → a ≡ Err m
+    → ◌≡◌ {A = ModelReply} (Err m) (model_seen (model_in bs)) → outcome_of a R ≡ read_model bs R
 unfolding read_model reading
-misread-answered bs R m h = go (model_in bs) h
+misread-answered bs R m {a} p h = ap (λ b. outcome_of b R) p ∙ go (model_in bs) h
   where
-    go : (f : Field Model) → model_seen f ≡ ModelSeen.Misread m → outcome_of (ModelReply.Refused m) R ≡ reading f R
-    go (misread l) q = let z : l ≡ m = cc in ap (λ k. outcome_of (ModelReply.Refused k) R) (sym z)
-    go (says M end) q = let z : ModelSeen.Misread m ≡ ModelSeen.Good (sizes_of M) = sym q in seen_apart m (sizes_of M) z
+    go : (f : Field Model) → ◌≡◌ {A = ModelReply} (Err m) (model_seen f) → outcome_of (Err m) R ≡ reading f R
+    go (misread l) q = let z : l ≡ m = cc in ap (λ k. outcome_of (Err k) R) (sym z)
+    go (says M end) q = cc
 
 module _ (bs : List ℕ) (s : Sizes) (g : Good bs s) (c : Columns) (starts : List ℕ) where
   abbrev R : TableRooms
@@ -90,8 +87,8 @@ module _ (bs : List ℕ) (s : Sizes) (g : Good bs s) (c : Columns) (starts : Lis
 
   ends : Bool → Outcome ModelReply TableRooms
   ends b =
-      cond b (outcome_of (ModelReply.Read (sizes_of g.model)) (filled_by g.model.trees R))
-      (outcome_of (ModelReply.Refused (record { number = 6; place = 0 })) R)
+      cond b (outcome_of (Ok (sizes_of g.model)) (filled_by g.model.trees R))
+      (outcome_of (Err (record { number = 6; place = 0 })) R)
 
   read-ends : (b : Bool) → rooms_enough g.model.trees R ≡ b → read_model bs R ≡ ends b
   unfolding read_model reading ends
@@ -105,12 +102,12 @@ module _ (bs : List ℕ) (s : Sizes) (g : Good bs s) (c : Columns) (starts : Lis
   unfolding sizes_of
   trees-are = λ i. (g.sizes i).trees
 
-  pub nodes-lack : shortest c < s.nodes → outcome_of (ModelReply.Refused (record { number = 6; place = 0 })) R ≡ read_model bs R
+  pub nodes-lack : shortest c < s.nodes → outcome_of (Err (record { number = 6; place = 0 })) R ≡ read_model bs R
   unfolding rooms_enough ends
   nodes-lack h =
       sym (read-ends false (ap (λ b. b && leb (suc (length g.model.trees)) (length starts)) (lt-leb (total length g.model.trees) (shortest c) (omega (arith, h, nodes-are)))))
 
-  pub starts-lack : length starts ≤ s.trees → outcome_of (ModelReply.Refused (record { number = 6; place = 0 })) R ≡ read_model bs R
+  pub starts-lack : length starts ≤ s.trees → outcome_of (Err (record { number = 6; place = 0 })) R ≡ read_model bs R
   unfolding rooms_enough ends
   starts-lack h =
       sym (read-ends false (ap (λ b. leb (total length g.model.trees) (shortest c) && b) (lt-leb (suc (length g.model.trees)) (length starts) (omega (arith, h, trees-are)))
@@ -158,10 +155,10 @@ module _ (bs : List ℕ) (s : Sizes) (g : Good bs s) (c : Columns) (starts : Lis
     pub read-answered : (d : Columns) (starts' : List ℕ)
         → ((ts : List (List Entry)) (end : ℕ) → trees_at bs s.features 0 s.trees 9 ≡ says ts end
         → (d ≡ write_entries (joined (λ t. t) ts) c) × (starts' ≡ front (starts_of 0 ts) starts))
-        → outcome_of (ModelReply.Read s) (table_rooms_of d starts') ≡ read_model bs R
+        → outcome_of (Ok s) (table_rooms_of d starts') ≡ read_model bs R
     unfolding rooms_enough ends filled_by
     read-answered d starts' put =
         let p = put g.model.trees g.end trees-at in
-        (λ i. outcome_of (ModelReply.Read (sym g.sizes i)) (table_rooms_of (p.0 i) (p.1 i)))
+        (λ i. outcome_of (Ok (sym g.sizes i)) (table_rooms_of (p.0 i) (p.1 i)))
         ∙ sym (read-ends true (λ i. le-leb (total length g.model.trees) (shortest c) (omega (arith, h, nodes-are)) i
         && le-leb (suc (length g.model.trees)) (length starts) (omega (arith, k, trees-are)) i))

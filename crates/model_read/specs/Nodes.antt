@@ -1,24 +1,26 @@
 -- The nodes of a tree put into the six columns one after another. Assumes nothing.
-use Rattle.std.specs.Prelude.{ℕ, ◌+◌, ◌-◌, ◌≤◌, ◌<◌, ◌≡◌, refl, List, [], ◌∷◌, ◌++◌, map, length, set}
+use Rattle.std.specs.Prelude.{ℕ, ◌+◌, ◌-◌, ◌≤◌, ◌<◌, ◌≡◌, refl, List, [], ◌∷◌, ◌++◌, map, length, set, Ok}
 use Rattle.std.proofs.Common.{add-zero, sym, ◌∙◌, subst}
 use native.Mathlib.Omega.{arith}
 use Rattle.std.proofs.Math.Path.{ap}
+use Rattle.std.proofs.Math.ListN.{length-set}
+use Rattle.std.specs.Result.{IsOk}
 use Rattle.std.proofs.lemmas.List.{map-append, length-map}
+use Rattle.rules.specs.declared.TableRoom.{TableRoom}
+use Rattle.rules.specs.Slices.{SameTable}
 use Rattle.rules.specs.Lent.{Columns, Entry, write_entries}
 use Rattle.rules.specs.Model.{says, before, node_at, nodes_at}
-use Rattle.lemmas.specs.Spliced.{spliced, spliced-none, spliced-front, spliced-next, spliced-then}
+use Rattle.lemmas.specs.Spliced.{spliced, spliced-none, spliced-front, spliced-next, spliced-length, spliced-then}
 use Rattle.lemmas.specs.Fields.{parts, says_first, says-next}
 use Rattle.node_entries.specs.Entries.{LongAll, put_entry}
 use Rattle.rooms.specs.Zero.{NodesLong}
-use Rattle.fields.specs.Fields.{node_entry}
+use Rattle.node_entries.specs.declared.NodeEntry.{NodeEntry}
+use Rattle.fields.specs.Fields.{Read, node_entry, node_field}
 use Rattle.model_check.specs.Seen.{nodes-on, nodes-end}
-use Rattle.model_read.specs.declared.NodeRead.{NodeRead}
-
-abbrev pub node_read : Entry → ℕ → NodeRead
-node_read e next = record { entry = node_entry e; next = next }
 
 -- ---- entries in the six columns, from some place on
 
+-- the columns with the entries put in
 unfoldable pub put_all : ℕ → List Entry → Columns → Columns
 put_all base es c =
     record {
@@ -87,6 +89,22 @@ put-twice base n es fs c q l = λ i.
         (subst (λ m. base + m ≤ length old) (sym (length-map es f ∙ q)) h)
         ∙ ap (λ l. spliced base l old) (sym (map-append f es fs))
 
+-- ---- the same slices, turn after turn
+
+pub same-first : (a : TableRoom) → SameTable a a
+same-first a = record { value = refl; feature = refl; threshold = refl; score = refl; truechild = refl; falsechild = refl }
+
+pub same-then : (a b d : TableRoom) → SameTable a b → SameTable b d → SameTable a d
+same-then a b d h k =
+    record {
+      value = k.value ∙ h.value;
+      feature = k.feature ∙ h.feature;
+      threshold = k.threshold ∙ h.threshold;
+      score = k.score ∙ h.score;
+      truechild = k.truechild ∙ h.truechild;
+      falsechild = k.falsechild ∙ h.falsechild;
+    }
+
 -- ---- what a tree asks
 
 pub record NodesAsk (c : Columns) (bs : List ℕ) (features n base start : ℕ) : Type 0 where
@@ -120,6 +138,34 @@ then-long c d e h k =
       truechild = k.truechild ∙ h.truechild;
       falsechild = k.falsechild ∙ h.falsechild;
     }
+
+-- columns that are written are as long as they were
+pub put-long : (i : ℕ) (r : NodeEntry) (c d : Columns) → d ≡ put_entry i r c → NodesLong c d
+unfolding put_entry
+put-long i r c d e =
+    record {
+      value = ap (λ (x : Columns). length x.value) e ∙ length-set c.value i r.value;
+      feature = ap (λ (x : Columns). length x.feature) e ∙ length-set c.feature i r.feature;
+      threshold = ap (λ (x : Columns). length x.threshold) e ∙ length-set c.threshold i r.threshold;
+      score = ap (λ (x : Columns). length x.score) e ∙ length-set c.score i r.score;
+      truechild = ap (λ (x : Columns). length x.true_child) e ∙ length-set c.true_child i r.truechild;
+      falsechild = ap (λ (x : Columns). length x.false_child) e ∙ length-set c.false_child i r.falsechild;
+    }
+
+pub put_all-long : (base : ℕ) (es : List Entry) (c d : Columns) → d ≡ put_all base es c → LongAll (base + length es) c → NodesLong c d
+unfolding put_all
+put_all-long base es c d e l =
+    record {
+      value = ap (λ (x : Columns). length x.value) e ∙ one (λ (x : Entry). x.value) c.value l.value;
+      feature = ap (λ (x : Columns). length x.feature) e ∙ one (λ (x : Entry). x.feature) c.feature l.feature;
+      threshold = ap (λ (x : Columns). length x.threshold) e ∙ one (λ (x : Entry). x.threshold) c.threshold l.threshold;
+      score = ap (λ (x : Columns). length x.score) e ∙ one (λ (x : Entry). x.score) c.score l.score;
+      truechild = ap (λ (x : Columns). length x.true_child) e ∙ one (λ (x : Entry). x.true_child) c.true_child l.truechild;
+      falsechild = ap (λ (x : Columns). length x.false_child) e ∙ one (λ (x : Entry). x.false_child) c.false_child l.falsechild;
+    }
+  where
+    one : {A : Type 0} (f : Entry → A) (old : List A) → base + length es ≤ length old → length (spliced base (map f es) old) ≡ length old
+    one f old h = spliced-length base (map f es) old (omega (arith, h, length-map es f))
 
 -- places that there were are still there
 pub still-long : (m n : ℕ) (c d : Columns) → LongAll n c → NodesLong c d → m ≤ n → LongAll m d
@@ -158,28 +204,48 @@ module _ (c₀ : Columns) (bs : List ℕ) (features n base start : ℕ) where
         )
 
     module _ (h : k < n) where
+      -- the node that the file says
+      pub record Next : Type 0 where
+        pub entry : Entry
+        pub mid : ℕ
+        pub said : node_at bs features n k at ≡ says entry mid
+
+      pub putting-reads : Next
+      putting-reads = let w = parts _ _ p.rest p.asks.end (sym (nodes-on bs features n k at h) ∙ p.said) in record { entry = w.said; mid = w.mid; said = w.one }
+
       pub putting-may : LongAll (base + k + 1) c
       putting-may = still-long (base + k + 1) (base + n) c₀ c p.asks.room p.long (omega arith)
 
-      pub putting-on : (r : NodeRead) → ((e : Entry) (next : ℕ) → node_at bs features n k at ≡ says e next → r ≡ node_read e next) → (d : Columns)
-          → d ≡ put_entry (base + k) r.entry c → NodesLong c d → Putting c₀ bs features n base start d r.next (k + 1)
+      pub putting-on : (r : NodeEntry × ℕ) → ((e : Entry) (next : ℕ) → node_at bs features n k at ≡ says e next → r ≡ (node_entry e, next)) → (d : Columns)
+          → d ≡ put_entry (base + k) r.0 c → Putting c₀ bs features n base start d r.1 (k + 1)
       unfolding before
-      putting-on r reads d put long =
+      putting-on r reads d put =
           let w = parts _ _ p.rest p.asks.end (sym (nodes-on bs features n k at h) ∙ p.said) in
           let v = parts (nodes_at bs features n (k + 1) (n - (k + 1)) w.mid) (λ l next. says (w.said ∷ l) next) p.rest p.asks.end w.two in
-          let q : r ≡ node_read w.said w.mid = reads w.said w.mid w.one in
+          let q : r ≡ (node_entry w.said, w.mid) = reads w.said w.mid w.one in
           record {
             asks = p.asks;
             within = omega arith;
             rest = v.said;
-            said = (λ i. nodes_at bs features n (k + 1) (n - (k + 1)) (q i).next) ∙ v.one ∙ ap (says v.said) (says-next v.two);
+            said = (λ i. nodes_at bs features n (k + 1) (n - (k + 1)) (q i).1) ∙ v.one ∙ ap (says v.said) (says-next v.two);
             done =
-                (λ i. put_all (up base k i) v.said ((put ∙ ap (λ (z : NodeRead). put_entry (base + k) z.entry c) q) i))
+                (λ i. put_all (up base k i) v.said ((put ∙ ap (λ (z : NodeEntry × ℕ). put_entry (base + k) z.0 c) q) i))
                 ∙ put_next (base + k) w.said v.said c putting-may
                 ∙ ap (λ l. put_all (base + k) l c) (says_first v.two)
                 ∙ p.done;
-            long = then-long c₀ c d p.long long;
+            long = then-long c₀ c d p.long (put-long (base + k) r.0 c d put);
           }
         where
           up : (a b : ℕ) → a + (b + 1) ≡ a + b + 1
           up a b = omega arith
+
+-- ---- what is taken out of a field that says something
+
+pub says-ok : {f : _} {e : Entry} {next : ℕ} {r : Read NodeEntry} → r ≡ node_field f → f ≡ says e next → r ≡ Ok (node_entry e, next)
+says-ok p h = p ∙ ap node_field h
+
+pub taken-out : {f : _} {e : Entry} {next : ℕ} {r : Read NodeEntry} {x : NodeEntry × ℕ} → r ≡ Ok x → r ≡ node_field f → f ≡ says e next → x ≡ (node_entry e, next)
+taken-out {f} {e} {next} {r} {x} q p h = let z : ◌≡◌ {A = Read NodeEntry} (Ok x) (Ok (node_entry e, next)) = sym q ∙ says-ok p h in cc
+
+pub out-is_ok : {f : _} {e : Entry} {next : ℕ} {r : Read NodeEntry} → r ≡ node_field f → f ≡ says e next → IsOk r
+out-is_ok p h = subst (λ (s : Read NodeEntry). IsOk s) (sym (says-ok p h)) refl

@@ -16,7 +16,7 @@ use Rattle.bits.specs.Bits.{Stretches}
 use Rattle.node_entries.specs.Entries.{LongAll}
 use Rattle.rooms.specs.Zero.{NodesLong}
 use Rattle.model_check.specs.Seen.{count-few, more_left, trees-end}
-use Rattle.model_read.specs.Nodes.{put_all, put-none, put_front, put-twice, NodesAsk, then-long, same-long, still-long}
+use Rattle.model_read.specs.Nodes.{put_all, put-none, put_front, put-twice, NodesAsk, put_all-long, then-long, same-long, still-long}
 
 pub record TreesAsk (c : Columns) (s bs : List ℕ) (features trees start : ℕ) : Type 0 where
   pub wide : features ≤ 4294967295
@@ -28,11 +28,13 @@ pub record TreesAsk (c : Columns) (s bs : List ℕ) (features trees start : ℕ)
   pub said : trees_at bs features 0 trees start ≡ says tables end
   pub room : LongAll (total length tables) c
 
+-- all nodes, tree after tree
 abbrev pub laid : List (List Entry) → List Entry
 laid ts = joined (λ t. t) ts
 
 -- ---- starts: after the first, each is where a tree ends
 
+-- where each tree ends, after so many nodes
 unfoldable pub ends_of : ℕ → List (List Entry) → List ℕ
 ends_of a [] = []
 ends_of a (t ∷ ts) = (a + length t) ∷ ends_of (a + length t) ts
@@ -175,9 +177,9 @@ module _ (c₀ : Columns) (s₀ bs : List ℕ) (features trees start : ℕ) wher
             }
 
         pub filling-on : (d : Columns) (r : ℕ) → ((es : List Entry) (end : ℕ) → nodes_at bs features x 0 x (at + 4) ≡ says es end → (d ≡ put_all sofar es c) × (r ≡ end))
-            → NodesLong c d → Filling c₀ s₀ bs features trees start d (set s (t + 1) (sofar + x)) r (sofar + x) (t + 1)
+            → Filling c₀ s₀ bs features trees start d (set s (t + 1) (sofar + x)) r (sofar + x) (t + 1)
         unfolding joined ends_of
-        filling-on d r put long =
+        filling-on d r put =
             let p = put turn.entries turn.mid nodes-at in
             record {
               asks = f.asks;
@@ -197,6 +199,6 @@ module _ (c₀ : Columns) (s₀ bs : List ℕ) (features trees start : ℕ) wher
                   ∙ ap (λ n. spliced (t + 1) ((sofar + n) ∷ ends_of (sofar + n) turn.others) s) (sym long_as)
                   ∙ ap (λ l. spliced (t + 1) (ends_of sofar l) s) turn.all
                   ∙ f.starts;
-              long = then-long c₀ c d f.long long;
+              long = then-long c₀ c d f.long (put_all-long sofar turn.entries c d p.0 (subst (λ m. LongAll (sofar + m) c) (sym long_as) room));
               starts-long = length-set s (t + 1) (sofar + x) ∙ f.starts-long;
             }

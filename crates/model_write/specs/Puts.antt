@@ -6,7 +6,7 @@ use Rattle.std.proofs.Math.Bool.{cond}
 use mathlib.Core.List.{List, [], ◌∷◌, ◌++◌, map, append-nil}
 use Rattle.std.proofs.Math.ListN.{length, get_or, length-map}
 use Rattle.rules.specs.Words.{from, front, joined}
-use Rattle.rules.specs.Lent.{Columns, shortest, entry_at, entries_at}
+use Rattle.rules.specs.Lent.{Columns, Entry, shortest, entry_at, entries_at}
 use Rattle.rules.specs.Table.{ForestTable, tree_at, trees_of}
 use Rattle.rules.specs.Bytes.{bytes_of, float_bytes}
 use Rattle.rules.specs.Model.{node_bytes, tree_bytes, file_of}
@@ -15,9 +15,8 @@ use Rattle.lemmas.specs.Scans.{from_next, range-end, range_all}
 use Rattle.lemmas.specs.Laid.{entries-long}
 use Rattle.lemmas.specs.ByteNumbers.{bytes-long}
 use Rattle.lemmas.specs.FileRead.{header_bytes, file-is}
-use Rattle.lemmas.specs.FileLength.{node_size, float-long, node-long, header-long}
+use Rattle.lemmas.specs.FileLength.{float-long, node-long, header-long}
 use Rattle.lemmas.specs.Spliced.{spliced, spliced-none, spliced-front, spliced-length, spliced-then}
-use Rattle.entries.specs.Entries.{entry_is}
 use Rattle.tables.specs.Table.{Lying}
 use Rattle.tables.specs.Laws.{start-below, start-inside}
 use Rattle.model_write.specs.Sizes.{node-high, leaf-long, split-long}
@@ -27,6 +26,14 @@ use Rattle.model_write.specs.Sizes.{node-high, leaf-long, split-long}
 -- what a split says more than a leaf
 abbrev pub cut_bytes : ℕ → Float → Float → List ℕ
 cut_bytes j t s = bytes_of 2 j ++ (float_bytes t ++ float_bytes s)
+
+-- what node k's split says
+abbrev pub cut_at : Columns → ℕ → List ℕ
+cut_at c k = cut_bytes (entry_at c k).feature (entry_at c k).threshold (entry_at c k).score
+
+-- all of it
+abbrev pub bytes_at : Columns → ℕ → List ℕ
+bytes_at c k = node_bytes (entry_at c k)
 
 -- bytes from place at on, and where the next ones come
 pub record Put (at : ℕ) (bytes old : List ℕ) (place : ℕ) (new : List ℕ) : Type 0 where
@@ -70,39 +77,36 @@ header-put features trees old {one} {two} x y z w h =
 
 -- ---- a node
 
-module _ (v : Float) (j : ℕ) (t s : Float) (y : ℕ) where
-  leaf-bytes : y ≡ 0 → float_bytes v ++ bytes_of 4 y ≡ node_bytes (entry_is v j t s y 0)
+module _ (e : Entry) where
+  leaf-bytes : e.true_child ≡ 0 → float_bytes e.value ++ bytes_of 4 e.true_child ≡ node_bytes e
   unfolding node_bytes
   leaf-bytes h =
-      ap (λ l. float_bytes v ++ l) (sym (append-nil (bytes_of 4 y)))
-      ∙ ap (λ b. float_bytes v ++ (bytes_of 4 y ++ cond b [] (cut_bytes j t s))) (sym (eq-eqb y 0 h))
+      ap (λ l. float_bytes e.value ++ l) (sym (append-nil (bytes_of 4 e.true_child)))
+      ∙ ap (λ b. float_bytes e.value ++ (bytes_of 4 e.true_child ++ cond b [] (cut_bytes e.feature e.threshold e.score))) (sym (eq-eqb e.true_child 0 h))
 
-  split-bytes : (y ≡ 0 → ⊥) → float_bytes v ++ (bytes_of 4 y ++ cut_bytes j t s) ≡ node_bytes (entry_is v j t s y 0)
+  split-bytes : (e.true_child ≡ 0 → ⊥) → float_bytes e.value ++ (bytes_of 4 e.true_child ++ cut_bytes e.feature e.threshold e.score) ≡ node_bytes e
   unfolding node_bytes
-  split-bytes h = ap (λ b. float_bytes v ++ (bytes_of 4 y ++ cond b [] (cut_bytes j t s))) (sym (ne_eqb y 0 h))
+  split-bytes h = ap (λ b. float_bytes e.value ++ (bytes_of 4 e.true_child ++ cond b [] (cut_bytes e.feature e.threshold e.score))) (sym (ne_eqb e.true_child 0 h))
 
-  -- the false child is not written
-  pub other-child : (o : ℕ) → node_bytes (entry_is v j t s y 0) ≡ node_bytes (entry_is v j t s y o)
-  unfolding node_bytes
-  other-child o = refl
+  module _ (at : ℕ) (old : List ℕ) {one two : List ℕ} (x : one ≡ spliced at (float_bytes e.value) old) (z : two ≡ spliced (at + 8) (bytes_of 4 e.true_child) one)
+      (h : at + length (node_bytes e) ≤ length old) where
+    pub leaf-put : e.true_child ≡ 0 → Put at (node_bytes e) old (at + 12) two
+    leaf-put n =
+        record {
+          next = omega (arith, node-long e, leaf-long e.true_child n);
+          file = spliced-then at (float_bytes e.value) (bytes_of 4 e.true_child) old x z (omega (arith, float-long e.value))
+              (omega (arith, float-long e.value, h, node-long e, node-high e.true_child))
+              ∙ ap (λ l. spliced at l old) (leaf-bytes n);
+        }
 
-  module _ (at : ℕ) (old : List ℕ) {one two : List ℕ} (x : one ≡ spliced at (float_bytes v) old) (z : two ≡ spliced (at + 8) (bytes_of 4 y) one) (h : at + node_size y ≤ length old)
-    where
-      pub leaf-put : y ≡ 0 → Put at (node_bytes (entry_is v j t s y 0)) old (at + 12) two
-      leaf-put e =
-          record {
-            next = omega (arith, node-long (entry_is v j t s y 0), leaf-long y e);
-            file = spliced-then at (float_bytes v) (bytes_of 4 y) old x z (omega (arith, float-long v)) (omega (arith, float-long v, h, node-high y))
-                ∙ ap (λ l. spliced at l old) (leaf-bytes e);
-          }
-
-      pub split-put : {new : List ℕ} → (y ≡ 0 → ⊥) → new ≡ spliced (at + 12) (cut_bytes j t s) two → Put at (node_bytes (entry_is v j t s y 0)) old (at + 30) new
-      split-put e w =
-          record {
-            next = omega (arith, node-long (entry_is v j t s y 0), split-long y e);
-            file = three-put at (float_bytes v) (bytes_of 4 y) (cut_bytes j t s) old x z w (omega (arith, float-long v)) (omega (arith, bytes-long 4 y)) (omega (arith, h, node-high y))
-                ∙ ap (λ l. spliced at l old) (split-bytes e);
-          }
+    pub split-put : {new : List ℕ} → (e.true_child ≡ 0 → ⊥) → new ≡ spliced (at + 12) (cut_bytes e.feature e.threshold e.score) two → Put at (node_bytes e) old (at + 30) new
+    split-put n w =
+        record {
+          next = omega (arith, node-long e, split-long e.true_child n);
+          file = three-put at (float_bytes e.value) (bytes_of 4 e.true_child) (cut_bytes e.feature e.threshold e.score) old x z w (omega (arith, float-long e.value))
+              (omega (arith, bytes-long 4 e.true_child)) (omega (arith, h, node-long e, node-high e.true_child))
+              ∙ ap (λ l. spliced at l old) (split-bytes n);
+        }
 
 -- ---- one after another: what the numbers from i up to e are written as
 
@@ -153,9 +157,7 @@ joined-mapped f g (x ∷ l) = ap (λ r. f (g x) ++ r) (joined-mapped f g l)
 
 -- ---- nodes, and a tree
 
-abbrev pub bytes_at : Columns → ℕ → List ℕ
-bytes_at c k = node_bytes (entry_at c k)
-
+-- what the nodes from place a up to place e are written as
 abbrev pub nodes_on : Columns → ℕ → ℕ → List ℕ
 nodes_on c e a = left (bytes_at c) e a
 
@@ -198,6 +200,7 @@ module _ {at a e : ℕ} {c : Columns} {old : List ℕ} (h : TreeFits at a e c ol
 
 -- ---- trees, and the file
 
+-- what tree t is written as
 abbrev pub tree_bytes_at : ForestTable → ℕ → List ℕ
 tree_bytes_at F t = tree_bytes (tree_at F.nodes F.starts t)
 

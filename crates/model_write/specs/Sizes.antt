@@ -22,6 +22,7 @@ tree_long ys a e = 4 + total (λ k. node_size (get_or ys k 0)) (from a (e - a))
 abbrev pub long_at : List ℕ → List ℕ → ℕ → ℕ
 long_at starts ys t = tree_long ys (get_or starts t 0) (get_or starts (t + 1) 0)
 
+-- all trees, after what the file says first
 unfoldable pub file_long : ℕ → List ℕ → List ℕ → ℕ
 file_long trees starts ys = 9 + total (long_at starts ys) (from 0 trees)
 
@@ -103,3 +104,8 @@ module _ (F : ForestTable) where
   size-long features =
       ap length (file-is features (trees_of F)) ∙ length-append (header_bytes features (length (trees_of F))) (joined tree_bytes (trees_of F))
       ∙ (λ i. header-long features (length (trees_of F)) i + trees-long i)
+
+-- the bytes so far are few
+pub sum-few : (starts ys : List ℕ) (t sum one : ℕ) → sum ≤ 9 + 4 * t + 30 * get_or starts t 0 → get_or starts t 0 < get_or starts (t + 1) 0 → one ≡ long_at starts ys t
+    → sum + one ≤ 9 + 4 * (t + 1) + 30 * get_or starts (t + 1) 0
+sum-few starts ys t sum one h below e = omega (arith, h, below, e, tree-low ys (get_or starts t 0) (get_or starts (t + 1) 0))

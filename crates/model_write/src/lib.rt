@@ -1,19 +1,19 @@
 // A forest's table as a file: how many bytes it takes, and the file written.
 #![tactic(auto)]
 
-ghost use Rattle.std.specs.Prelude.{◌≡◌, ◌+◌, ◌-◌, ◌≤◌, length};
+ghost use Rattle.std.specs.Prelude.{◌≡◌, ◌+◌, ◌-◌, ◌<◌, ◌≤◌, length};
 ghost use Rattle.rules.specs.Words.{front, joined};
-ghost use Rattle.rules.specs.Lent.{outcome_of, entries_at, columns_of};
-ghost use Rattle.rules.specs.Table.{trees_of, table_of};
-ghost use Rattle.rules.specs.Model.{node_bytes, tree_bytes, file_of, model_size, write_model};
+ghost use Rattle.rules.specs.Lent.{outcome_of, shortest, entries_at};
+ghost use Rattle.rules.specs.Slices.{columns_in, forest_in};
+ghost use Rattle.rules.specs.Table.{trees_of};
+ghost use Rattle.rules.specs.Model.{tree_bytes, file_of, model_size, write_model};
 ghost use Rattle.lemmas.specs.FileRead.{header_bytes};
 ghost use Rattle.lemmas.specs.FileLength.{node_size};
 ghost use Rattle.lemmas.specs.Spliced.{spliced};
-ghost use Rattle.entries.specs.Entries.{entry_is};
 ghost use Rattle.model_write.specs.Sizes.{tree_long, file_long, Reached, Counted};
-ghost use Rattle.model_write.specs.Puts.{cut_bytes, nodes_on, Put, NodesFit, TreeFits, FileFits};
+ghost use Rattle.model_write.specs.Puts.{cut_at, bytes_at, nodes_on, Put, NodesFit, TreeFits, FileFits};
 
-use rules::SizeReply;
+use rules::{SizeReply, Table, Trees};
 
 // ---- how many bytes
 
@@ -30,56 +30,32 @@ fn tree_size(a: usize, e: usize, truechild: &[u32]) -> usize
     ensures { result ≡ tree_long truechild.now a e }
 {
     let mut sum: usize = 4;
-    let mut k = a;
-    while k < e {
-        let one = node_size(truechild[k]);
-        sum += one;
-        k += 1;
+    for k in a..e {
+        sum += node_size(truechild[k]);
     }
     sum
 }
 
 // What a file says first, and its trees.
-fn file_size(trees: usize, starts: &[u32], truechild: &[u32]) -> usize
-    requires { Counted trees starts.now truechild.now }
-    ensures { result ≡ file_long trees starts.now truechild.now }
+fn file_size(forest: &Trees) -> usize
+    requires { Counted forest.now.number forest.now.starts.now forest.now.table.truechild.now }
+    ensures { result ≡ file_long forest.now.number forest.now.starts.now forest.now.table.truechild.now }
 {
     let mut sum: usize = 9;
-    let mut t: usize = 0;
-    while t < trees {
-        let next = t + 1;
-        let a = slices::wide(starts[t]);
-        let e = slices::wide(starts[next]);
-        let one = tree_size(a, e, truechild);
-        sum += one;
-        t += 1;
+    for t in 0..forest.number {
+        let a = forest.starts[t] as usize;
+        let e = forest.starts[t + 1] as usize;
+        sum += tree_size(a, e, forest.table.truechild);
     }
     sum
 }
 
 // How many bytes a forest's table takes as a file: refusals 1, 6 and 8.
-pub fn model_size(
-    features: usize,
-    trees: usize,
-    starts: &[u32],
-    value: &[f64],
-    feature: &[u32],
-    threshold: &[f64],
-    score: &[f64],
-    truechild: &[u32],
-    falsechild: &[u32],
-) -> SizeReply
-    ensures { result ≡ model_size features (table_of trees starts.now
-        (columns_of value.now feature.now threshold.now score.now truechild.now falsechild.now)) }
+pub fn model_size(features: usize, forest: &Trees) -> SizeReply
+    ensures { result ≡ model_size features (forest_in forest.now) }
 {
-    let number = tables::forest_verdict(
-        features, trees, starts, value, feature, threshold, score, truechild, falsechild,
-    );
-    if number != 0 {
-        return SizeReply::Refused(number);
-    }
-    let size = file_size(trees, starts, truechild);
-    SizeReply::Bytes(size)
+    tables::check_forest(features, forest)?;
+    Ok(file_size(forest))
 }
 
 // ---- written
@@ -95,188 +71,85 @@ fn put_header(file: &mut [u8], features: usize, trees: usize)
     bits::put_number(file, 7, 2, trees as u64);
 }
 
-fn put_cut(file: &mut [u8], at: usize, feature: u32, threshold: f64, score: f64)
-    requires { at + 18 ≤ length file.old }
-    ensures { file.new ≡ spliced at (cut_bytes feature threshold score) file.old }
+// What a split says more than a leaf.
+fn put_cut(file: &mut [u8], at: usize, table: &Table, k: usize)
+    requires inside { k < shortest (columns_in table.now) }
+    requires room { at + 18 ≤ length file.old }
+    ensures { file.new ≡ spliced at (cut_at (columns_in table.now) k) file.old }
 {
-    bits::put_number(file, at, 2, feature as u64);
-    bits::put_float(file, at + 2, threshold);
-    bits::put_float(file, at + 10, score);
+    bits::put_number(file, at, 2, table.feature[k] as u64);
+    bits::put_float(file, at + 2, table.threshold[k]);
+    bits::put_float(file, at + 10, table.score[k]);
 }
 
-// One node, and where the next one comes. Only a split says more than its value.
-fn put_node(
-    file: &mut [u8],
-    at: usize,
-    value: f64,
-    feature: u32,
-    threshold: f64,
-    score: f64,
-    truechild: u32,
-) -> usize
-    requires { at + node_size truechild ≤ length file.old }
-    ensures { Put at (node_bytes (entry_is value feature threshold score truechild 0)) file.old result file.new }
+// Node k, and where the next one comes. Its false child is the one after the true child, and is not written.
+fn put_node(file: &mut [u8], at: usize, table: &Table, k: usize) -> usize
+    requires inside { k < shortest (columns_in table.now) }
+    requires room { at + length (bytes_at (columns_in table.now) k) ≤ length file.old }
+    ensures { Put at (bytes_at (columns_in table.now) k) file.old result file.new }
 {
-    bits::put_float(file, at, value);
+    let truechild = table.truechild[k];
+    bits::put_float(file, at, table.value[k]);
     bits::put_number(file, at + 8, 4, truechild as u64);
-    let next = at + 12;
     if truechild == 0 {
-        return next;
+        return at + 12;
     }
-    put_cut(file, next, feature, threshold, score);
+    put_cut(file, at + 12, table, k);
     at + 30
 }
 
 // The nodes from place a up to place e, one after another.
-fn put_nodes(
-    file: &mut [u8],
-    at: usize,
-    a: usize,
-    e: usize,
-    value: &[f64],
-    feature: &[u32],
-    threshold: &[f64],
-    score: &[f64],
-    truechild: &[u32],
-    falsechild: &[u32],
-) -> usize
-    requires { NodesFit at a e (columns_of value.now feature.now threshold.now score.now truechild.now falsechild.now) file.old }
-    ensures { Put at (nodes_on (columns_of value.now feature.now threshold.now score.now
-        truechild.now falsechild.now) e a) file.old result file.new }
+fn put_nodes(file: &mut [u8], at: usize, a: usize, e: usize, table: &Table) -> usize
+    requires { NodesFit at a e (columns_in table.now) file.old }
+    ensures { Put at (nodes_on (columns_in table.now) e a) file.old result file.new }
 {
     let mut spot = at;
-    let mut k = a;
-    while k < e {
-        spot = put_node(
-            file,
-            spot,
-            value[k],
-            feature[k],
-            threshold[k],
-            score[k],
-            truechild[k],
-        );
-        k += 1;
+    for k in a..e {
+        spot = put_node(file, spot, table, k);
     }
     spot
 }
 
 // A tree: how many nodes it has, and its nodes.
-fn put_tree(
-    file: &mut [u8],
-    at: usize,
-    a: usize,
-    e: usize,
-    value: &[f64],
-    feature: &[u32],
-    threshold: &[f64],
-    score: &[f64],
-    truechild: &[u32],
-    falsechild: &[u32],
-) -> usize
-    requires { TreeFits at a e (columns_of value.now feature.now threshold.now score.now truechild.now falsechild.now) file.old }
-    ensures { Put at (tree_bytes (entries_at (columns_of value.now feature.now threshold.now score.now
-        truechild.now falsechild.now) a (e - a))) file.old result file.new }
+fn put_tree(file: &mut [u8], at: usize, a: usize, e: usize, table: &Table) -> usize
+    requires { TreeFits at a e (columns_in table.now) file.old }
+    ensures { Put at (tree_bytes (entries_at (columns_in table.now) a (e - a))) file.old result file.new }
 {
-    let n = e - a;
-    bits::put_number(file, at, 4, n as u64);
-    put_nodes(
-        file,
-        at + 4,
-        a,
-        e,
-        value,
-        feature,
-        threshold,
-        score,
-        truechild,
-        falsechild,
-    )
+    bits::put_number(file, at, 4, (e - a) as u64);
+    put_nodes(file, at + 4, a, e, table)
 }
 
 // All trees, after what the file says first.
-fn put_trees(
-    file: &mut [u8],
-    trees: usize,
-    starts: &[u32],
-    value: &[f64],
-    feature: &[u32],
-    threshold: &[f64],
-    score: &[f64],
-    truechild: &[u32],
-    falsechild: &[u32],
-)
-    requires { FileFits (table_of trees starts.now (columns_of value.now feature.now threshold.now score.now truechild.now falsechild.now)) file.old }
-    ensures { file.new ≡ spliced 9 (joined tree_bytes (trees_of (table_of trees starts.now
-        (columns_of value.now feature.now threshold.now score.now truechild.now falsechild.now))))
-        file.old }
+fn put_trees(file: &mut [u8], forest: &Trees)
+    requires { FileFits (forest_in forest.now) file.old }
+    ensures { file.new ≡ spliced 9 (joined tree_bytes (trees_of (forest_in forest.now))) file.old }
 {
     let mut spot: usize = 9;
-    let mut t: usize = 0;
-    while t < trees {
-        let next = t + 1;
-        let a = slices::wide(starts[t]);
-        let e = slices::wide(starts[next]);
-        spot = put_tree(
-            file, spot, a, e, value, feature, threshold, score, truechild, falsechild,
-        );
-        t += 1;
+    for t in 0..forest.number {
+        let a = forest.starts[t] as usize;
+        let e = forest.starts[t + 1] as usize;
+        spot = put_tree(file, spot, a, e, &forest.table);
     }
 }
 
 // The file, at the front of a room that is long enough.
-fn put_file(
-    file: &mut [u8],
-    features: usize,
-    trees: usize,
-    starts: &[u32],
-    value: &[f64],
-    feature: &[u32],
-    threshold: &[f64],
-    score: &[f64],
-    truechild: &[u32],
-    falsechild: &[u32],
-)
-    requires { FileFits (table_of trees starts.now (columns_of value.now feature.now threshold.now score.now truechild.now falsechild.now)) file.old }
-    ensures { file.new ≡ front (file_of features (trees_of (table_of trees starts.now
-        (columns_of value.now feature.now threshold.now score.now truechild.now falsechild.now))))
-        file.old }
+fn put_file(file: &mut [u8], features: usize, forest: &Trees)
+    requires { FileFits (forest_in forest.now) file.old }
+    ensures { file.new ≡ front (file_of features (trees_of (forest_in forest.now))) file.old }
 {
-    put_header(file, features, trees);
-    put_trees(
-        file, trees, starts, value, feature, threshold, score, truechild, falsechild,
-    );
+    put_header(file, features, forest.number);
+    put_trees(file, forest);
 }
 
 // A forest's table as a file: refusals 1, 6 for the start table, 8, and 6 for the room.
-pub fn write_model(
-    features: usize,
-    trees: usize,
-    starts: &[u32],
-    value: &[f64],
-    feature: &[u32],
-    threshold: &[f64],
-    score: &[f64],
-    truechild: &[u32],
-    falsechild: &[u32],
-    file: &mut [u8],
-) -> SizeReply
-    ensures { outcome_of result file.new ≡ write_model features (table_of trees starts.now
-        (columns_of value.now feature.now threshold.now score.now truechild.now falsechild.now))
-        file.old }
+pub fn write_model(features: usize, forest: &Trees, file: &mut [u8]) -> SizeReply
+    ensures { outcome_of result file.new ≡ write_model features (forest_in forest.now) file.old }
 {
-    let number = tables::forest_verdict(
-        features, trees, starts, value, feature, threshold, score, truechild, falsechild,
-    );
-    if number != 0 {
-        return SizeReply::Refused(number);
-    }
-    let size = file_size(trees, starts, truechild);
+    tables::check_forest(features, forest)?;
+    let size = file_size(forest);
     if file.len() < size {
-        return SizeReply::Refused(6);
+        return Err(6);
     }
-    put_file(
-        file, features, trees, starts, value, feature, threshold, score, truechild, falsechild,
-    );
-    SizeReply::Bytes(size)
+    put_file(file, features, forest);
+    Ok(size)
 }

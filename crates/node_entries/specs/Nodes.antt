@@ -12,6 +12,7 @@ use Rattle.rules.specs.Fit.{entry_of, entries, write_behind}
 use Rattle.node_entries.specs.Entries.{NodeRoom}
 
 module _ {A : Type 0} (f : TreeNode → A) where
+  -- the nodes' field, then what the column held
   abbrev pub column_of : List TreeNode → List A → List A
   column_of ns old = map f ns ++ drop (length ns) old
 
@@ -62,6 +63,7 @@ module _ {A : Type 0} (f : TreeNode → A) where
 
 -- ---- the six columns
 
+-- a node's entry
 abbrev pub entry_for : TreeNode → Entry
 entry_for n = entry_of (value_of n.totals) n.kind
 
@@ -96,6 +98,7 @@ nodes-written old c ns h = λ i.
 
 -- ---- the eight columns
 
+-- they hold the nodes, and past them what they held
 pub record RoomIn (old : NodeRoom) (ns : List TreeNode) (c : NodeRoom) : Type 0 where
   pub nodes : NodesIn old.nodes ns c.nodes
   pub count : c.behind.count ≡ column_of (λ n. n.count) ns old.behind.count

@@ -1,13 +1,13 @@
 -- Entries written by the code's steps. Assumes nothing.
-use Rattle.std.specs.Prelude.{ℕ, ◌+◌, ◌≤◌, ◌≡◌, set, Float}
-use Rattle.std.proofs.Common.{le_trans, ap, ◌∙◌}
+use Rattle.std.specs.Prelude.{ℕ, ◌+◌, ◌≤◌, ◌≡◌, Float}
+use Rattle.std.proofs.Common.{le_trans, sym, ap, subst, ◌∙◌, length-set}
 use Rattle.rules.specs.Lent.{Columns}
-use Rattle.rules.specs.Totals.{value_of}
 use Rattle.criterion.specs.declared.Side.{Side}
 use Rattle.node_entries.specs.declared.WaitingNode.{WaitingNode}
 use Rattle.node_entries.specs.declared.NodeEntry.{NodeEntry}
-use Rattle.node_entries.specs.Entries.{LongAll, put_entry, NodeRoom, LongRoom, leaf_with, split_with, split_for, put_node, put_leaf, wrote_split}
+use Rattle.node_entries.specs.Entries.{LongAll, put_entry, NodeRoom, LongRoom, split_for, put_node, put_leaf, wrote_split, NodeLengths, node_lengths, leaf_for}
 
+-- fewer places
 pub long-less : (m n : ℕ) (c : Columns) → m ≤ n → LongAll n c → LongAll m c
 long-less m n c h l =
     record {
@@ -22,22 +22,35 @@ long-less m n c h l =
 pub room-less : (m n : ℕ) (c : NodeRoom) → m ≤ n → LongRoom n c → LongRoom m c
 room-less m n c h l = record { nodes = long-less m n c.nodes h l.nodes; count = le_trans h l.count; mass = le_trans h l.mass }
 
-pub node-is : (i : ℕ) (r : NodeEntry) (k : ℕ) (m : Float) (c : NodeRoom) {n : Columns} → n ≡ put_entry i r c.nodes
-    → ◌≡◌ {A = NodeRoom} (record { nodes = n; behind = record { count = set c.behind.count i k; mass = set c.behind.mass i m } }) (put_node i r k m c)
-unfolding put_node
-node-is i r k m c e = ap (λ z. record { nodes = z; behind = record { count = set c.behind.count i k; mass = set c.behind.mass i m } }) e
+-- nodes that are written leave every column as long as it was
+pub put-lengths : (i : ℕ) (r : NodeEntry) (k : ℕ) (m : Float) (c : NodeRoom) → node_lengths (put_node i r k m c) ≡ node_lengths c
+unfolding put_node put_entry
+put-lengths i r k m c = simp length-set
 
-pub leaf-is : (i : ℕ) (a : Side) (c : NodeRoom) {v : Float} {c' : NodeRoom} → v ≡ value_of a.totals → c' ≡ put_node i (leaf_with v) a.count a.totals.mass c → c' ≡ put_leaf i a c
-leaf-is i a c ev e = e ∙ ap (λ z. put_node i (leaf_with z) a.count a.totals.mass c) ev
+pub leaf-lengths : (i : ℕ) (a : Side) (c : NodeRoom) {c' : NodeRoom} → c' ≡ put_leaf i a c → node_lengths c' ≡ node_lengths c
+leaf-lengths i a c e = ap node_lengths e ∙ put-lengths i (leaf_for a.totals) a.count a.totals.mass c
 
-pub split-is : (w : WaitingNode) (k : ℕ) (q : Float) (n : ℕ) (c : NodeRoom) {i : ℕ} {v : Float} {c' : NodeRoom} → v ≡ value_of (record { sum = w.sum; mass = w.mass }) → i ≡ w.node
-    → c' ≡ put_node i (split_with w v q n) k w.mass c → c' ≡ put_node w.node (split_for w q n) k w.mass c
-split-is w k q n c {i} {v} ev ei e =
-    e ∙ ap (λ z. put_node z (split_with w v q n) k w.mass c) ei ∙ ap (λ z. put_node w.node (split_with w z q n) k w.mass c) ev
-
-pub wrote : (w : WaitingNode) (a b : Side) (q : Float) (n : ℕ) (c : NodeRoom) {k : ℕ} {c₁ c₂ c₃ : NodeRoom} → k ≡ n
-    → c₁ ≡ put_node w.node (split_for w q n) (a.count + b.count) w.mass c → c₂ ≡ put_leaf k a c₁ → c₃ ≡ put_leaf (k + 1) b c₂ → c₃ ≡ wrote_split w a b q n c
+pub split-lengths : (w : WaitingNode) (a b : Side) (q : Float) (n : ℕ) (c : NodeRoom) {c' : NodeRoom} → c' ≡ wrote_split w a b q n c → node_lengths c' ≡ node_lengths c
 unfolding wrote_split
-wrote w a b q n c {k} ek e₁ e₂ e₃ =
-    e₃ ∙ ap (put_leaf (k + 1) b) (e₂ ∙ ap (put_leaf k a) e₁)
-    ∙ ap (λ z. put_leaf (z + 1) b (put_leaf z a (put_node w.node (split_for w q n) (a.count + b.count) w.mass c))) ek
+split-lengths w a b q n c e =
+    ap node_lengths e
+    ∙ put-lengths (n + 1) (leaf_for b.totals) b.count b.totals.mass _
+    ∙ put-lengths n (leaf_for a.totals) a.count a.totals.mass _
+    ∙ put-lengths w.node (split_for w q n) (a.count + b.count) w.mass c
+
+-- as many places are enough in columns as long
+pub as-long : (n : ℕ) (c c' : NodeRoom) → node_lengths c' ≡ node_lengths c → LongRoom n c → LongRoom n c'
+as-long n c c' e l =
+    let at = λ (f : NodeLengths → ℕ) (h : n ≤ f (node_lengths c)). subst (λ z. n ≤ z) (sym (ap f e)) h in
+    record {
+      nodes = record {
+        value = at (λ z. z.value) l.nodes.value;
+        feature = at (λ z. z.feature) l.nodes.feature;
+        threshold = at (λ z. z.threshold) l.nodes.threshold;
+        score = at (λ z. z.score) l.nodes.score;
+        truechild = at (λ z. z.truechild) l.nodes.truechild;
+        falsechild = at (λ z. z.falsechild) l.nodes.falsechild;
+      };
+      count = at (λ z. z.count) l.count;
+      mass = at (λ z. z.mass) l.mass;
+    }

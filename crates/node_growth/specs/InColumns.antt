@@ -1,5 +1,5 @@
 -- A node in the work columns: its columns by its stretch, what a split leaves of them and of those below, and what a good node gives the code. Assumes nothing.
-use Rattle.std.specs.Prelude.{ℕ, zero, suc, ◌+◌, ◌-◌, ◌*◌, ◌<◌, ◌≤◌, ◌≡◌, refl, Bool, true, false, not, List, [], ◌∷◌, map, length, get_or, T, Float}
+use Rattle.std.specs.Prelude.{ℕ, zero, suc, ◌+◌, ◌-◌, ◌*◌, ◌<◌, ◌≤◌, ◌≡◌, refl, Bool, true, false, not, List, [], ◌∷◌, map, length, get_or, T, Float, Some, None}
 use Rattle.std.proofs.Common.{le_refl, le_trans, zero-add, arith, sym, ap, ◌∙◌, subst, length-take}
 use Rattle.std.proofs.lemmas.Simd.{map-map}
 use Rattle.std.proofs.lemmas.List.{length-map}
@@ -7,8 +7,7 @@ use Rattle.std.specs.Float.Ieee.{le}
 use Rattle.floats.specs.Order.{stays_out}
 use Rattle.rules.specs.declared.Params.{Params}
 use Rattle.rules.specs.declared.Cut.{Cut}
-use Rattle.rules.specs.declared.Held.{Held}
-use Rattle.rules.specs.declared.Held.TheVariants.{Nothing, Holds}
+use Rattle.rules.specs.Results.{Held}
 use Rattle.rules.specs.Fit.{element_in}
 use Rattle.rules.specs.Search.{Element, Column, at, goes_true, tally, totals_of, side_of}
 use Rattle.rules.specs.Growth.{child}
@@ -23,13 +22,12 @@ use Rattle.work_columns.specs.Split.{Alike, goes}
 use Rattle.work_columns.specs.Stretches.{part-every}
 use Rattle.criterion.specs.declared.Side.{Side}
 use Rattle.criterion.specs.Sides.{side_on}
-use Rattle.search.specs.declared.Search.{Search}
-use Rattle.search.specs.declared.Search.TheVariants as S
-use Rattle.search.specs.Flat.{Tables, Shaped, element_of, Sorted, RowsFor, NodeAsks, RowsAfter}
+use Rattle.search.specs.Flat.{Tables, Shaped, element_of, Sorted, RowsFor, NodeAsks}
 use Rattle.node_entries.specs.declared.WaitingNode.{WaitingNode}
 use Rattle.node_entries.specs.Entries.{waiting_at}
-use Rattle.node_growth.specs.Rooms.{Ground, cut_of, split_rows, count_of, truly, node_rows, waiting_of, waiting_list, Laid, BelowTo, RowsUnder, RowsTo, HeldIn, FoundIn}
+use Rattle.node_growth.specs.Rooms.{Ground, cut_of, split_rows, count_of, truly, node_rows, waiting_of, waiting_list, Laid, BelowTo, RowsUnder, HeldIn}
 
+-- the same over other work columns
 abbrev pub with_order : Ground → List ℕ → Ground
 with_order g order = record { rows = g.rows; features = g.features; tables = g.tables; order = order }
 
@@ -183,8 +181,8 @@ part-short rows order a e k = simp length-take (omega arith)
 
 module _ (g : Ground) (a e : ℕ) (q : Side) (n : NodeAsks g.rows g.features a e g.tables g.order q.count) where
   held_in : (h : Held) (m : ℕ) → RowsFor g.features (node_rows g a e q) h m → HeldIn g a e q h m
-  held_in Nothing m r = tt
-  held_in (Holds c p) m r = (
+  held_in None m r = tt
+  held_in (Some (c, p)) m r = (
     n.room c.feature r.0,
     r.1 ∙ ap (λ es. length (keep (goes_true c) es)) (sym (column-at g a e c.feature r.0))
         ∙ ap length (keep-map (goes_true c) (element_of g.features g.tables) rows) ∙ length-map (keep (goes (element_of g.features g.tables) c) rows) (element_of g.features g.tables),
@@ -193,18 +191,13 @@ module _ (g : Ground) (a e : ℕ) (q : Side) (n : NodeAsks g.rows g.features a e
       rows : List ℕ
       rows = part g.rows c.feature a e g.order
 
-  pub found_in : (f : ℕ) → g.features ≡ f → (r : Search) → RowsAfter f (node_rows g a e q) r → FoundIn g a e q r
-  found_in f sm S.Refused h = tt
-  found_in f sm (S.Goes c d) h = held_in c.held c.rows (subst (λ k. RowsFor k (node_rows g a e q) c.held c.rows) (sym sm) h)
+  pub held_for : (f : ℕ) → g.features ≡ f → (h : Held) (m : ℕ) → RowsFor f (node_rows g a e q) h m → HeldIn g a e q h m
+  held_for f sm h m r = held_in h m (subst (λ k. RowsFor k (node_rows g a e q) h m) (sym sm) r)
 
-held-short : (g : Ground) (a e : ℕ) (q : Side) (h : Held) (m : ℕ) → HeldIn g a e q h m → RowsUnder e h m
-held-short g a e q Nothing m k = tt
-held-short g a e q (Holds c p) m k =
+pub held-short : (g : Ground) (a e : ℕ) (q : Side) (h : Held) (m : ℕ) → HeldIn g a e q h m → RowsUnder e h m
+held-short g a e q None m k = tt
+held-short g a e q (Some (c, p)) m k =
     omega (arith, k.1, keep-short (goes (element_of g.features g.tables) c) (part g.rows c.feature a e g.order), part-short g.rows g.order a e c.feature)
-
-pub found-short : (g : Ground) (a e : ℕ) (q : Side) (r : Search) → FoundIn g a e q r → RowsTo e r
-found-short g a e q S.Refused k = tt
-found-short g a e q (S.Goes h d) k = held-short g a e q h.held h.rows k
 
 -- ---- rows of a stretch
 

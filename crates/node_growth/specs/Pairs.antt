@@ -1,10 +1,10 @@
 -- Two nodes that lie side by side and are still to be searched: a split node's children, or the root, whose second side is empty. What their searches come to,
 -- one after the other, and the loop over them. Assumes nothing.
 use Prim.Native.Nat.{ℕ, zero, suc, ◌+◌, ◌-◌, ◌<◌, ◌≤◌}
-use Rattle.std.proofs.Math.Nat.{le_refl, sub-zero}
+use Rattle.std.proofs.Math.Nat.{le_refl}
 use native.Mathlib.Omega.{arith}
-use Rattle.std.proofs.Common.{add-one, ◌∙◌, lt-ltb, le-ltb}
-use Rattle.std.specs.Prelude.{◌≡◌, refl, Bool, true, false, cond, ◌||◌, length, ltb, Float}
+use Rattle.std.proofs.Common.{add-one, ◌∙◌}
+use Rattle.std.specs.Prelude.{◌≡◌, Bool, true, false, cond, ◌||◌, length, ltb, Float, Ok, Err}
 use Rattle.std.proofs.Math.Path.{sym, ap, subst}
 use mathlib.Core.List.{List, ◌++◌}
 use Rattle.rules.specs.declared.Params.{Params}
@@ -23,30 +23,36 @@ use Rattle.node_entries.specs.declared.WaitingNode.{WaitingNode}
 use Rattle.node_growth.specs.declared.Pair.{Pair}
 use Rattle.node_growth.specs.declared.Stretch.{Stretch}
 use Rattle.node_growth.specs.declared.Stand.{Stand}
-use Rattle.node_growth.specs.declared.Step.{Step}
-use Rattle.node_growth.specs.declared.Step.TheVariants.{Refused, Goes}
-use Rattle.node_growth.specs.Rooms.{Ground, node_rows, waiting_list, Laid, meant_step, LaidStep, MostStep, FairStep, ChildAsks, ChildDone}
+use Rattle.node_growth.specs.declared.BadSearch.{BadSearch}
+use Rattle.node_growth.specs.Rooms.{Ground, Step, node_rows, waiting_list, Laid, meant_step, LaidStep, MostStep, FairStep, ChildDone}
 
 -- ---- one of the two
 
+-- where its rows begin and end, and what it has
+abbrev pub from_at : Pair → ℕ → ℕ
+from_at q zero = q.from
+from_at q (suc k) = q.mid
+
+abbrev pub to_at : Pair → ℕ → ℕ
+to_at q zero = q.mid
+to_at q (suc k) = q.to
+
+abbrev pub side_at : Pair → ℕ → Side
+side_at q zero = q.first
+side_at q (suc k) = q.second
+
+-- side k of the two
 abbrev pub stretch_at : Pair → ℕ → Stretch
-stretch_at q zero = record { from = q.from; to = q.mid; side = q.first }
-stretch_at q (suc k) = record { from = q.mid; to = q.to; side = q.second }
+stretch_at q k = record { node = q.node + k; level = q.level; from = from_at q k; to = to_at q k; side = side_at q k }
 
-pub stretch-first : (q : Pair) (k : ℕ) → k ≡ 0 → ◌≡◌ {A = Stretch} (record { from = q.from; to = q.mid; side = q.first }) (stretch_at q k)
-stretch-first q k e = sym (ap (stretch_at q) e)
-
-pub stretch-second : (q : Pair) (k : ℕ) → (k ≡ 0 → ⊥) → ◌≡◌ {A = Stretch} (record { from = q.mid; to = q.to; side = q.second }) (stretch_at q k)
-stretch-second q zero h = absurd (h refl)
-stretch-second q (suc k) h = refl
-
+-- its rows, as a node's
 abbrev pub rows_at : Ground → Pair → ℕ → NodeRows
 rows_at g q k = node_rows g (stretch_at q k).from (stretch_at q k).to (stretch_at q k).side
 
 -- where the first k of them end
 abbrev pub edge : Pair → ℕ → ℕ
 edge q zero = q.from
-edge q (suc k) = (stretch_at q k).to
+edge q (suc k) = to_at q k
 
 -- ---- their searches
 
@@ -61,12 +67,14 @@ sought_from g P q (suc m) k ws d =
 abbrev pub sought : Ground → Params → List ℕ → List Float → List (List ℕ) → List (List Float) → Pair → Stand → Out (List Waiting × Tapes)
 sought g P W M wholes reals q s = sought_from g P q q.sides 0 (waiting_list g wholes reals s.waiting) (draws_at W M s.drawn)
 
+-- what the search of side k asks
 pub record SideAsks (g : Ground) (room_wholes room_reals : ℕ) (q : Pair) (s : Stand) (k : ℕ) : Type 0 where
   pub node : NodeAsks g.rows g.features (stretch_at q k).from (stretch_at q k).to g.tables g.order (stretch_at q k).side.count
   pub place : s.waiting + k ≤ (stretch_at q k).from
   pub wholes : s.waiting + k < room_wholes
   pub reals : s.waiting + k < room_reals
 
+-- what the searches of a pair ask
 pub record PairAsks (g : Ground) (P : Params) (W : List ℕ) (wholes : List (List ℕ)) (reals : List (List Float)) (q : Pair) (s : Stand) : Type 0 where
   pub same : g.features ≡ P.features
   pub few : g.features ≤ 1024
@@ -77,6 +85,7 @@ pub record PairAsks (g : Ground) (P : Params) (W : List ℕ) (wholes : List (Lis
   pub each : (k : ℕ) → k < q.sides → SideAsks g (length wholes) (length reals) q s k
   pub laid : Laid g wholes reals q.from s.waiting
 
+-- what they leave
 pub record PairDone (g : Ground) (P : Params) (W : List ℕ) (M : List Float) (wholes : List (List ℕ)) (reals : List (List Float)) (wholes' : List (List ℕ)) (reals' : List (List Float))
     (q : Pair) (s : Stand) (r : Step) : Type 0 where
   pub same : sought g P W M wholes reals q s ≡ meant_step g W M wholes' reals' r
@@ -92,55 +101,14 @@ pub record Searching (g : Ground) (P : Params) (W : List ℕ) (M : List Float) (
   pub laid : Laid g wholes reals (edge q k) t.waiting
   pub most : t.waiting ≤ s.waiting + k
   pub fair : Fair W t.drawn
-  pub waiting-wholes : length wholes ≡ length wholes₀
-  pub waiting-reals : length reals ≡ length reals₀
 
 module _ (g : Ground) (P : Params) (W : List ℕ) (M : List Float) (wholes₀ : List (List ℕ)) (reals₀ : List (List Float)) (q : Pair) (s : Stand) (h : PairAsks g P W wholes₀ reals₀ q s) where
-  pub searching-first : Searching g P W M wholes₀ reals₀ q s wholes₀ reals₀ s 0
-  searching-first =
-      record {
-        within = omega arith;
-        same = ap (λ n. sought_from g P q n 0 (waiting_list g wholes₀ reals₀ s.waiting) (draws_at W M s.drawn)) (sub-zero q.sides);
-        laid = h.laid;
-        most = omega arith;
-        fair = h.fair;
-        waiting-wholes = refl;
-        waiting-reals = refl;
-      }
-
   module _ (wholes : List (List ℕ)) (reals : List (List Float)) (t : Stand) (k : ℕ) (i : Searching g P W M wholes₀ reals₀ q s wholes reals t k) where
-    pub searching-end : q.sides ≤ k → PairDone g P W M wholes₀ reals₀ wholes reals q s (Goes t)
-    searching-end e =
-        record {
-          same = sym i.same ∙ ap (λ n. sought_from g P q n k (waiting_list g wholes reals t.waiting) (draws_at W M t.drawn)) (none q.sides k e);
-          laid = subst (λ n. Laid g wholes reals (edge q n) t.waiting) (all k q.sides i.within e) i.laid;
-          fair = i.fair;
-        }
-      where
-        none : (n k : ℕ) → n ≤ k → n - k ≡ 0
-        none n k e = omega arith
-
-        all : (k n : ℕ) → k ≤ n → n ≤ k → k ≡ n
-        all k n a b = omega arith
-
     module _ (m : k < q.sides) where
-      pub child-asks : {c : Stretch} → c ≡ stretch_at q k → ChildAsks g P W c.from c.to c.side t (length wholes) (length reals)
-      child-asks {c} e =
-          subst (λ (z : Stretch). ChildAsks g P W z.from z.to z.side t (length wholes) (length reals)) (sym e)
-          (record {
-            node = (h.each k m).node;
-            same = h.same;
-            few = h.few;
-            some = h.some;
-            fair = i.fair;
-            wholes = omega (arith, i.most, (h.each k m).wholes, i.waiting-wholes);
-            reals = omega (arith, i.most, (h.each k m).reals, i.waiting-reals);
-          })
-
       module _ {c : Stretch} (e : c ≡ stretch_at q k) (wholes' : List (List ℕ)) (reals' : List (List Float)) (r : Step)
-          (d : ChildDone g P W M wholes reals wholes' reals' (q.node + k) q.level c.from c.to c.side t r) where
-        d' : ChildDone g P W M wholes reals wholes' reals' (q.node + k) q.level (stretch_at q k).from (stretch_at q k).to (stretch_at q k).side t r
-        d' = subst (λ (z : Stretch). ChildDone g P W M wholes reals wholes' reals' (q.node + k) q.level z.from z.to z.side t r) e d
+          (d : ChildDone g P W M wholes reals wholes' reals' c t r) where
+        d' : ChildDone g P W M wholes reals wholes' reals' (stretch_at q k) t r
+        d' = subst (λ z. ChildDone g P W M wholes reals wholes' reals' z t r) e d
 
         next : List Waiting × Tapes → Out (List Waiting × Tapes)
         next o = sought_from g P q (q.sides - (k + 1)) (k + 1) o.0 o.1
@@ -160,13 +128,13 @@ module _ (g : Ground) (P : Params) (W : List ℕ) (M : List Float) (wholes₀ : 
             one_more : (n k : ℕ) → k < n → n - k ≡ suc (n - (k + 1))
             one_more n k h = omega arith
 
-        pub searching-stop : (z : ℕ) → r ≡ Refused z → PairDone g P W M wholes₀ reals₀ wholes' reals' q s (Refused z)
+        pub searching-stop : (z : BadSearch) → r ≡ Err z → PairDone g P W M wholes₀ reals₀ wholes' reals' q s (Err z)
         unfolding bind
         searching-stop z er = record { same = stepped ∙ ap (λ z. bind (meant_step g W M wholes' reals' z) next) er; laid = tt; fair = tt }
 
-        pub searching-on : (u : Stand) → r ≡ Goes u → length wholes' ≡ length wholes → length reals' ≡ length reals → Searching g P W M wholes₀ reals₀ q s wholes' reals' u (k + 1)
+        pub searching-on : (u : Stand) → r ≡ Ok u → Searching g P W M wholes₀ reals₀ q s wholes' reals' u (k + 1)
         unfolding bind next
-        searching-on u er lw lr =
+        searching-on u er =
             record {
               within = omega (arith, m);
               same = sym (stepped ∙ ap (λ z. bind (meant_step g W M wholes' reals' z) next) er);
@@ -175,8 +143,6 @@ module _ (g : Ground) (P : Params) (W : List ℕ) (M : List Float) (wholes₀ : 
                   (d'.laid (edge q k) i.laid (omega (arith, i.most, (h.each k m).place)) (reached k (omega (arith, m, h.two))) (h.each k m).node.ordered));
               most = let n : u.waiting ≤ t.waiting + 1 = subst (MostStep (t.waiting + 1)) er d'.most in omega (arith, n, i.most);
               fair = subst (FairStep W) er d'.fair;
-              waiting-wholes = lw ∙ i.waiting-wholes;
-              waiting-reals = lr ∙ i.waiting-reals;
             }
           where
             reached : (k : ℕ) → k < 2 → edge q k ≤ (stretch_at q k).from
@@ -189,24 +155,19 @@ module _ (g : Ground) (P : Params) (W : List ℕ) (M : List Float) (wholes₀ : 
 
 -- ---- the root, and a split node's children
 
+-- how many sides of the root are left to search
 unfoldable pub root_sides : ℕ → ℕ
 root_sides n = cond (ltb 0 n) 1 0
-
-pub root-some : (n : ℕ) → 0 < n → 1 ≡ root_sides n
-unfolding root_sides
-root-some n h = ap (λ b. cond b 1 0) (sym (lt-ltb 0 n h))
-
-pub root_none : (n : ℕ) → n ≤ 0 → 0 ≡ root_sides n
-unfolding root_sides
-root_none n h = ap (λ b. cond b 1 0) (sym (le-ltb 0 n h))
 
 -- with so many sides to search
 abbrev pub root_with : ℕ → Side → ℕ → Pair
 root_with kept root sides = record { node = 0; level = 1; from = 0; mid = kept; to = kept; first = root; second = root; sides = sides }
 
+-- with as many as are left
 abbrev pub root_pair : ℕ → Side → Pair
 root_pair kept root = root_with kept root (root_sides root.count)
 
+-- both children, if either is searched
 unfoldable pub child_sides : Params → ℕ → Side → Side → ℕ
 child_sides P level a b = cond (searchable P level (bare a) || searchable P level (bare b)) 2 0
 
@@ -218,10 +179,12 @@ pub child-neither : (P : Params) (level : ℕ) (a b : Side) → (searchable P le
 unfolding child_sides
 child-neither P level a b h = ap (λ z. cond z 2 0) (sym h)
 
+-- a split node's children, with so many sides to search
 abbrev pub children_with : WaitingNode → ℕ → Sides → ℕ → Pair
 children_with w n h sides =
     record { node = n; level = w.level + 1; from = w.start; mid = w.start + h.rows; to = w.end; first = h.trueside; second = h.falseside; sides = sides }
 
+-- with as many as are left
 abbrev pub children_of : Params → WaitingNode → ℕ → Sides → Pair
 children_of P w n h = children_with w n h (child_sides P (w.level + 1) h.trueside h.falseside)
 
@@ -238,28 +201,8 @@ pub record PartAsks (rows features : ℕ) (order : List ℕ) (scratch : ℕ) (fl
   pub level : w.level + 1 < 4294967296
   pub mid : w.start + h.rows < 4294967296
 
+-- the children, and the columns parted where a child is searched
 pub record PartDone (rows features : ℕ) (order order' : List ℕ) (flags : List Bool) (P : Params) (w : WaitingNode) (n : ℕ) (h : Sides) (q : Pair) : Type 0 where
   pub pair : q ≡ children_of P w n h
   pub searched : (q.sides ≡ 0 → ⊥) → order' ≡ parted_columns rows w.start w.end (flagged flags) features order
   pub skipped : q.sides ≡ 0 → order' ≡ order
-
--- the ends as the code widened them
-module _ (rows features : ℕ) (order : List ℕ) (flags : List Bool) (w : WaitingNode) (h : Sides) {a e : ℕ} (ea : a ≡ w.start) (ee : e ≡ w.end) where
-  pub part-may : {k scratch : ℕ} → k ≡ w.feature → PartAsks rows features order scratch flags w h
-      → ColumnsAsk rows features a e order scratch (length flags) × (parted (flagged flags) (part rows k a e order) ≡ part rows k a e order)
-  part-may {k} {scratch} ek q = (
-    subst (λ z. ColumnsAsk rows features z e order scratch (length flags)) (sym ea) (subst (λ z. ColumnsAsk rows features w.start z order scratch (length flags)) (sym ee) q.columns),
-    ap (parted (flagged flags)) there ∙ q.split ∙ sym there,
-  )
-    where
-      there : part rows k a e order ≡ part rows w.feature w.start w.end order
-      there i = part rows (ek i) (ea i) (ee i) order
-
-  pub part-did : (P : Params) (n : ℕ) {q : Pair} → q ≡ children_of P w n h → (q.sides ≡ 0 → ⊥) → {order' : List ℕ}
-      → order' ≡ parted_columns rows a e (flagged flags) features order → PartDone rows features order order' flags P w n h q
-  part-did P n eq some p =
-      record { pair = eq; searched = λ u. p ∙ (λ i. parted_columns rows (ea i) (ee i) (flagged flags) features order); skipped = λ none. absurd (some none) }
-
-pub part-not : (rows features : ℕ) (order : List ℕ) (flags : List Bool) (P : Params) (w : WaitingNode) (n : ℕ) (h : Sides) {q : Pair} → q ≡ children_of P w n h → q.sides ≡ 0
-    → PartDone rows features order order flags P w n h q
-part-not rows features order flags P w n h eq none = record { pair = eq; searched = λ some. absurd (some none); skipped = λ u. refl }

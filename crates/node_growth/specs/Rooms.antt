@@ -1,12 +1,13 @@
 -- The rooms of a growth, and what they stand for: the waiting list is read off the two lists of arrays and the work columns; a node column is the nodes' field, then what it held.
 -- Definitions only. Assumes nothing.
-use Rattle.std.specs.Prelude.{ℕ, zero, suc, ◌+◌, ◌*◌, ◌<◌, ◌≤◌, ◌≡◌, List, [], ◌∷◌, ◌++◌, map, length, Float}
+use Rattle.std.specs.Prelude.{ℕ, zero, suc, ◌+◌, ◌*◌, ◌<◌, ◌≤◌, ◌≡◌, List, [], ◌∷◌, ◌++◌, map, length, Float, Some, None, Result, Ok, Err}
 use Rattle.rules.specs.declared.Params.{Params}
 use Rattle.rules.specs.declared.Cut.{Cut}
-use Rattle.rules.specs.declared.Held.{Held}
-use Rattle.rules.specs.declared.Held.TheVariants.{Nothing, Holds}
+use Rattle.rules.specs.declared.Input.{Input}
+use Rattle.rules.specs.declared.Shape.{Shape}
+use Rattle.rules.specs.Results.{Held}
 use Rattle.rules.specs.Words.{keep}
-use Rattle.rules.specs.Search.{NodeRows, tally, search}
+use Rattle.rules.specs.Search.{NodeRows, tally, search, found}
 use Rattle.rules.specs.Growth.{Waiting, joins, searchable, search_if}
 use Rattle.rules.specs.Draws.{Out, bad, ok, bind, Tapes, tape}
 use Rattle.rules.specs.Totals.{score}
@@ -16,15 +17,14 @@ use Rattle.lemmas.specs.Work.{part}
 use Rattle.work_columns.specs.declared.Sides.{Sides}
 use Rattle.work_columns.specs.Split.{goes}
 use Rattle.criterion.specs.declared.Side.{Side}
+use Rattle.candidates.specs.declared.Candidate.{Candidate}
 use Rattle.search.specs.declared.Drawn.{Drawn}
-use Rattle.search.specs.declared.Search.{Search}
-use Rattle.search.specs.declared.Search.TheVariants as S
-use Rattle.search.specs.Flat.{Tables, tables_of, Shaped, NodeAsks, element_of, node_rows_at, draws_at, Fair, FairAfter, meant}
+use Rattle.search.specs.Flat.{Tables, tables_of, Shaped, NodeAsks, element_of, node_rows_at, draws_at, Fair}
 use Rattle.node_entries.specs.declared.WaitingNode.{WaitingNode}
 use Rattle.node_entries.specs.Entries.{NodeRoom, waiting_at, wrote_split}
 use Rattle.node_growth.specs.declared.Stand.{Stand}
-use Rattle.node_growth.specs.declared.Step.{Step}
-use Rattle.node_growth.specs.declared.Step.TheVariants.{Refused, Goes}
+use Rattle.node_growth.specs.declared.BadSearch.{BadSearch}
+use Rattle.node_growth.specs.declared.Stretch.{Stretch}
 
 -- what a waiting node's rows are read off
 pub record Ground : Type 0 where
@@ -38,6 +38,10 @@ abbrev pub ground_of : ℕ → ℕ → List Float → List Float → List Float 
 ground_of rows features values targets weights counts order =
     record { rows = rows; features = features; tables = tables_of values targets weights counts; order = order }
 
+-- from what is lent
+abbrev pub ground_in : Shape → Input → List ℕ → Ground
+ground_in shape d order = ground_of shape.rows shape.features d.values.now d.targets.now d.weights.now d.counts.now order
+
 -- the rows of the first n places of every column
 abbrev pub BelowTo : Ground → ℕ → Type 0
 BelowTo g n = (k : ℕ) → k < g.features → Every (λ r. r < g.rows) (part g.rows k 0 n g.order)
@@ -46,18 +50,23 @@ BelowTo g n = (k : ℕ) → k < g.features → Every (λ r. r < g.rows) (part g.
 abbrev pub split_rows : Ground → WaitingNode → List ℕ
 split_rows g e = part g.rows e.feature e.start e.end g.order
 
+-- the sum of the counts of these rows
 abbrev pub count_of : Ground → List ℕ → ℕ
 count_of g l = tally (map (element_of g.features g.tables) l)
 
+-- a waiting node's totals and count
 abbrev pub asked_of : Ground → WaitingNode → Side
 asked_of g e = record { totals = record { sum = e.sum; mass = e.mass }; count = count_of g (split_rows g e) }
 
+-- its cut
 abbrev pub cut_of : WaitingNode → Cut
 cut_of e = record { feature = e.feature; threshold = e.cut }
 
+-- a stretch of the columns as a node's rows
 abbrev pub node_rows : Ground → ℕ → ℕ → Side → NodeRows
 node_rows g a e q = node_rows_at g.rows g.features a e g.tables g.order q
 
+-- a waiting node as the rules have it
 abbrev pub waiting_of : Ground → WaitingNode → Waiting
 waiting_of g e = record { number = e.node; level = e.level; node = node_rows g e.start e.end (asked_of g e); cut = cut_of e }
 
@@ -90,50 +99,52 @@ wrote_sides w h n c = wrote_split w h.trueside h.falseside (score h.trueside.tot
 
 -- ---- what a child's search leaves
 
+-- how searches end: how it stands, or the bad draw
+abbrev pub Step : Type 0
+Step = Result Stand BadSearch
+
+-- as the definition answers
 abbrev pub meant_step : Ground → List ℕ → List Float → List (List ℕ) → List (List Float) → Step → Out (List Waiting × Tapes)
-meant_step g W M wholes reals (Refused k) = bad k
-meant_step g W M wholes reals (Goes s) = ok (waiting_list g wholes reals s.waiting, draws_at W M s.drawn)
+meant_step g W M wholes reals (Err b) = bad b.search
+meant_step g W M wholes reals (Ok s) = ok (waiting_list g wholes reals s.waiting, draws_at W M s.drawn)
 
+-- where it goes on, the stretches lie one after another
 abbrev pub LaidStep : Ground → List (List ℕ) → List (List Float) → ℕ → Step → Type 0
-LaidStep g wholes reals high (Refused k) = Unit {0}
-LaidStep g wholes reals high (Goes s) = Laid g wholes reals high s.waiting
+LaidStep g wholes reals high (Err b) = Unit {0}
+LaidStep g wholes reals high (Ok s) = Laid g wholes reals high s.waiting
 
+-- where it goes on, at most n wait
 abbrev pub MostStep : ℕ → Step → Type 0
-MostStep n (Refused k) = Unit {0}
-MostStep n (Goes s) = s.waiting ≤ n
+MostStep n (Err b) = Unit {0}
+MostStep n (Ok s) = s.waiting ≤ n
 
+-- where it goes on, the tapes are used within their length
 abbrev pub FairStep : List ℕ → Step → Type 0
-FairStep W (Refused k) = Unit {0}
-FairStep W (Goes s) = Fair W s.drawn
+FairStep W (Err b) = Unit {0}
+FairStep W (Ok s) = Fair W s.drawn
 
 -- the cut that was found, with its rows: they are no more than e
 abbrev pub RowsUnder : ℕ → Held → ℕ → Type 0
-RowsUnder e Nothing n = Unit {0}
-RowsUnder e (Holds c p) n = n ≤ e
-
-abbrev pub RowsTo : ℕ → Search → Type 0
-RowsTo e S.Refused = Unit {0}
-RowsTo e (S.Goes h d) = RowsUnder e h.held h.rows
+RowsUnder e None n = Unit {0}
+RowsUnder e (Some (c, p)) n = n ≤ e
 
 -- in the column of the cut, they are those that go true, and all have the node's count
 abbrev pub HeldIn : Ground → ℕ → ℕ → Side → Held → ℕ → Type 0
-HeldIn g a e q Nothing n = Unit {0}
-HeldIn g a e q (Holds c p) n = (q.count ≡ count_of g (part g.rows c.feature a e g.order)) × (n ≡ truly g c (part g.rows c.feature a e g.order))
+HeldIn g a e q None n = Unit {0}
+HeldIn g a e q (Some (c, p)) n = (q.count ≡ count_of g (part g.rows c.feature a e g.order)) × (n ≡ truly g c (part g.rows c.feature a e g.order))
 
-abbrev pub FoundIn : Ground → ℕ → ℕ → Side → Search → Type 0
-FoundIn g a e q S.Refused = Unit {0}
-FoundIn g a e q (S.Goes h d) = HeldIn g a e q h.held h.rows
+-- what the search of c found is at the top of the list, or nothing was found
+pub record PushDone (wholes : List (List ℕ)) (reals : List (List Float)) (wholes' : List (List ℕ)) (reals' : List (List Float)) (n : ℕ) (c : Stretch) (h : Candidate) (d : Drawn)
+    (s : Stand) : Type 0 where
+  pub same : (g : Ground) → HeldIn g c.from c.to c.side h.held h.rows
+      → joins c.node c.level (node_rows g c.from c.to c.side) (found h.held) ++ waiting_list g wholes reals n ≡ waiting_list g wholes' reals' s.waiting
+  pub laid : (g : Ground) (low : ℕ) → HeldIn g c.from c.to c.side h.held h.rows → Laid g wholes reals low n → n ≤ c.from → low ≤ c.from → c.from ≤ c.to → Laid g wholes' reals' c.to s.waiting
+  pub most : s.waiting ≤ n + 1
+  pub drawn : s.drawn ≡ d
 
-pub record PushDone (wholes : List (List ℕ)) (reals : List (List Float)) (wholes' : List (List ℕ)) (reals' : List (List Float)) (n node level a e : ℕ) (q : Side)
-    (d : Drawn) (r : Search) (s : Step) : Type 0 where
-  pub same : (g : Ground) (W : List ℕ) (M : List Float) → FoundIn g a e q r
-      → bind (meant W M d r) (λ o. ok (joins node level (node_rows g a e q) o.0 ++ waiting_list g wholes reals n, o.1)) ≡ meant_step g W M wholes' reals' s
-  pub laid : (g : Ground) (low : ℕ) → FoundIn g a e q r → Laid g wholes reals low n → n ≤ a → low ≤ a → a ≤ e → LaidStep g wholes' reals' e s
-  pub most : MostStep (n + 1) s
-  pub fair : (W : List ℕ) → FairAfter W r → FairStep W s
-
-pub record ChildAsks (g : Ground) (P : Params) (W : List ℕ) (a e : ℕ) (q : Side) (s : Stand) (room_wholes room_reals : ℕ) : Type 0 where
-  pub node : NodeAsks g.rows g.features a e g.tables g.order q.count
+-- what the search of a child asks
+pub record ChildAsks (g : Ground) (P : Params) (W : List ℕ) (c : Stretch) (s : Stand) (room_wholes room_reals : ℕ) : Type 0 where
+  pub node : NodeAsks g.rows g.features c.from c.to g.tables g.order c.side.count
   pub same : g.features ≡ P.features
   pub few : g.features ≤ 1024
   pub some : 0 < g.features
@@ -141,12 +152,13 @@ pub record ChildAsks (g : Ground) (P : Params) (W : List ℕ) (a e : ℕ) (q : S
   pub wholes : s.waiting < room_wholes
   pub reals : s.waiting < room_reals
 
+-- what it leaves
 pub record ChildDone (g : Ground) (P : Params) (W : List ℕ) (M : List Float) (wholes : List (List ℕ)) (reals : List (List Float)) (wholes' : List (List ℕ)) (reals' : List (List Float))
-    (node level a e : ℕ) (q : Side) (s : Stand) (r : Step) : Type 0 where
-  pub same : bind (search_if P (search (tape P.features) P) (searchable P level (node_rows g a e q)) node level (node_rows g a e q) (draws_at W M s.drawn))
+    (c : Stretch) (s : Stand) (r : Step) : Type 0 where
+  pub same : bind (search_if P (search (tape P.features) P) (searchable P c.level (node_rows g c.from c.to c.side)) c.node c.level (node_rows g c.from c.to c.side) (draws_at W M s.drawn))
       (λ o. ok (o.0 ++ waiting_list g wholes reals s.waiting, o.1))
       ≡ meant_step g W M wholes' reals' r
-  pub laid : (low : ℕ) → Laid g wholes reals low s.waiting → s.waiting ≤ a → low ≤ a → a ≤ e → LaidStep g wholes' reals' e r
+  pub laid : (low : ℕ) → Laid g wholes reals low s.waiting → s.waiting ≤ c.from → low ≤ c.from → c.from ≤ c.to → LaidStep g wholes' reals' c.to r
   pub most : MostStep (s.waiting + 1) r
   pub fair : FairStep W r
 

@@ -30,19 +30,6 @@ use Rattle.node_growth.specs.Rooms.{Ground, cut_of, asked_of, node_rows, waiting
 use Rattle.node_growth.specs.Pairs.{sought, edge, SideAsks, PairAsks, child-both, child-neither, children_with, sought_two, PartAsks, PartDone}
 use Rattle.node_growth.specs.InColumns.{with_order, column-at, child-rows, below-still, laid-still, good-alike, good-cleft, good-asks, part-short, ones-map, rows_of}
 
--- ---- a node's ends as the code widened them
-
-ends_at : (Q : ℕ → ℕ → Type 0) {a e a' e' : ℕ} → a' ≡ a → e' ≡ e → Q a e → Q a' e'
-ends_at Q {a} {e} {a'} {e'} ea ee h = subst (λ z. Q z e') (sym ea) (subst (Q a) (sym ee) h)
-
-pub split_at : {rows features a e a' e' n fl : ℕ} {x y ws : List Float} {ks order : List ℕ} {c : Cut} → a' ≡ a → e' ≡ e → SplitAsks rows features a e x y ws ks c order n fl
-    → SplitAsks rows features a' e' x y ws ks c order n fl
-split_at {rows} {features} {a} {e} {a'} {e'} {n} {fl} {x} {y} {ws} {ks} {order} {c} = ends_at (λ u v. SplitAsks rows features u v x y ws ks c order n fl)
-
-pub done_at : {rows a e a' e' : ℕ} {el : ℕ → Element} {c : Cut} {order : List ℕ} {fl : List Bool} {h : Sides} → a' ≡ a → e' ≡ e → SplitDone rows a' e' el c order fl h
-    → SplitDone rows a e el c order fl h
-done_at {rows} {a} {e} {a'} {e'} {el} {c} {order} {fl} {h} ea ee = ends_at (λ u v. SplitDone rows u v el c order fl h) (sym ea) (sym ee)
-
 -- both sides together have the node's count
 pub sides-count : {rows a e : ℕ} {el : ℕ → Element} {c : Cut} {order : List ℕ} {fl : List Bool} {h : Sides} → SplitDone rows a e el c order fl h
     → h.trueside.count + h.falseside.count ≡ tally (map el (part rows c.feature a e order))

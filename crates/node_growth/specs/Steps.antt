@@ -1,28 +1,24 @@
 -- The waiting list by the code's steps. Assumes nothing.
-use Rattle.std.specs.Prelude.{ℕ, zero, suc, ◌+◌, ◌<◌, ◌≤◌, ◌≡◌, refl, true, false, List, [], ◌∷◌, ◌++◌, length, get_or, set, Float}
+use Rattle.std.specs.Prelude.{ℕ, zero, suc, ◌+◌, ◌<◌, ◌≤◌, ◌≡◌, refl, true, false, List, [], ◌∷◌, ◌++◌, length, get_or, set, Float, Some, None, Ok, Err}
 use Rattle.std.proofs.Common.{le_trans, arith, add-one, sym, ◌∙◌, get_or-set_same, get_or-set_other}
 use Rattle.std.proofs.Math.Nat.{le_refl}
 use Rattle.std.proofs.Math.Path.{ap, subst}
 use Rattle.rules.specs.declared.Params.{Params}
 use Rattle.rules.specs.declared.Cut.{Cut}
-use Rattle.rules.specs.declared.Held.TheVariants.{Nothing, Holds}
 use Rattle.rules.specs.Search.{NodeRows, Found, search}
 use Rattle.rules.specs.Growth.{Waiting, joins, searchable, search_if}
 use Rattle.rules.specs.Draws.{Out, ok, bind, Tapes, tape}
 use Rattle.lemmas.specs.Outs.{bind-through}
-use Rattle.criterion.specs.declared.Side.{Side}
 use Rattle.candidates.specs.declared.Candidate.{Candidate}
 use Rattle.candidates.specs.Held.{bare}
 use Rattle.search.specs.declared.Drawn.{Drawn}
-use Rattle.search.specs.declared.Search.{Search}
-use Rattle.search.specs.declared.Search.TheVariants as S
-use Rattle.search.specs.Flat.{Tables, NodeAsks, draws_at, Fair, meant, Searched}
+use Rattle.search.specs.declared.BadDraw.{BadDraw}
+use Rattle.search.specs.Flat.{draws_at, Fair, Searched}
 use Rattle.node_entries.specs.declared.WaitingNode.{WaitingNode}
 use Rattle.node_entries.specs.Entries.{wholes_of, reals_of, waiting_in, waiting_at}
 use Rattle.node_growth.specs.declared.Stand.{Stand}
-use Rattle.node_growth.specs.declared.Step.{Step}
-use Rattle.node_growth.specs.declared.Step.TheVariants.{Refused, Goes}
-use Rattle.node_growth.specs.Rooms.{Ground, node_rows, waiting_of, waiting_list, Sized, Laid, RowsUnder, RowsTo, FoundIn, PushDone, ChildDone}
+use Rattle.node_growth.specs.declared.Stretch.{Stretch}
+use Rattle.node_growth.specs.Rooms.{Ground, node_rows, waiting_of, waiting_list, Sized, Laid, RowsUnder, HeldIn, PushDone, ChildDone}
 
 waiting_kept : (wholes : List (List ℕ)) (reals : List (List Float)) (n i : ℕ) (w : List ℕ) (r : List Float) → i < n → waiting_at (set wholes n w) (set reals n r) i ≡ waiting_at wholes reals i
 waiting_kept wholes reals n i w r h =
@@ -77,92 +73,101 @@ laid-new g wholes reals n low w h k l a b c z =
     z.start n × Sized g z) (sym (waiting-new wholes reals n w h k))
     (a, c, le_refl w.end, laid_kept g wholes reals n n w.start (wholes_of w) (reals_of w) (le_refl n) (laid_more g wholes reals n low w.start b l), z))
 
-pub rows_fit : (e : ℕ) {r : Search} (h : Candidate) {d : Drawn} {c : Cut} {p : Float} → r ≡ S.Goes h d → h.held ≡ Holds c p → RowsTo e r → h.rows ≤ e
-rows_fit e h er eh k = subst (λ z. RowsUnder e z h.rows) eh (subst (RowsTo e) er k)
-
-module _ (wholes : List (List ℕ)) (reals : List (List Float)) (n node level a e : ℕ) (q : Side) (d : Drawn) where
-  pub push-none : {r : Search} → r ≡ S.Refused → PushDone wholes reals wholes reals n node level a e q d r (Refused d.searches)
-  unfolding bind
-  push-none {r} h =
-      subst (λ z. PushDone wholes reals wholes reals n node level a e q d z (Refused d.searches)) (sym h)
-      (record { same = λ g W M f. refl; laid = λ g low f l x y z. tt; most = tt; fair = λ W f. tt })
-
-  pub push-uncut : {r : Search} (h : Candidate) {k : Drawn} → r ≡ S.Goes h k → h.held ≡ Nothing → PushDone wholes reals wholes reals n node level a e q d r (Goes (record { waiting = n; drawn = k }))
-  unfolding bind joins
-  push-uncut {r} h {k} er eh =
-      subst (λ z. PushDone wholes reals wholes reals n node level a e q d z (Goes (record { waiting = n; drawn = k }))) (sym (er ∙ ap (λ z. S.Goes (record { held = z; rows = h.rows }) k) eh))
-      (record { same = λ g W M f. refl; laid = λ g low f l x y z. laid_more g wholes reals n low e (le_trans y z) l; most = omega arith; fair = λ W f. f })
+module _ (wholes : List (List ℕ)) (reals : List (List Float)) (n : ℕ) (c : Stretch) (d : Drawn) where
+  pub push-uncut : (h : Candidate) → h.held ≡ None → PushDone wholes reals wholes reals n c h d (record { waiting = n; drawn = d })
+  unfolding joins
+  push-uncut h eh =
+      subst (λ z. PushDone wholes reals wholes reals n c (record { held = z; rows = h.rows }) d (record { waiting = n; drawn = d })) (sym eh)
+      (record { same = λ g f. refl; laid = λ g low f l x y z. laid_more g wholes reals n low c.to (le_trans y z) l; most = omega arith; drawn = refl })
 
   abbrev new_waiting : Cut → ℕ → WaitingNode
-  new_waiting c m =
-      record { node = node; start = a; end = e; level = level; rows = m; feature = c.feature; sum = q.totals.sum; mass = q.totals.mass; cut = c.threshold }
+  new_waiting t m =
+      record {
+        node = c.node;
+        start = c.from;
+        end = c.to;
+        level = c.level;
+        rows = m;
+        feature = t.feature;
+        sum = c.side.totals.sum;
+        mass = c.side.totals.mass;
+        cut = t.threshold;
+      }
 
-  pub push-cut : n < length wholes → n < length reals → q.count < 4294967296 → {r : Search} (h : Candidate) {c : Cut} {p : Float} {k : Drawn} → r ≡ S.Goes h k → h.held ≡ Holds c p
+  pub push-cut : n < length wholes → n < length reals → c.side.count < 4294967296 → (h : Candidate) {t : Cut} {p : Float} → h.held ≡ Some (t, p)
       → {wholes' : List (List ℕ)} {reals' : List (List Float)}
-      → wholes' ≡ set wholes n (wholes_of (new_waiting c h.rows)) → reals' ≡ set reals n (reals_of (new_waiting c h.rows))
-      → PushDone wholes reals wholes' reals' n node level a e q d r (Goes (record { waiting = n + 1; drawn = k }))
-  unfolding bind joins
-  push-cut hw hr few {r} h {c} {p} {k} eg eh {wholes'} {reals'} ew er =
-      subst (λ z. PushDone wholes reals wholes' reals' n node level a e q d z (Goes (record { waiting = n + 1; drawn = k }))) (sym (eg ∙ ap (λ z. S.Goes (record { held = z; rows = h.rows }) k) eh))
-      (subst (λ z. PushDone wholes reals z reals' n node level a e q d found (Goes (record { waiting = n + 1; drawn = k }))) (sym ew)
-      (subst (λ z. PushDone wholes reals (set wholes n (wholes_of w)) z n node level a e q d found (Goes (record { waiting = n + 1; drawn = k }))) (sym er)
+      → wholes' ≡ set wholes n (wholes_of (new_waiting t h.rows)) → reals' ≡ set reals n (reals_of (new_waiting t h.rows))
+      → PushDone wholes reals wholes' reals' n c h d (record { waiting = n + 1; drawn = d })
+  unfolding joins
+  push-cut hw hr few h {t} {p} eh {wholes'} {reals'} ew er =
+      subst (λ z. PushDone wholes reals wholes' reals' n c (record { held = z; rows = h.rows }) d (record { waiting = n + 1; drawn = d })) (sym eh)
+      (subst (λ z. PushDone wholes reals z reals' n c held d (record { waiting = n + 1; drawn = d })) (sym ew)
+      (subst (λ z. PushDone wholes reals (set wholes n (wholes_of w)) z n c held d (record { waiting = n + 1; drawn = d })) (sym er)
       (record {
-        same = λ g W M f.
-            ap (λ m. ok (record { number = node; level = level; node = node_rows g a e (record { totals = q.totals; count = m }); cut = c } ∷ waiting_list g wholes reals n, draws_at W M k)) f.0
-            ∙ ap (λ z. ok (z, draws_at W M k)) (sym (list-new g wholes reals n w hw hr));
+        same = λ g f.
+            ap (λ m. record {
+              number = c.node;
+              level = c.level;
+              node = node_rows g c.from c.to (record { totals = c.side.totals; count = m });
+              cut = t;
+            } ∷ waiting_list g wholes reals n) f.0
+            ∙ sym (list-new g wholes reals n w hw hr);
         laid = λ g low f l x y z. laid-new g wholes reals n low w hw hr l x y z (record { rows = f.1; small = subst (λ m. m < 4294967296) f.0 few });
         most = le_refl (n + 1);
-        fair = λ W f. f;
+        drawn = refl;
       })))
     where
       w : WaitingNode
-      w = new_waiting c h.rows
+      w = new_waiting t h.rows
 
-      found : Search
-      found = S.Goes (record { held = Holds c p; rows = h.rows }) k
+      held : Candidate
+      held = record { held = Some (t, p); rows = h.rows }
 
 -- ---- a child is searched
 
-pub node_at : (rows features : ℕ) (t : Tables) (order : List ℕ) (n a e : ℕ) {a' e' : ℕ} → a' ≡ a → e' ≡ e → NodeAsks rows features a e t order n → NodeAsks rows features a' e' t order n
-node_at rows features t order n a e {a'} {e'} ea ee h = subst (λ z. NodeAsks rows features z e' t order n) (sym ea) (subst (λ z. NodeAsks rows features a z t order n) (sym ee) h)
-
-module _ (g : Ground) (P : Params) (W : List ℕ) (M : List Float) (wholes : List (List ℕ)) (reals : List (List Float)) (node level a e : ℕ) (q : Side) (s : Stand) where
+module _ (g : Ground) (P : Params) (W : List ℕ) (M : List Float) (wholes : List (List ℕ)) (reals : List (List Float)) (c : Stretch) (s : Stand) where
   abbrev asked : NodeRows
-  asked = node_rows g a e q
+  asked = node_rows g c.from c.to c.side
 
-  pub ask-not : searchable P level (bare q) ≡ false → Fair W s.drawn → ChildDone g P W M wholes reals wholes reals node level a e q s (Goes s)
+  pub ask-not : searchable P c.level (bare c.side) ≡ false → Fair W s.drawn → ChildDone g P W M wholes reals wholes reals c s (Ok s)
   unfolding searchable search_if bind
   ask-not h f =
       record {
-        same = ap (λ b. bind (search_if P (search (tape P.features) P) b node level asked (draws_at W M s.drawn)) (λ o. ok (o.0 ++ waiting_list g wholes reals s.waiting, o.1))) h;
-        laid = λ low l x y z. laid_more g wholes reals s.waiting low e (le_trans y z) l;
+        same = ap (λ b. bind (search_if P (search (tape P.features) P) b c.node c.level asked (draws_at W M s.drawn)) (λ o. ok (o.0 ++ waiting_list g wholes reals s.waiting, o.1))) h;
+        laid = λ low l x y z. laid_more g wholes reals s.waiting low c.to (le_trans y z) l;
         most = omega arith;
         fair = f;
       }
 
-  pub ask-goes : searchable P level (bare q) ≡ true → {a' e' : ℕ} → a' ≡ a → e' ≡ e → {r : Search} → Searched P W M (node_rows g a' e' q) s.drawn r → FoundIn g a e q r
-      → {wholes' : List (List ℕ)} {reals' : List (List Float)} {t : Step} → PushDone wholes reals wholes' reals' s.waiting node level a e q s.drawn r t
-      → ChildDone g P W M wholes reals wholes' reals' node level a e q s t
-  unfolding searchable search_if
-  ask-goes h {a'} {e'} ea ee {r} sd fi {wholes'} {reals'} {t} pd =
-      record {
-        same =
-            ap (λ b. bind (search_if P (search (tape P.features) P) b node level asked (draws_at W M s.drawn)) (λ o. ok (o.0 ++ waiting_list g wholes reals s.waiting, o.1))) h
-            ∙ bind-through (search (tape P.features) P (draws_at W M s.drawn) asked) join next
-            ∙ ap (λ m. bind m (λ o. ok (joins node level asked o.0 ++ waiting_list g wholes reals s.waiting, o.1))) (sym searched)
-            ∙ pd.same g W M fi;
-        laid = λ low l x y z. pd.laid g low fi l x y z;
-        most = pd.most;
-        fair = pd.fair W sd.fair;
-      }
-    where
-      searched : meant W M s.drawn r ≡ search (tape P.features) P (draws_at W M s.drawn) asked
-      searched =
-          sd.same ∙ ap (λ z. search (tape P.features) P (draws_at W M s.drawn) (node_rows g z e' q)) ea
-          ∙ ap (λ z. search (tape P.features) P (draws_at W M s.drawn) (node_rows g a z q)) ee
+  join : Found × Tapes → List Waiting × Tapes
+  join o = (joins c.node c.level asked o.0, o.1)
 
-      join : Found × Tapes → List Waiting × Tapes
-      join o = (joins node level asked o.0, o.1)
+  next : List Waiting × Tapes → Out (List Waiting × Tapes)
+  next o = ok (o.0 ++ waiting_list g wholes reals s.waiting, o.1)
 
-      next : List Waiting × Tapes → Out (List Waiting × Tapes)
-      next o = ok (o.0 ++ waiting_list g wholes reals s.waiting, o.1)
+  -- a child that is searched, by what its search means
+  sought-is : searchable P c.level (bare c.side) ≡ true → {m : Out (Found × Tapes)} → m ≡ search (tape P.features) P (draws_at W M s.drawn) asked
+      → bind (search_if P (search (tape P.features) P) (searchable P c.level asked) c.node c.level asked (draws_at W M s.drawn)) next
+      ≡ bind m (λ o. ok (joins c.node c.level asked o.0 ++ waiting_list g wholes reals s.waiting, o.1))
+  unfolding searchable search_if join next
+  sought-is h e =
+      ap (λ b. bind (search_if P (search (tape P.features) P) b c.node c.level asked (draws_at W M s.drawn)) (λ o. ok (o.0 ++ waiting_list g wholes reals s.waiting, o.1))) h
+      ∙ bind-through (search (tape P.features) P (draws_at W M s.drawn) asked) join next
+      ∙ ap (λ m. bind m (λ o. ok (joins c.node c.level asked o.0 ++ waiting_list g wholes reals s.waiting, o.1))) (sym e)
+
+  module _ (h : searchable P c.level (bare c.side) ≡ true) where
+    pub ask-bad : {b : BadDraw} → Searched P W M asked s.drawn (Err b) → ChildDone g P W M wholes reals wholes reals c s (Err (record { search = s.drawn.searches }))
+    unfolding bind next
+    ask-bad sd = record { same = sought-is h sd.same; laid = λ low l x y z. tt; most = tt; fair = tt }
+
+    pub ask-goes : {f : Candidate} {d : Drawn} → Searched P W M asked s.drawn (Ok (f, d)) → HeldIn g c.from c.to c.side f.held f.rows
+        → {wholes' : List (List ℕ)} {reals' : List (List Float)} {t : Stand} → PushDone wholes reals wholes' reals' s.waiting c f d t
+        → ChildDone g P W M wholes reals wholes' reals' c s (Ok t)
+    unfolding bind next
+    ask-goes {f} {d} sd held {wholes'} {reals'} {t} pd =
+        record {
+          same = sought-is h sd.same ∙ (λ i. ok (pd.same g held i, draws_at W M (sym pd.drawn i)));
+          laid = λ low l x y z. pd.laid g low held l x y z;
+          most = pd.most;
+          fair = subst (Fair W) (sym pd.drawn) sd.fair;
+        }

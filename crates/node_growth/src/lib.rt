@@ -2,16 +2,18 @@
 #![tactic(auto)]
 
 ghost use Rattle.std.specs.Prelude.{◌≡◌, ◌+◌, ◌<◌, length};
-ghost use Rattle.rules.specs.Fit.{element_in};
-ghost use Rattle.work_columns.specs.Split.{SplitAsks, SplitDone};
-ghost use Rattle.node_entries.specs.Entries.{node_room_of, LongRoom};
-ghost use Rattle.node_growth.specs.Rooms.{ground_of, RowsTo, PushDone, ChildAsks, ChildDone, cut_of, wrote_sides};
+ghost use Rattle.rules.specs.Slices.{SameNodes};
+ghost use Rattle.work_columns.specs.Split.{SplitDone};
+ghost use Rattle.work_columns.specs.Rows.{row_in, SplitAsksIn};
+ghost use Rattle.node_entries.specs.Entries.{room_in, LongRoom};
+ghost use Rattle.node_growth.specs.Rooms.{ground_in, RowsUnder, PushDone, ChildAsks, ChildDone, cut_of, wrote_sides};
 ghost use Rattle.node_growth.specs.Pairs.{stretch_at, PairAsks, PairDone, root_sides, root_pair, child_sides, children_of, PartAsks, PartDone};
 
+use candidates::Candidate;
 use criterion::Side;
 use node_entries::WaitingNode;
-use rules::{Cut, Held, Params};
-use search::{Drawn, Search};
+use rules::{Cut, Input, NodeRoom, Params, Shape, Tapes};
+use search::Drawn;
 use work_columns::Sides;
 
 // How many wait, and how far the tapes are used.
@@ -21,11 +23,10 @@ pub struct Stand {
     pub drawn: Drawn,
 }
 
-// A bad draw at a search, or how it stands.
+// The search at which a bad draw was met.
 #[derive(Clone, Copy)]
-pub enum Step {
-    Refused(usize),
-    Goes(Stand),
+pub struct BadSearch {
+    pub search: usize,
 }
 
 // Two nodes whose rows lie side by side, the first from `from` to `mid`, the second from there to `to`; `node` is the first one's number. The first `sides` of them are
@@ -43,9 +44,11 @@ pub struct Pair {
     pub sides: u32,
 }
 
-// One of them: where its rows lie, its totals and count.
+// One of them: its number and level, where its rows lie, its totals and count.
 #[derive(Clone, Copy)]
 pub struct Stretch {
+    pub node: u32,
+    pub level: u32,
     pub from: u32,
     pub to: u32,
     pub side: Side,
@@ -56,46 +59,37 @@ pub fn push_found(
     wholes: &mut [[u32; 6]],
     reals: &mut [[f64; 3]],
     n: usize,
-    node: u32,
-    level: u32,
-    from: u32,
-    to: u32,
-    a: Side,
+    c: Stretch,
+    h: Candidate,
     d: Drawn,
-    r: Search,
-) -> Step
-    requires { (n < length wholes.old) × (n < length reals.old) × RowsTo to r }
-    ensures { PushDone wholes.old reals.old wholes.new reals.new n node level from to a d r result }
+) -> Stand
+    requires wholes_long { n < length wholes.old }
+    requires reals_long { n < length reals.old }
+    requires rows_small { RowsUnder c.to h.held h.rows }
+    ensures { PushDone wholes.old reals.old wholes.new reals.new n c h d result }
 {
-    let Search::Goes(h, e) = r else {
-        return Step::Refused(d.searches);
-    };
-    let g = h.held;
-    match g {
-        Held::Nothing => Step::Goes(Stand {
+    let Some((cut, _)) = h.held else {
+        return Stand {
             waiting: n,
-            drawn: e,
-        }),
-        Held::Holds(c, _) => {
-            let t = a.totals;
-            let m = h.rows as u32;
-            let w = WaitingNode {
-                node,
-                start: from,
-                end: to,
-                level,
-                rows: m,
-                feature: c.feature,
-                sum: t.sum,
-                mass: t.mass,
-                cut: c.threshold,
-            };
-            node_entries::push(wholes, reals, n, w);
-            Step::Goes(Stand {
-                waiting: n + 1,
-                drawn: e,
-            })
-        }
+            drawn: d,
+        };
+    };
+    let t = c.side.totals;
+    let w = WaitingNode {
+        node: c.node,
+        start: c.from,
+        end: c.to,
+        level: c.level,
+        rows: h.rows as u32,
+        feature: cut.feature,
+        sum: t.sum,
+        mass: t.mass,
+        cut: cut.threshold,
+    };
+    node_entries::push(wholes, reals, n, w);
+    Stand {
+        waiting: n + 1,
+        drawn: d,
     }
 }
 
@@ -103,81 +97,55 @@ pub fn push_found(
 pub fn search_child(
     wholes: &mut [[u32; 6]],
     reals: &mut [[f64; 3]],
-    values: &[f64],
-    targets: &[f64],
-    weights: &[f64],
-    counts: &[u32],
+    input: &Input,
     order: &[u32],
-    words: &[u32],
-    thresholds: &[f64],
-    rows: usize,
-    features: usize,
+    tapes: &Tapes,
+    shape: Shape,
     p: Params,
-    node: u32,
-    level: u32,
-    from: u32,
-    to: u32,
-    a: Side,
+    c: Stretch,
     s: Stand,
-) -> Step
-    requires { ChildAsks (ground_of rows features values.now targets.now weights.now counts.now order.now) p words.now from to a s (length wholes.old)
-        (length reals.old) }
-    ensures { ChildDone (ground_of rows features values.now targets.now weights.now counts.now order.now) p
-        words.now thresholds.now wholes.old reals.old wholes.new reals.new node level from to a s result }
+) -> Result<Stand, BadSearch>
+    requires { ChildAsks (ground_in shape input.now order.now) p tapes.now.words.now c s (length wholes.old) (length reals.old) }
+    ensures { ChildDone (ground_in shape input.now order.now) p tapes.now.words.now tapes.now.thresholds.now wholes.old reals.old wholes.new reals.new c s result }
 {
-    let d = s.drawn;
-    if candidates::is_searched(p, level, a) {
-        let r = search::search_node(
-            values,
-            targets,
-            weights,
-            counts,
-            order,
-            words,
-            thresholds,
-            rows,
-            features,
-            slices::wide(from),
-            slices::wide(to),
-            p,
-            a,
-            d,
-        );
-        return push_found(wholes, reals, s.waiting, node, level, from, to, a, d, r);
+    if !candidates::is_searched(p, c.level, c.side) {
+        return Ok(s);
     }
-    Step::Goes(s)
+    let d = s.drawn;
+    let found = search::search_node(
+        input,
+        order,
+        tapes,
+        shape,
+        c.from as usize,
+        c.to as usize,
+        p,
+        c.side,
+        d,
+    );
+    let Ok((h, e)) = found else {
+        return Err(BadSearch { search: d.searches });
+    };
+    Ok(push_found(wholes, reals, s.waiting, c, h, e))
 }
 
 // A node's split: its rows get their flags, and the node and its children are written. The score takes totals that are added up afresh.
 pub fn split_node(
     flags: &mut [bool],
-    value: &mut [f64],
-    feature: &mut [u32],
-    threshold: &mut [f64],
-    score: &mut [f64],
-    truechild: &mut [u32],
-    falsechild: &mut [u32],
-    nodecount: &mut [u32],
-    nodemass: &mut [f64],
-    values: &[f64],
-    targets: &[f64],
-    weights: &[f64],
-    counts: &[u32],
+    room: &mut NodeRoom,
+    input: &Input,
     order: &[u32],
-    rows: usize,
-    features: usize,
+    shape: Shape,
     w: WaitingNode,
     n: u32,
 ) -> Sides
-    requires split_asks { SplitAsks rows features w.start w.end values.now targets.now weights.now counts.now (cut_of w) order.now w.rows (length flags.old) }
-    requires long_room { LongRoom (n + 2) (node_room_of value.old feature.old threshold.old score.old truechild.old falsechild.old nodecount.old nodemass.old)
-        × (w.node < n) × (n + 2 < 4294967296) }
-    ensures split_done { SplitDone rows w.start w.end (element_in features values.now targets.now weights.now counts.now) (cut_of w)
-        order.now flags.new result }
-    ensures nodemass_after { node_room_of value.new feature.new threshold.new score.new truechild.new falsechild.new nodecount.new
-        nodemass.new
-        ≡ wrote_sides w result n (node_room_of value.old feature.old threshold.old score.old truechild.old falsechild.old
-        nodecount.old nodemass.old) }
+    requires split_asks { SplitAsksIn shape w.start w.end input.now (cut_of w) order.now w.rows (length flags.old) }
+    requires room_long { LongRoom (n + 2) (room_in room.old) }
+    requires parent_before { w.node < n }
+    requires number_small { n + 2 < 4294967296 }
+    ensures same_slices { SameNodes room.old room.new }
+    ensures split_done { SplitDone shape.rows w.start w.end (row_in shape.features input.now) (cut_of w) order.now flags.new result }
+    ensures nodes_after { room_in room.new ≡ wrote_sides w result n (room_in room.old) }
 {
     let c = Cut {
         feature: w.feature,
@@ -185,47 +153,35 @@ pub fn split_node(
     };
     let s = work_columns::split_sides(
         flags,
-        values,
-        targets,
-        weights,
-        counts,
+        input,
         order,
-        rows,
-        features,
-        slices::wide(w.start),
-        slices::wide(w.end),
+        shape,
+        w.start as usize,
+        w.end as usize,
         c,
         w.rows,
     );
-    let a = s.trueside;
-    let b = s.falseside;
-    let all = s.all;
-    let t = a.totals;
-    let f = b.totals;
-    let q = criterion::score_of(t, f, all.mass);
-    node_entries::write_split(
-        value, feature, threshold, score, truechild, falsechild, nodecount, nodemass, w, a, b, q, n,
-    );
+    let q = criterion::score_of(s.trueside.totals, s.falseside.totals, s.all.mass);
+    node_entries::write_split(room, w, s.trueside, s.falseside, q, n);
     s
 }
 
 // Of two nodes that lie side by side, the first or the second.
 fn stretch_of(q: Pair, k: u32) -> Stretch
+    requires { q.node + k < 4294967296 }
     ensures { result ≡ stretch_at q k }
 {
-    if k == 0 {
-        let first = q.first;
-        return Stretch {
-            from: q.from,
-            to: q.mid,
-            side: first,
-        };
-    }
-    let second = q.second;
+    let (from, to, side) = if k == 0 {
+        (q.from, q.mid, q.first)
+    } else {
+        (q.mid, q.to, q.second)
+    };
     Stretch {
-        from: q.mid,
-        to: q.to,
-        side: second,
+        node: q.node + k,
+        level: q.level,
+        from,
+        to,
+        side,
     }
 }
 
@@ -233,76 +189,37 @@ fn stretch_of(q: Pair, k: u32) -> Stretch
 pub fn search_pair(
     wholes: &mut [[u32; 6]],
     reals: &mut [[f64; 3]],
-    values: &[f64],
-    targets: &[f64],
-    weights: &[f64],
-    counts: &[u32],
+    input: &Input,
     order: &[u32],
-    words: &[u32],
-    thresholds: &[f64],
-    rows: usize,
-    features: usize,
+    tapes: &Tapes,
+    shape: Shape,
     p: Params,
     q: Pair,
     s: Stand,
-) -> Step
-    requires { PairAsks (ground_of rows features values.now targets.now weights.now counts.now order.now) p words.now wholes.old reals.old q s }
-    ensures { PairDone (ground_of rows features values.now targets.now weights.now counts.now order.now) p
-        words.now thresholds.now wholes.old reals.old wholes.new reals.new q s result }
+) -> Result<Stand, BadSearch>
+    requires { PairAsks (ground_in shape input.now order.now) p tapes.now.words.now wholes.old reals.old q s }
+    ensures { PairDone (ground_in shape input.now order.now) p tapes.now.words.now tapes.now.thresholds.now wholes.old reals.old wholes.new reals.new q s result }
 {
     let mut t = s;
-    let mut k: u32 = 0;
-    while k < q.sides {
+    for k in 0..q.sides {
         let c = stretch_of(q, k);
-        let a = c.side;
-        let r = search_child(
-            wholes,
-            reals,
-            values,
-            targets,
-            weights,
-            counts,
-            order,
-            words,
-            thresholds,
-            rows,
-            features,
-            p,
-            q.node + k,
-            q.level,
-            c.from,
-            c.to,
-            a,
-            t,
-        );
-        match r {
-            Step::Refused(z) => {
-                return Step::Refused(z);
-            }
-            Step::Goes(u) => {
-                t = u;
-                k += 1;
-            }
-        }
+        t = search_child(wholes, reals, input, order, tapes, shape, p, c, t)?;
     }
-    Step::Goes(t)
+    Ok(t)
 }
 
 // How many sides of the root are left to search: the root itself, if something is kept.
+#[tactic(auto, unfolding(crate::specs::Pairs::root_sides))]
 fn root_sides(count: u32) -> u32
     ensures { result ≡ root_sides count }
 {
-    if 0 < count {
-        return 1;
-    }
-    0
+    if 0 < count { 1 } else { 0 }
 }
 
 // The root, beside an empty side.
 pub fn root_pair(kept: u32, root: Side) -> Pair
     ensures { result ≡ root_pair kept root }
 {
-    let sides = root_sides(root.count);
     Pair {
         node: 0,
         level: 1,
@@ -311,38 +228,37 @@ pub fn root_pair(kept: u32, root: Side) -> Pair
         to: kept,
         first: root,
         second: root,
-        sides,
+        sides: root_sides(root.count),
     }
 }
 
 // How many children are left to search: both, if either is searched.
+#[tactic(auto, unfolding(crate::specs::Pairs::child_sides))]
 fn child_sides(p: Params, level: u32, a: Side, b: Side) -> u32
     ensures { result ≡ child_sides p level a b }
 {
     if candidates::either_searched(p, level, a, b) {
-        return 2;
+        2
+    } else {
+        0
     }
-    0
 }
 
 fn children_of(p: Params, w: WaitingNode, n: u32, h: Sides) -> Pair
-    requires { (w.level + 1 < 4294967296) × (w.start + h.rows < 4294967296) }
+    requires level_small { w.level + 1 < 4294967296 }
+    requires mid_small { w.start + h.rows < 4294967296 }
     ensures { result ≡ children_of p w n h }
 {
     let level = w.level + 1;
-    let mid = w.start + h.rows;
-    let first = h.trueside;
-    let second = h.falseside;
-    let sides = child_sides(p, level, first, second);
     Pair {
         node: n,
         level,
         from: w.start,
-        mid,
+        mid: w.start + h.rows,
         to: w.end,
-        first,
-        second,
-        sides,
+        first: h.trueside,
+        second: h.falseside,
+        sides: child_sides(p, level, h.trueside, h.falseside),
     }
 }
 
@@ -351,29 +267,26 @@ pub fn part_sides(
     order: &mut [u32],
     scratch: &mut [u32],
     flags: &[bool],
-    rows: usize,
-    features: usize,
+    shape: Shape,
     p: Params,
     w: WaitingNode,
     n: u32,
     h: Sides,
 ) -> Pair
-    requires { PartAsks rows features order.old (length scratch.old) flags.now w h }
-    ensures { PartDone rows features order.old order.new flags.now p w n h result }
+    requires { PartAsks shape.rows shape.features order.old (length scratch.old) flags.now w h }
+    ensures { PartDone shape.rows shape.features order.old order.new flags.now p w n h result }
 {
     let q = children_of(p, w, n, h);
-    if q.sides == 0 {
-        return q;
+    if q.sides != 0 {
+        work_columns::partition_columns(
+            order,
+            scratch,
+            flags,
+            shape,
+            w.start as usize,
+            w.end as usize,
+            w.feature as usize,
+        );
     }
-    work_columns::partition_columns(
-        order,
-        scratch,
-        flags,
-        rows,
-        features,
-        slices::wide(w.start),
-        slices::wide(w.end),
-        slices::wide(w.feature),
-    );
     q
 }

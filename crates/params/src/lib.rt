@@ -5,34 +5,27 @@ ghost use Rattle.std.specs.Prelude.{◌≡◌, ◌<◌, ◌≤◌};
 ghost use Rattle.rules.specs.Fit.{limit_of};
 ghost use Rattle.params.specs.Params.{ParamsMade};
 
-use rules::{Depth, Params, Settings};
+use rules::{Params, Settings};
 
 // No greatest depth acts as 65,535.
-fn limit_of(depth: Depth) -> u32
-    ensures { (result ≡ limit_of depth) × (result ≤ 65535) }
+fn limit_of(depth: Option<u16>) -> u32
+    ensures value { result ≡ limit_of depth }
+    ensures deep { result ≤ 65535 }
 {
-    match depth {
-        Depth::Unlimited => 65535,
-        Depth::AtMost(d) => d as u32,
-    }
+    u32::from(depth.unwrap_or(65535))
 }
 
 pub fn params_of(settings: Settings, tried: u32, features: usize) -> Params
     requires { features < 4294967296 }
     ensures { ParamsMade settings tried features result }
 {
-    let depth = settings.depth;
-    let splitter = settings.splitter;
-    let height = settings.height;
-    let limit = limit_of(depth);
-    let wide = features as u32;
     Params {
-        limit,
+        limit: limit_of(settings.depth),
         leaf: settings.leaf,
         split: settings.split,
         tried,
-        features: wide,
-        splitter,
-        height,
+        features: features as u32,
+        splitter: settings.splitter,
+        height: settings.height,
     }
 }

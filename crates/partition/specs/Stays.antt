@@ -7,6 +7,7 @@ use Rattle.lemmas.specs.Lists.{Every, every-imp, every_append, keep_all, keep-no
 use Rattle.sweeps.specs.Swept.{fails, parted}
 use Rattle.partition.specs.Looks.{Front}
 
+-- one more entry that passes
 pub front-more : (p : ℕ → Bool) (l : List ℕ) (n : ℕ) → Front p l n → n < length l → p (get_or l n 0) ≡ true → {m : ℕ} → m ≡ n + 1 → Front p l m
 front-more p l n f h t {m} e =
     record {
@@ -15,6 +16,7 @@ front-more p l n f h t {m} e =
           (every_append _ (take n l) (get_or l n 0 ∷ []) f.passed (t, tt));
     }
 
+-- none yet
 pub front-none : (p : ℕ → Bool) (l : List ℕ) → Front p l 0
 front-none p l = record { within = omega arith; passed = tt }
 
@@ -36,10 +38,12 @@ module _ (p : ℕ → Bool) (l : List ℕ) (k : ℕ) (f : Front p l k) where
       front-more p l (k + 3) three (omega arith) (sym ed ∙ x.1) (omega arith)
 
 module _ (p : ℕ → Bool) (l : List ℕ) (n : ℕ) (h : Every (λ r. p r ≡ true) (take n l)) where
+  -- all of them are kept
   pub passed-kept : keep p l ≡ take n l ++ keep p (drop n l)
   passed-kept =
       ap (keep p) (sym (take-append-drop n l)) ∙ keep_append p (take n l) (drop n l) ∙ ap (λ k. k ++ keep p (drop n l)) (keep_all p (take n l) h)
 
+  -- none of them is left
   pub passed-left : keep (fails p) l ≡ keep (fails p) (drop n l)
   passed-left =
       ap (keep (fails p)) (sym (take-append-drop n l)) ∙ keep_append (fails p) (take n l) (drop n l)
@@ -49,6 +53,6 @@ module _ (p : ℕ → Bool) (l : List ℕ) (n : ℕ) (h : Every (λ r. p r ≡ t
   pub passed-stay : parted p l ≡ take n l ++ parted p (drop n l)
   passed-stay = (λ i. passed-kept i ++ passed-left i) ∙ append_assoc (take n l) (keep p (drop n l)) (keep (fails p) (drop n l))
 
--- a list lent from n on, which the code may have widened to k
-pub lent-rest : (l : List ℕ) (n : ℕ) {k : ℕ} → k ≡ n → take (length l - k) (drop k l) ≡ drop n l
-lent-rest l n {k} q = take_all (length l - k) (drop k l) (let h : length (drop k l) ≤ length l - k = simp (length-drop) (omega arith) in h) ∙ ap (λ m. drop m l) q
+-- a list lent from n on
+pub lent-rest : (l : List ℕ) (n : ℕ) → take (length l - n) (drop n l) ≡ drop n l
+lent-rest l n = take_all (length l - n) (drop n l) (omega (arith, length-drop n l))

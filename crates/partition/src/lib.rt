@@ -13,8 +13,7 @@ fn flag_at(col: &[u32], flags: &[bool], i: usize) -> bool
     requires { (i < length col.now) × Every (λ r. r < length flags.now) col.now }
     ensures { result ≡ flagged flags.now (get_or col.now i 0) }
 {
-    let row = slices::wide(col[i]);
-    flags[row]
+    flags[col[i] as usize]
 }
 
 // The first place from `start` on whose row is not flagged, or the end. All rows before `start` are flagged.
@@ -22,17 +21,16 @@ fn first_false(col: &[u32], flags: &[bool], start: usize) -> usize
     requires { LookAsks flags.now col.now start }
     ensures { FirstFalse (flagged flags.now) col.now result }
 {
-    let mut k = start;
-    while k < col.len() {
+    for k in start..col.len() {
         if !flag_at(col, flags, k) {
             return k;
         }
-        k += 1;
     }
-    k
+    col.len()
 }
 
 // A place before which all rows are flagged, reached from `start` by fours: with fewer branches than row by row, which along a long front is what counts.
+// Counted by hand: `step_by` would need an end three rows before the column's and a case for shorter ones; chunks, their number turned into a place.
 fn flagged_fours(col: &[u32], flags: &[bool], start: usize) -> usize
     requires { LookAsks flags.now col.now start }
     ensures { Front (flagged flags.now) col.now result }
@@ -58,11 +56,9 @@ fn part_behind(col: &mut [u32], scratch: &mut [u32], flags: &[bool], start: usiz
     requires { PartAsks col.old (length scratch.old) (length flags.now) × Front (flagged flags.now) col.old start }
     ensures { Parted (flagged flags.now) col.old col.new result }
 {
-    let n = col.len();
     let fours = flagged_fours(col, flags, start);
     let k = first_false(col, flags, fours);
-    let w = sweeps::part_from(&mut col[k..n], scratch, flags, 0, 0);
-    k + w
+    k + sweeps::part_from(&mut col[k..], scratch, flags, 0, 0)
 }
 
 // A stretch of two or three rows.
@@ -73,10 +69,11 @@ fn part_two(col: &mut [u32], scratch: &mut [u32], flags: &[bool]) -> usize
     let s = flag_at(col, flags, 0);
     let t = flag_at(col, flags, 1);
     if s & t {
-        return part_behind(col, scratch, flags, 2);
+        part_behind(col, scratch, flags, 2)
+    } else {
+        let w = sweeps::sweep_two(col, scratch, s, t);
+        sweeps::part_from(col, scratch, flags, 2, w)
     }
-    let w = sweeps::sweep_two(col, scratch, s, t);
-    sweeps::part_from(col, scratch, flags, 2, w)
 }
 
 // A stretch of four rows or more. In a mixed column the front mostly ends within the first four, and this can be foreseen; where it ends, cannot.
@@ -89,10 +86,11 @@ fn part_four(col: &mut [u32], scratch: &mut [u32], flags: &[bool]) -> usize
     let u = flag_at(col, flags, 2);
     let v = flag_at(col, flags, 3);
     if s & t & u & v {
-        return part_behind(col, scratch, flags, 4);
+        part_behind(col, scratch, flags, 4)
+    } else {
+        let w = sweeps::sweep_four(col, scratch, s, t, u, v);
+        sweeps::part_from(col, scratch, flags, 4, w)
     }
-    let w = sweeps::sweep_four(col, scratch, s, t, u, v);
-    sweeps::part_from(col, scratch, flags, 4, w)
 }
 
 // The flagged rows of a stretch first, then the others, each in their order. Answers how many are flagged.
@@ -101,12 +99,9 @@ pub fn stable_partition(col: &mut [u32], scratch: &mut [u32], flags: &[bool]) ->
     requires { PartAsks col.old (length scratch.old) (length flags.now) }
     ensures { Parted (flagged flags.now) col.old col.new result }
 {
-    let n = col.len();
-    if n < 2 {
-        return part_behind(col, scratch, flags, 0);
+    match col.len() {
+        0..=1 => part_behind(col, scratch, flags, 0),
+        2..=3 => part_two(col, scratch, flags),
+        _ => part_four(col, scratch, flags),
     }
-    if n < 4 {
-        return part_two(col, scratch, flags);
-    }
-    part_four(col, scratch, flags)
 }

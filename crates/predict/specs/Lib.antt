@@ -1,4 +1,4 @@
--- a result room rewritten from its front on
-pub mod Rows
 -- what passed tests say
 pub mod Passed
+-- a result room written from its front on
+pub mod Front

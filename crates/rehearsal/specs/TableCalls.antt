@@ -1,20 +1,14 @@
 -- The calls of the rehearsal table, the rooms that are lent to them, and what they leave: written out to the last float, so that a wrong one differs at once.
 -- Definitions only. Assumes nothing.
-use Rattle.std.specs.Prelude.{ℕ, Bool, true, false, List, [], ◌∷◌, ◌++◌, map, length, replicate, pos, negsuc, Float}
+use Rattle.std.specs.Prelude.{ℕ, Bool, true, false, List, [], ◌∷◌, ◌++◌, map, length, replicate, pos, negsuc, Float, Ok, Err, None, Option}
 use Rattle.std.specs.Float.{nan, fin, binary64}
 use Rattle.std.specs.Float.Ieee.{add, sub, mul, div, lt, le, eq, is_nan, of_int, of_bits}
 use Rattle.rules.specs.declared.Splitter.TheVariants.{Best}
 use Rattle.rules.specs.declared.Height.{Height}
 use Rattle.rules.specs.declared.Height.TheVariants.{Midpoint}
-use Rattle.rules.specs.declared.Depth.{Depth}
-use Rattle.rules.specs.declared.Depth.TheVariants.{Unlimited}
-use Rattle.rules.specs.declared.Tried.TheVariants.{Unsaid}
 use Rattle.rules.specs.declared.Scale.{Scale}
-use Rattle.rules.specs.declared.TreeAnswer.{TreeAnswer}
-use Rattle.rules.specs.declared.ForestAnswer.{ForestAnswer}
+use Rattle.rules.specs.Results.{TreeAnswer, ForestAnswer, Reply, ErrorReply}
 use Rattle.rules.specs.declared.Refusal.{Refusal}
-use Rattle.rules.specs.declared.Reply.{Reply}
-use Rattle.rules.specs.declared.ErrorReply.{ErrorReply}
 use Rattle.rules.specs.Words.{float, from, put_if, keep, every, along_from, along, joined, total, member, fresh, each_once}
 use Rattle.rules.specs.Totals.{take_in, less, value_of, massless, gap, proxy, score}
 use Rattle.rules.specs.Threshold.{midpoint, threshold_between}
@@ -29,6 +23,7 @@ use Rattle.rules.specs.Table.{is_leaf, good_entry, good_from, good_tree, tree_in
 use Rattle.rules.specs.Reading.{onto, walked, leaf_value, reads, add_trees, mean_of, scored, add_scores, sum_from, divided_if, normalised, scores_of, scaled, tree_importance_tests, tree_importances}
 use Rattle.rules.specs.Forest.{ForestCall, squares, tried_of, part, one_tree_at, each_tree, with_tree, next_tree, grow_trees, grown_forest, starts_from, forest_entries, forest_nodes, tapes_good, rooms_good, forest_tests, forest_done, forest_ends, fit_forest}
 use Rattle.rules.specs.OutOfBag.{out_trees, out_of_bag_mean, out_tests, out_of_bag_means, square_off, add_squares, rows_with_mean, figure, error_tests, errs, out_of_bag_error}
+use Rattle.rules.specs.declared.FitError.{FitError}
 
 -- ---- a call of the table, and what it leaves
 
@@ -100,7 +95,7 @@ deep = float 0 ∷ of_int binary64 (negsuc 999) ∷ float 10 ∷ float 10 ∷ []
 abbrev pub words : List ℕ
 words = replicate 7 0
 
-abbrev pub tree_by : Height → Depth → ℕ → ℕ → Given → TreeCall
+abbrev pub tree_by : Height → Option ℕ → ℕ → ℕ → Given → TreeCall
 tree_by height depth leaf split G =
     record {
       shape = record { rows = 4; features = 1 };
@@ -111,20 +106,20 @@ tree_by height depth leaf split G =
       thresholds = [];
     }
 
-abbrev pub tree : Depth → ℕ → ℕ → Given → TreeCall
+abbrev pub tree : Option ℕ → ℕ → ℕ → Given → TreeCall
 tree depth leaf split G = tree_by Midpoint depth leaf split G
 
 -- P1's, with another listing
 abbrev pub listed : List ℕ → TreeCall
-listed listing = tree Unlimited 1 2 (given rise flats ones listing)
+listed listing = tree None 1 2 (given rise flats ones listing)
 
 abbrev pub forest : Given → ForestCall
 forest G =
     record {
       shape = record { rows = 4; features = 1 };
       trees = 1;
-      settings = record { depth = Unlimited; leaf = 1; split = 2; splitter = Best; height = Midpoint };
-      tried = Unsaid;
+      settings = record { depth = None; leaf = 1; split = 2; splitter = Best; height = Midpoint };
+      tried = None;
       given = G;
       words = words;
       thresholds = [];
@@ -264,7 +259,7 @@ lone v k = nodes (v ∷ []) (f0 ∷ []) (f0 ∷ []) (0 ∷ []) (0 ∷ []) k
 abbrev pub says : ℕ → ℕ → Float → ℕ → Columns → Behind → Seen
 says n depth mass searches c b =
     fitted (record {
-      answer = TreeAnswer.Grown (record { nodes = n; depth = depth; mass = mass; searches = searches; words = searches; thresholds = 0 });
+      answer = Ok (record { nodes = n; depth = depth; mass = mass; searches = searches; words = searches; thresholds = 0 });
       rooms = record { nodes = c; behind = b; work = work 0 false f0 };
     })
 
@@ -274,16 +269,16 @@ one_leaf searches = says 1 0 f4 searches (lone f5 6) (beside (4 ∷ []) (f4 ∷ 
 
 -- refused, and all as it was
 abbrev pub no : Refusal → TreeRooms WaitingRoom → Seen
-no r R = fitted (record { answer = TreeAnswer.Refused r; rooms = R })
+no r R = fitted (record { answer = Err (FitError.Refused r); rooms = R })
 
 abbrev pub results : List Float → Outcome Reply (List Float)
-results l = record { answer = Reply.Done; rooms = l }
+results l = record { answer = Ok tt; rooms = l }
 
 -- a forest of one tree that takes three words, with the means for the rows that it leaves out, and their error
 abbrev pub one_tree : ℕ → Columns → Behind → List Float → ErrorReply → Seen
 one_tree n c b means error =
     bagged (record {
-      answer = ForestAnswer.Grown;
+      answer = Ok tt;
       rooms = record {
         nodes = c;
         behind = b;
@@ -297,4 +292,4 @@ one_tree n c b means error =
 
 -- P8's: the second row alone has a mean
 abbrev pub bag_of_p8 : Float → Seen
-bag_of_p8 error = one_tree 5 five (five_beside 0) (nan ∷ f0 ∷ nan ∷ nan ∷ []) (ErrorReply.Error (record { error = error; rows = 1 }))
+bag_of_p8 error = one_tree 5 five (five_beside 0) (nan ∷ f0 ∷ nan ∷ nan ∷ []) (Ok (record { error = error; rows = 1 }))

@@ -1,16 +1,17 @@
 // Kind 13: a node read out.
 ghost use Rattle.std.specs.Prelude.{◌≡◌, length};
 
+use crate::calls::Call;
+use crate::compared;
 use crate::compared::Verdict;
-use crate::{calls, compared};
-use rules::NodeTold;
+use rules::{NodeTold, Table};
 
 fn told_of(t: NodeTold) -> [usize; 8]
     ensures { 8 ≡ length result }
 {
     [
         t.number as usize,
-        compared::flag(t.there),
+        usize::from(t.there),
         compared::pattern(t.value),
         t.feature as usize,
         compared::pattern(t.threshold),
@@ -20,6 +21,7 @@ fn told_of(t: NodeTold) -> [usize; 8]
     ]
 }
 
+// The columns come one by one, since what bounds the false child's number is known where its slice is a parameter.
 fn read(
     features: usize,
     value: &[f64],
@@ -30,28 +32,34 @@ fn read(
     falsechild: &[u32],
     k: usize,
 ) -> NodeTold {
-    let r = tables::read_node(
-        features, value, feature, threshold, score, truechild, falsechild, k,
-    );
+    let table = Table {
+        value,
+        feature,
+        threshold,
+        score,
+        truechild,
+        falsechild,
+    };
+    let r = tables::read_node(features, &table, k);
     c_types::node_told_of(r)
 }
 
-pub fn replay(call: &[usize], reals: &[f64], words: &[u32], answer: &[usize]) -> Verdict {
-    let c = calls::columns_at(call, 1);
-    let asked = calls::rest(call, c.end);
+pub fn replay(call: &Call, answer: &[usize]) -> Verdict {
+    let c = call.columns(1);
+    let asked = call.rest(c.end);
     if asked.len() != 1 {
         return Verdict::Malformed;
     }
-    let t = read(
-        calls::number(call, 0),
-        calls::reals(reals, c.value, c.feature),
-        calls::words(words, c.feature, c.threshold),
-        calls::reals(reals, c.threshold, c.score),
-        calls::reals(reals, c.score, c.truechild),
-        calls::words(words, c.truechild, c.falsechild),
-        calls::words(words, c.falsechild, c.end),
+    let table = call.table(c);
+    let told = told_of(read(
+        call.number(0),
+        table.value,
+        table.feature,
+        table.threshold,
+        table.score,
+        table.truechild,
+        table.falsechild,
         asked[0],
-    );
-    let told = told_of(t);
-    compared::judged(answer, &told, compared::first(8))
+    ));
+    compared::first(answer, &[], 8).judged(&told)
 }

@@ -1,6 +1,6 @@
 -- What the passed checks say of the lent rooms. Assumes nothing.
-use Rattle.std.specs.Prelude.{ℕ, suc, ◌-◌, ◌*◌, ◌≤◌, min, max, ◌≡◌, List, [], ◌∷◌, length, get_or, take, drop, T, leb}
-use Rattle.std.proofs.Common.{arith, length-take, length-drop, leb→le}
+use Rattle.std.specs.Prelude.{ℕ, suc, ◌*◌, ◌≤◌, min, max, List, [], ◌∷◌, length, get_or, T, leb}
+use Rattle.std.proofs.Common.{arith, leb→le}
 use Rattle.rules.specs.declared.Shape.{Shape}
 use Rattle.rules.specs.Lent.{Work, WaitingRoom, waiting_room}
 use Rattle.rules.specs.Checks.{work_enough}
@@ -12,12 +12,9 @@ pub every-each : {A : Type 0} (Q : A → Type 0) (l : List A) (d : A) → ((i : 
 every-each Q [] d h = tt
 every-each Q (x ∷ l) d h = (h 0, every-each Q l d (λ i. h (suc i)))
 
--- a front part that is lent
-pub lent-long {ℓ} : {A : Type ℓ} (n : ℕ) (l : List A) → n ≤ length l → length (take (n - 0) (drop 0 l)) ≡ n
-lent-long n l h = simp (length-take, length-drop) (omega arith)
-
 -- ---- the work room that the checks ask
 
+-- long enough for a fit of that shape
 pub record WorkRoom (S : Shape) (w : Work WaitingRoom) : Type 0 where
   pub order : S.features * S.rows ≤ length w.order
   pub scratch : S.rows ≤ length w.scratch

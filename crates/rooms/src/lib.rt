@@ -1,68 +1,53 @@
-// Rooms that are lent, filled with zero.
+// Rooms that are lent, filled with zero; and what a slice of floats says by its type.
 #![tactic(auto)]
 
 ghost use Rattle.std.specs.Prelude.{◌≡◌};
-ghost use Rattle.rules.specs.Lent.{columns_of, behind_of, reports_of, work_of, waiting_room, zero_columns, zero_behind, zero_reports, zero_work};
+ghost use Rattle.rules.specs.Lent.{waiting_room, zero_columns, zero_behind, zero_reports, zero_work};
+ghost use Rattle.lemmas.specs.Passed.{Binary64};
+ghost use Rattle.rules.specs.Slices.{nodes_in, behind_in, reports_in, work_in, SameNodes, SameReports, SameWork};
 
-pub fn zero_nodes(
-    value: &mut [f64],
-    feature: &mut [u32],
-    threshold: &mut [f64],
-    score: &mut [f64],
-    truechild: &mut [u32],
-    falsechild: &mut [u32],
-)
-    ensures { columns_of value.new feature.new threshold.new score.new truechild.new falsechild.new
-        ≡ zero_columns (columns_of value.old feature.old threshold.old score.old truechild.old falsechild.old) }
+use rules::{NodeRoom, ReportRoom, WorkRoom};
+
+// The six columns of a table, and the two beside them.
+pub fn zero_nodes(room: &mut NodeRoom)
+    ensures table { nodes_in room.new ≡ zero_columns (nodes_in room.old) }
+    ensures behind { behind_in room.new ≡ zero_behind (behind_in room.old) }
+    ensures same { SameNodes room.old room.new }
 {
-    slices::zero_f64(value);
-    slices::zero_u32(feature);
-    slices::zero_f64(threshold);
-    slices::zero_f64(score);
-    slices::zero_u32(truechild);
-    slices::zero_u32(falsechild);
+    slices::fill(room.value, 0.0);
+    slices::fill(room.feature, 0);
+    slices::fill(room.threshold, 0.0);
+    slices::fill(room.score, 0.0);
+    slices::fill(room.truechild, 0);
+    slices::fill(room.falsechild, 0);
+    slices::fill(room.count, 0);
+    slices::fill(room.mass, 0.0);
 }
 
-// Of a fit, the two columns beside the six.
-pub fn zero_behind(nodecount: &mut [u32], nodemass: &mut [f64])
-    ensures { behind_of nodecount.new nodemass.new ≡ zero_behind (behind_of nodecount.old nodemass.old) }
+pub fn zero_work(room: &mut WorkRoom)
+    ensures zero { work_in room.new ≡ zero_work waiting_room (work_in room.old) }
+    ensures same { SameWork room.old room.new }
 {
-    slices::zero_u32(nodecount);
-    slices::zero_f64(nodemass);
+    slices::fill(room.order, 0);
+    slices::fill(room.scratch, 0);
+    slices::fill(room.flags, false);
+    slices::fill(room.wholes, [0; 6]);
+    slices::fill(room.reals, [0.0; 3]);
 }
 
-pub fn zero_work(
-    order: &mut [u32],
-    scratch: &mut [u32],
-    flags: &mut [bool],
-    wholes: &mut [[u32; 6]],
-    reals: &mut [[f64; 3]],
-)
-    ensures { work_of order.new scratch.new flags.new wholes.new reals.new
-        ≡ zero_work waiting_room (work_of order.old scratch.old flags.old wholes.old reals.old) }
+pub fn zero_reports(room: &mut ReportRoom)
+    ensures zero { reports_in room.new ≡ zero_reports (reports_in room.old) }
+    ensures same { SameReports room.old room.new }
 {
-    slices::zero_u32(order);
-    slices::zero_u32(scratch);
-    slices::zero_bool(flags);
-    slices::zero_wholes(wholes);
-    slices::zero_reals(reals);
+    slices::fill(room.nodes, 0);
+    slices::fill(room.depth, 0);
+    slices::fill(room.mass, 0.0);
+    slices::fill(room.searches, 0);
+    slices::fill(room.words, 0);
+    slices::fill(room.thresholds, 0);
 }
 
-pub fn zero_reports(
-    nodes: &mut [u32],
-    depth: &mut [u32],
-    mass: &mut [f64],
-    searches: &mut [u32],
-    words: &mut [u32],
-    thresholds: &mut [u32],
-)
-    ensures { reports_of nodes.new depth.new mass.new searches.new words.new thresholds.new
-        ≡ zero_reports (reports_of nodes.old depth.old mass.old searches.old words.old thresholds.old) }
-{
-    slices::zero_u32(nodes);
-    slices::zero_u32(depth);
-    slices::zero_f64(mass);
-    slices::zero_u32(searches);
-    slices::zero_u32(words);
-    slices::zero_u32(thresholds);
-}
+// Each value is a number of 64 bits. Of a slice that lies in a struct a proof has this only where the slice is passed.
+pub fn values_fit(values: &[f64])
+    ensures { Binary64 values.now }
+{}

@@ -1,11 +1,10 @@
 -- How the first test that fails decides, and the tests behind refusals 1, 2, 3, 4 and 6. Those of 11 to 13 are in Listing, of 7 in Draws, of 8 in Table, of 9, 10 and 18 in OutOfBag.
-use Rattle.std.specs.Prelude.{ℕ, zero, suc, ◌-◌, ◌*◌, max, Bool, not, ◌&&◌, ◌||◌, cond, List, [], ◌∷◌, length, get_or, leb, eqb, Float}
+use Rattle.std.specs.Prelude.{ℕ, zero, suc, ◌-◌, ◌*◌, max, Bool, not, ◌&&◌, ◌||◌, cond, List, [], ◌∷◌, length, get_or, leb, eqb, Float, Ok, Err}
 use Rattle.std.specs.Float.Ieee.{lt}
 use Rattle.std.specs.Float.Ieee.Scale.{finite}
 use Rattle.rules.specs.declared.Shape.{Shape}
 use Rattle.rules.specs.declared.Refusal.{Refusal}
-use Rattle.rules.specs.declared.Checked.{Checked}
-use Rattle.rules.specs.declared.Reply.{Reply}
+use Rattle.rules.specs.Results.{Checked, Reply}
 use Rattle.rules.specs.Words.{nought, every, along}
 use Rattle.rules.specs.Lent.{Given, OneTree, Reports, WaitingForm, Work, unweighted, kept_rows}
 
@@ -24,13 +23,13 @@ test n b = record { tells = numbered n; passes = b }
 
 -- R3.1: the first that fails decides
 unfoldable pub checked : List Test → Checked
-checked [] = Checked.Passed
-checked (t ∷ ts) = cond t.passes (checked ts) (Checked.Refused t.tells)
+checked [] = Ok tt
+checked (t ∷ ts) = cond t.passes (checked ts) (Err t.tells)
 
 -- R3.2: for a call that tells a number alone; 0 says that none fails
 abbrev pub number_of : Checked → ℕ
-number_of Checked.Passed = 0
-number_of (Checked.Refused r) = r.number
+number_of (Ok _) = 0
+number_of (Err r) = r.number
 
 -- R3.2
 abbrev pub first_failed : List Test → ℕ
@@ -38,8 +37,8 @@ first_failed ts = number_of (checked ts)
 
 -- R3.2: the answer of a call that only checks tables
 unfoldable pub replies : ℕ → Reply
-replies zero = Reply.Done
-replies (suc n) = Reply.Refused (suc n)
+replies zero = Ok tt
+replies (suc n) = Err (suc n)
 
 -- ---- 1
 

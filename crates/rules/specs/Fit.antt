@@ -1,16 +1,13 @@
 -- The fit of one tree: from what is lent to its answer and the rooms after.
-use Rattle.std.specs.Prelude.{ℕ, suc, ◌-◌, ◌&&◌, List, [], ◌∷◌, ◌++◌, map, length, get_or, leb, Float}
+use Rattle.std.specs.Prelude.{ℕ, suc, ◌-◌, ◌&&◌, List, [], ◌∷◌, ◌++◌, map, length, get_or, leb, Float, Ok, Err, Some, None, Option}
 use Rattle.std.specs.Float.{nan}
 use Rattle.rules.specs.declared.Params.{Params}
-use Rattle.rules.specs.declared.Depth.{Depth}
-use Rattle.rules.specs.declared.Depth.TheVariants.{Unlimited, AtMost}
 use Rattle.rules.specs.declared.Settings.{Settings}
 use Rattle.rules.specs.declared.Shape.{Shape}
 use Rattle.rules.specs.declared.Kind.{Kind}
 use Rattle.rules.specs.declared.Kind.TheVariants.{Leaf, Split}
 use Rattle.rules.specs.declared.Report.{Report}
-use Rattle.rules.specs.declared.Checked.{Checked}
-use Rattle.rules.specs.declared.TreeAnswer.{TreeAnswer}
+use Rattle.rules.specs.Results.{Checked, TreeAnswer}
 use Rattle.rules.specs.Words.{from, keep, front, total}
 use Rattle.rules.specs.Totals.{empty, value_of}
 use Rattle.rules.specs.Lent.{Data, Given, OneTree, Behind, Entry, WaitingForm, TreeRooms, Outcome, values_at, listing_at, count_in, mass_in, kept, kept_rows, shortest_of_eight, leaf_entry, write_entries, zero_columns, zero_behind, zero_work}
@@ -19,6 +16,7 @@ use Rattle.rules.specs.Listing.{order_tests}
 use Rattle.rules.specs.Draws.{Out, bad, ok, bind, Tapes, tape}
 use Rattle.rules.specs.Search.{Element, Column, totals_of, NodeRows, search}
 use Rattle.rules.specs.Growth.{TreeNode, State, from_root}
+use Rattle.rules.specs.declared.FitError.{FitError}
 
 -- ---- the root
 
@@ -109,9 +107,9 @@ write_behind ns b =
 -- ---- the call
 
 -- R10.7: no greatest depth acts as 65,535
-unfoldable pub limit_of : Depth → ℕ
-limit_of Unlimited = 65535
-limit_of (AtMost d) = d
+unfoldable pub limit_of : Option ℕ → ℕ
+limit_of None = 65535
+limit_of (Some d) = d
 
 -- R10.7
 unfoldable pub params_of : Settings → ℕ → ℕ → Params
@@ -164,19 +162,19 @@ module _ {W : Type 0} (K : WaitingForm W) where
   unfoldable pub tree_done : Out Tree → TreeRooms W → Outcome TreeAnswer (TreeRooms W)
   tree_done (bad s) R =
       record {
-        answer = TreeAnswer.BadDraw (record { tree = 0; search = s });
+        answer = Err (FitError.BadDraw (record { tree = 0; search = s }));
         rooms = record { nodes = zero_columns R.nodes; behind = zero_behind R.behind; work = zero_work K R.work };
       }
   tree_done (ok t) R =
       record {
-        answer = TreeAnswer.Grown t.report;
+        answer = Ok t.report;
         rooms = record { nodes = write_entries (entries t.nodes) R.nodes; behind = write_behind t.nodes R.behind; work = zero_work K R.work };
       }
 
   -- R10.12: a refusal by one of these leaves the rooms as they were
   unfoldable pub tree_ends : Checked → Out Tree → TreeRooms W → Outcome TreeAnswer (TreeRooms W)
-  tree_ends Checked.Passed o R = tree_done o R
-  tree_ends (Checked.Refused r) o R = record { answer = TreeAnswer.Refused r; rooms = R }
+  tree_ends (Ok _) o R = tree_done o R
+  tree_ends (Err r) o R = record { answer = Err (FitError.Refused r); rooms = R }
 
   -- R10.12
   unfoldable pub fit_tree : TreeCall → TreeRooms W → Outcome TreeAnswer (TreeRooms W)

@@ -1,12 +1,9 @@
 -- The fit of a forest: each tree with its own counts and its own part of both tapes.
-use Rattle.std.specs.Prelude.{ℕ, zero, suc, ◌+◌, ◌-◌, ◌*◌, Bool, ◌&&◌, cond, List, [], ◌∷◌, ◌++◌, map, length, get_or, leb, Float}
+use Rattle.std.specs.Prelude.{ℕ, zero, suc, ◌+◌, ◌-◌, ◌*◌, Bool, ◌&&◌, cond, List, [], ◌∷◌, ◌++◌, map, length, get_or, leb, Float, Ok, Err, Some, None, Option}
 use Rattle.rules.specs.declared.Settings.{Settings}
 use Rattle.rules.specs.declared.Shape.{Shape}
-use Rattle.rules.specs.declared.Tried.{Tried}
-use Rattle.rules.specs.declared.Tried.TheVariants.{Unsaid, Number}
 use Rattle.rules.specs.declared.Place.{Place}
-use Rattle.rules.specs.declared.Checked.{Checked}
-use Rattle.rules.specs.declared.ForestAnswer.{ForestAnswer}
+use Rattle.rules.specs.Results.{Checked, ForestAnswer}
 use Rattle.rules.specs.Words.{from, stretch, front, filled, joined, total}
 use Rattle.rules.specs.Lent.{Data, Given, OneTree, Entry, WaitingForm, ForestRooms, Outcome, shortest_of_eight, write_entries, write_reports, zero_columns, zero_behind, zero_reports, zero_work}
 use Rattle.rules.specs.Checks.{Test, test, checked, trees_in, shape_in, lengths, good_tape_starts, numbers_good, counts_good, counts_one, room_for, work_enough, reports_exact}
@@ -14,13 +11,14 @@ use Rattle.rules.specs.Listing.{order_tests}
 use Rattle.rules.specs.Draws.{Out, bad, ok}
 use Rattle.rules.specs.Growth.{TreeNode}
 use Rattle.rules.specs.Fit.{Tree, fit, entries, write_behind, params_of}
+use Rattle.rules.specs.declared.FitError.{FitError}
 
 -- R11.1
 pub record ForestCall : Type 0 where
   pub shape : Shape
   pub trees : ℕ
   pub settings : Settings
-  pub tried : Tried
+  pub tried : Option ℕ
   pub given : Given
   pub words : List ℕ
   pub thresholds : List Float
@@ -28,7 +26,7 @@ pub record ForestCall : Type 0 where
   pub threshold_starts : List ℕ
 
 -- R11.1
-abbrev pub forest_call : Shape → ℕ → Settings → Tried → Given → List ℕ → List Float → List ℕ → List ℕ → ForestCall
+abbrev pub forest_call : Shape → ℕ → Settings → Option ℕ → Given → List ℕ → List Float → List ℕ → List ℕ → ForestCall
 forest_call shape trees settings tried given words thresholds word_starts threshold_starts =
     record {
       shape = shape;
@@ -48,9 +46,9 @@ squares n zero = 0
 squares n (suc k) = cond (leb (suc k * suc k) n) 1 0 + squares n k
 
 -- R11.2
-unfoldable pub tried_of : ℕ → Tried → ℕ
-tried_of features Unsaid = squares features features
-tried_of features (Number m) = m
+unfoldable pub tried_of : ℕ → Option ℕ → ℕ
+tried_of features None = squares features features
+tried_of features (Some m) = m
 
 -- R11.3: a tree's own part of a tape
 unfoldable pub part {ℓ} : {A : Type ℓ} → List ℕ → List A → ℕ → List A
@@ -139,7 +137,7 @@ module _ {W : Type 0} (K : WaitingForm W) where
   unfoldable pub forest_done : Forest → ForestRooms W → Outcome ForestAnswer (ForestRooms W)
   forest_done (stopped d) R =
       record {
-        answer = ForestAnswer.BadDraw d;
+        answer = Err (FitError.BadDraw d);
         rooms = record {
           nodes = zero_columns R.nodes;
           behind = zero_behind R.behind;
@@ -150,7 +148,7 @@ module _ {W : Type 0} (K : WaitingForm W) where
       }
   forest_done (grown_all ts) R =
       record {
-        answer = ForestAnswer.Grown;
+        answer = Ok tt;
         rooms = record {
           nodes = write_entries (forest_entries ts) R.nodes;
           behind = write_behind (forest_nodes ts) R.behind;
@@ -162,8 +160,8 @@ module _ {W : Type 0} (K : WaitingForm W) where
 
   -- R11.10: a refusal by one of these leaves the rooms as they were
   unfoldable pub forest_ends : Checked → Forest → ForestRooms W → Outcome ForestAnswer (ForestRooms W)
-  forest_ends Checked.Passed f R = forest_done f R
-  forest_ends (Checked.Refused r) f R = record { answer = ForestAnswer.Refused r; rooms = R }
+  forest_ends (Ok _) f R = forest_done f R
+  forest_ends (Err r) f R = record { answer = Err (FitError.Refused r); rooms = R }
 
   -- R11.10
   unfoldable pub fit_forest : ForestCall → ForestRooms W → Outcome ForestAnswer (ForestRooms W)

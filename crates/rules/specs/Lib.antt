@@ -11,6 +11,8 @@
 --   OneTree     rows, Params, weights, and one tree's counts and tapes: of a TreeCall by one_tree_of in Fit, of tree t of a ForestCall by one_tree_at in Forest
 -- From OneTree and Data on both fits are the same: fit in Fit.
 
+-- 0: answers as results, a candidate as an option
+pub mod Results
 -- 1: a few words on lists and numbers
 pub mod Words
 -- 2: what is lent
@@ -38,3 +40,5 @@ pub mod Plain
 -- 17, 18: a forest's table as a file
 pub mod Bytes
 pub mod Model
+-- the slices that are lent, as lists
+pub mod Slices

@@ -3,7 +3,7 @@ use Rattle.std.specs.Prelude.{ℕ, zero, suc, Bool, false, not, ◌&&◌, cond, 
 use Rattle.std.specs.Float.Ieee.{lt}
 use Rattle.rules.specs.declared.Shape.{Shape}
 use Rattle.rules.specs.declared.Refusal.{Refusal}
-use Rattle.rules.specs.declared.Checked.{Checked}
+use Rattle.rules.specs.Results.{Checked}
 use Rattle.rules.specs.Words.{from, joined, member}
 use Rattle.rules.specs.Lent.{cell, listing_at}
 use Rattle.rules.specs.Checks.{Test, test, checked, shape_in, values_long, listings_long}

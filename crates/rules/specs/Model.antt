@@ -1,9 +1,8 @@
 -- A model as a file: its bytes, written and read.
-use Rattle.std.specs.Prelude.{ℕ, zero, suc, ◌+◌, Bool, ◌&&◌, ◌||◌, cond, List, [], ◌∷◌, ◌++◌, length, leb, ltb, eqb}
+use Rattle.std.specs.Prelude.{ℕ, zero, suc, ◌+◌, Bool, ◌&&◌, ◌||◌, cond, List, [], ◌∷◌, ◌++◌, length, leb, ltb, eqb, Ok, Err}
 use Rattle.rules.specs.declared.Misread.{Misread}
 use Rattle.rules.specs.declared.Sizes.{Sizes}
-use Rattle.rules.specs.declared.ModelReply.{ModelReply}
-use Rattle.rules.specs.declared.SizeReply.{SizeReply}
+use Rattle.rules.specs.Results.{ModelReply, SizeReply}
 use Rattle.rules.specs.Words.{joined, total, stretch, front}
 use Rattle.rules.specs.Lent.{Columns, Entry, Outcome, outcome_of, shortest, leaf_entry, write_entries}
 use Rattle.rules.specs.Checks.{Test, test, first_failed, features_in, trees_in}
@@ -128,8 +127,8 @@ model_in bs =
 
 -- R18.13: how many bytes a table takes, or why it has no file
 unfoldable pub sized : ℕ → ℕ → SizeReply
-sized zero n = SizeReply.Bytes n
-sized (suc r) n = SizeReply.Refused (suc r)
+sized zero n = Ok n
+sized (suc r) n = Err (suc r)
 
 -- R18.13
 unfoldable pub model_size : ℕ → ForestTable → SizeReply
@@ -141,8 +140,8 @@ write_tests features T out = forest_table_tests features T ++ (test 6 (leb (leng
 
 -- R18.14
 unfoldable pub wrote : ℕ → List ℕ → List ℕ → Outcome SizeReply (List ℕ)
-wrote zero file out = outcome_of (SizeReply.Bytes (length file)) (front file out)
-wrote (suc r) file out = outcome_of (SizeReply.Refused (suc r)) out
+wrote zero file out = outcome_of (Ok (length file)) (front file out)
+wrote (suc r) file out = outcome_of (Err (suc r)) out
 
 -- R18.14
 unfoldable pub write_model : ℕ → ForestTable → List ℕ → Outcome SizeReply (List ℕ)
@@ -176,10 +175,10 @@ sizes_of M = record { features = M.features; trees = length M.trees; nodes = tot
 
 -- R18.16: what is misread, or has no room, changes nothing
 unfoldable pub reading : Field Model → TableRooms → Outcome ModelReply TableRooms
-reading (misread m) R = outcome_of (ModelReply.Refused m) R
+reading (misread m) R = outcome_of (Err m) R
 reading (says M at) R =
-    cond (rooms_enough M.trees R) (outcome_of (ModelReply.Read (sizes_of M)) (filled_by M.trees R))
-    (outcome_of (ModelReply.Refused (record { number = 6; place = 0 })) R)
+    cond (rooms_enough M.trees R) (outcome_of (Ok (sizes_of M)) (filled_by M.trees R))
+    (outcome_of (Err (record { number = 6; place = 0 })) R)
 
 -- R18.16
 unfoldable pub read_model : List ℕ → TableRooms → Outcome ModelReply TableRooms

@@ -1,11 +1,10 @@
 -- Out-of-bag means, the error of the means, and refusals 9, 10 and 18.
-use Rattle.std.specs.Prelude.{ℕ, zero, suc, ◌+◌, ◌*◌, not, ◌&&◌, cond, List, [], ◌∷◌, map, length, get_or, ltb, eqb, Float}
+use Rattle.std.specs.Prelude.{ℕ, zero, suc, ◌+◌, ◌*◌, not, ◌&&◌, cond, List, [], ◌∷◌, map, length, get_or, ltb, eqb, Float, Ok, Err}
 use Rattle.std.specs.Float.{binary64}
 use Rattle.std.specs.Float.Ieee.{add, sub, mul, div, is_nan}
 use Rattle.rules.specs.declared.Shape.{Shape}
-use Rattle.rules.specs.declared.Reply.{Reply}
+use Rattle.rules.specs.Results.{Reply, ErrorReply}
 use Rattle.rules.specs.declared.Figure.{Figure}
-use Rattle.rules.specs.declared.ErrorReply.{ErrorReply}
 use Rattle.rules.specs.Words.{nought, float, from, put_if, keep}
 use Rattle.rules.specs.Lent.{Entry, Outcome, values_at}
 use Rattle.rules.specs.Checks.{Test, test, first_failed, rows_in, trees_in, shape_in, values_long}
@@ -68,8 +67,8 @@ error_tests rows ys ms =
 
 -- R14.6
 unfoldable pub errs : ℕ → Figure → ErrorReply
-errs zero f = ErrorReply.Error f
-errs (suc n) f = ErrorReply.Refused (suc n)
+errs zero f = Ok f
+errs (suc n) f = Err (suc n)
 
 -- R14.6
 unfoldable pub out_of_bag_error : ℕ → List Float → List Float → ErrorReply

@@ -1,10 +1,8 @@
 -- Settings and answers in plain numbers, as they cross over to Rust and C.
-use Rattle.std.specs.Prelude.{ℕ, Bool, cond, Float}
-use Rattle.rules.specs.declared.Depth.{Depth}
+use Rattle.std.specs.Prelude.{ℕ, Bool, cond, Float, Some, None, Option}
 use Rattle.rules.specs.declared.Splitter.{Splitter}
 use Rattle.rules.specs.declared.Height.{Height}
 use Rattle.rules.specs.declared.Settings.{Settings}
-use Rattle.rules.specs.declared.Tried.{Tried}
 use Rattle.rules.specs.declared.Scale.{Scale}
 use Rattle.rules.specs.declared.TreeSettings.{TreeSettings}
 use Rattle.rules.specs.declared.ForestSettings.{ForestSettings}
@@ -16,8 +14,8 @@ use Rattle.rules.specs.Answers as Answers
 -- ---- what is given
 
 -- R16.1
-abbrev pub depth_of : Bool → ℕ → Depth
-depth_of limited limit = cond limited (Depth.AtMost limit) Depth.Unlimited
+abbrev pub depth_of : Bool → ℕ → Option ℕ
+depth_of limited limit = cond limited (Some limit) None
 
 -- R16.1
 abbrev pub splitter_of : Bool → Splitter
@@ -28,8 +26,8 @@ abbrev pub height_of : Bool → Height
 height_of lower = cond lower Height.Lower Height.Midpoint
 
 -- R16.1
-abbrev pub tried_from : Bool → ℕ → Tried
-tried_from said tried = cond said (Tried.Number tried) Tried.Unsaid
+abbrev pub tried_from : Bool → ℕ → Option ℕ
+tried_from said tried = cond said (Some tried) None
 
 -- R16.1
 unfoldable pub settings_of : Bool → ℕ → ℕ → ℕ → Bool → Bool → Settings

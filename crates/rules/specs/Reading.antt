@@ -1,11 +1,11 @@
 -- Reading a tree table: walks, predictions, means, importances.
-use Rattle.std.specs.Prelude.{ℕ, zero, suc, Bool, true, false, not, ◌&&◌, cond, List, [], ◌∷◌, map, length, get_or, set, replicate, eqb, Float}
+use Rattle.std.specs.Prelude.{ℕ, zero, suc, Bool, true, false, not, ◌&&◌, cond, List, [], ◌∷◌, map, length, get_or, set, replicate, eqb, Float, Ok, Err}
 use Rattle.std.specs.Float.{nan, binary64}
 use Rattle.std.specs.Float.Ieee.{add, div, lt, le}
 use Rattle.rules.specs.declared.Shape.{Shape}
 use Rattle.rules.specs.declared.Scale.{Scale}
 use Rattle.rules.specs.declared.Scale.TheVariants.{Normalised, ByMass}
-use Rattle.rules.specs.declared.Reply.{Reply}
+use Rattle.rules.specs.Results.{Reply}
 use Rattle.rules.specs.Words.{nought, float, from}
 use Rattle.rules.specs.Lent.{Columns, Entry, Outcome, values_at, leaf_entry}
 use Rattle.rules.specs.Checks.{Test, test, first_failed, features_in, trees_in, shape_in, values_long}
@@ -34,8 +34,8 @@ leaf_value es xs = (get_or es (walked (length es) es xs 0) no_entry).value
 
 -- R13.3
 unfoldable pub reads : ℕ → List Float → List Float → Outcome Reply (List Float)
-reads zero new old = record { answer = Reply.Done; rooms = new }
-reads (suc n) new old = record { answer = Reply.Refused (suc n); rooms = old }
+reads zero new old = record { answer = Ok tt; rooms = new }
+reads (suc n) new old = record { answer = Err (suc n); rooms = old }
 
 -- ---- predictions of one tree
 

@@ -1,6 +1,6 @@
 -- The search of a node for its cut, under both splitters.
 -- Rows become elements before growth (Fit): from there on nothing looks at a row number.
-use Rattle.std.specs.Prelude.{ℕ, ◌+◌, ◌-◌, min, Bool, true, false, not, cond, List, [], ◌∷◌, get_or, take, ltb, Float}
+use Rattle.std.specs.Prelude.{ℕ, ◌+◌, ◌-◌, min, Bool, true, false, not, cond, List, [], ◌∷◌, get_or, take, ltb, Float, Some, None}
 use Rattle.std.specs.Float.{nan}
 use Rattle.std.specs.Float.Ieee.{lt, le, eq}
 use Rattle.rules.specs.declared.Totals.{Totals}
@@ -8,8 +8,7 @@ use Rattle.rules.specs.declared.Params.{Params}
 use Rattle.rules.specs.declared.Splitter.{Splitter}
 use Rattle.rules.specs.declared.Splitter.TheVariants.{Best, Random}
 use Rattle.rules.specs.declared.Cut.{Cut}
-use Rattle.rules.specs.declared.Held.{Held}
-use Rattle.rules.specs.declared.Held.TheVariants.{Nothing, Holds}
+use Rattle.rules.specs.Results.{Held}
 use Rattle.rules.specs.declared.Sweep.{Sweep}
 use Rattle.rules.specs.Words.{keep, total}
 use Rattle.rules.specs.Totals.{empty, take_in, less, proxy}
@@ -79,8 +78,8 @@ false_side c es = side_of on_false c es
 
 -- R8.6: c with proxy q, against what is held: a NaN held is never given up
 unfoldable pub better : Held → Cut → Float → Held
-better Nothing c q = Holds c q
-better (Holds b p) c q = cond (lt p q) (Holds c q) (Holds b p)
+better None c q = Some (c, q)
+better (Some (b, p)) c q = cond (lt p q) (Some (c, q)) (Some (b, p))
 
 -- R8.7: a cut whose true side has totals t and count k: both sides must have the least leaf
 unfoldable pub judge : Params → NodeRows → Held → Totals → ℕ → Cut → Held
@@ -165,12 +164,12 @@ pub data Found : Type 0 where
 
 -- R8.15
 abbrev pub found : Held → Found
-found Nothing = no_cut
-found (Holds c q) = cut_found c
+found None = no_cut
+found (Some (c, q)) = cut_found c
 
 -- R8.15
 unfoldable pub search : {S : Type 0} → Source S → Params → S → NodeRows → Out (Found × S)
 search src P s node =
     bind (src.shuffle s) (λ o.
-    bind (try_all src P node (take (min P.tried P.features) o.0) (record { best = Nothing; left = o.1 })) (λ r.
+    bind (try_all src P node (take (min P.tried P.features) o.0) (record { best = None; left = o.1 })) (λ r.
     ok (found r.best, src.done r.left)))

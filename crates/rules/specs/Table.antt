@@ -1,9 +1,8 @@
 -- Tree tables: when one is good, refusal 8, the calls that check one alone, and a node read out.
-use Rattle.std.specs.Prelude.{ℕ, zero, suc, ◌-◌, Bool, true, ◌&&◌, ◌||◌, cond, List, [], ◌∷◌, map, length, get_or, take, leb, ltb, eqb}
+use Rattle.std.specs.Prelude.{ℕ, zero, suc, ◌-◌, Bool, true, ◌&&◌, ◌||◌, cond, List, [], ◌∷◌, map, length, get_or, take, leb, ltb, eqb, Ok, Err, Some, None}
 use Rattle.rules.specs.declared.Kind.TheVariants.{Leaf, Split}
 use Rattle.rules.specs.declared.Node.{Node}
-use Rattle.rules.specs.declared.Reply.{Reply}
-use Rattle.rules.specs.declared.NodeReply.{NodeReply}
+use Rattle.rules.specs.Results.{Reply, NodeReply}
 use Rattle.rules.specs.Words.{from, every, along}
 use Rattle.rules.specs.Lent.{Columns, Entry, shortest, entry_at, entries_at}
 use Rattle.rules.specs.Checks.{Test, test, first_failed, replies, features_in, trees_in}
@@ -100,8 +99,8 @@ node_of e =
 
 -- R12.12: refused as the table is; else node k, if there is one
 unfoldable pub node_read : ℕ → Columns → ℕ → NodeReply
-node_read zero c k = cond (ltb k (shortest c)) (NodeReply.Read (node_of (entry_at c k))) NodeReply.Missing
-node_read (suc n) c k = NodeReply.Refused (suc n)
+node_read zero c k = cond (ltb k (shortest c)) (Ok (Some (node_of (entry_at c k)))) (Ok None)
+node_read (suc n) c k = Err (suc n)
 
 -- R12.12
 unfoldable pub read_node : ℕ → Columns → ℕ → NodeReply

@@ -1,6 +1,12 @@
 // The plain types that the definitions (specs/) and the code share. What they mean is said in specs/.
 #![tactic(auto)]
 
+ghost use Rattle.std.specs.Prelude.{◌≡◌};
+ghost use Rattle.rules.specs.Lent.{shortest, shortest_of_eight};
+ghost use Rattle.rules.specs.Slices.{columns_in, nodes_in, behind_in};
+
+pub mod plain;
+
 // R0.7: Sums over rows: of target times mass, and of the masses.
 #[derive(Clone, Copy)]
 pub struct Totals {
@@ -15,13 +21,6 @@ pub enum Splitter {
     Random,
 }
 
-// R0.8: The greatest depth.
-#[derive(Clone, Copy)]
-pub enum Depth {
-    Unlimited,
-    AtMost(u16),
-}
-
 // R0.8: Where the best splitter cuts between two measured values: in the middle, or at the lower of them.
 #[derive(Clone, Copy)]
 pub enum Height {
@@ -29,22 +28,18 @@ pub enum Height {
     Lower,
 }
 
-// R0.8: What a fit is told of its trees: greatest depth, least leaf, least split, splitter, and where the best splitter cuts.
+// R0.8: What a fit is told of its trees: the greatest depth if there is one, least leaf, least split, splitter, and where the best splitter cuts.
 #[derive(Clone, Copy)]
 pub struct Settings {
-    pub depth: Depth,
+    pub depth: Option<u16>,
     pub leaf: u32,
     pub split: u32,
     pub splitter: Splitter,
     pub height: Height,
 }
 
-// R0.9: How many features a search of a forest tries: where nothing is said, the floor of the root of their number.
-#[derive(Clone, Copy)]
-pub enum Tried {
-    Unsaid,
-    Number(u32),
-}
+// R0.9: How many features a search of a forest tries, if it is said; else the floor of the root of their number.
+pub type Tried = Option<u32>;
 
 // R0.10: What growth goes by: the settings, the depth as a number, how many features are tried and how many there are.
 #[derive(Clone, Copy)]
@@ -72,12 +67,8 @@ pub struct Cut {
     pub threshold: f64,
 }
 
-// R0.13: The candidate that a search holds: none yet, or a cut and its proxy.
-#[derive(Clone, Copy)]
-pub enum Held {
-    Nothing,
-    Holds(Cut, f64),
-}
+// R0.13: The candidate that a search holds, if it holds one: a cut and its proxy.
+pub type Held = Option<(Cut, f64)>;
 
 // R0.14: What is carried along a column: the rows before by totals and count, the value of the run of equals, the candidate.
 #[derive(Clone, Copy)]
@@ -96,7 +87,7 @@ pub struct Fork {
     pub children: u32,
 }
 
-// R0.15
+// R0.15: An enum of its own, as the forms in docs/DECISIONS.md ask: a leaf is a kind of node, not a split that is missing.
 #[derive(Clone, Copy)]
 pub enum Kind {
     Leaf,
@@ -110,7 +101,7 @@ pub struct Node {
     pub kind: Kind,
 }
 
-// R0.17: How a tree's importances are scaled: by their sum, or by a root mass.
+// R0.17: How a tree's importances are scaled: by their sum, or by a root mass. Neither is an absence, so an option would say less.
 #[derive(Clone, Copy)]
 pub enum Scale {
     Normalised,
@@ -147,34 +138,23 @@ pub struct Refusal {
 }
 
 // R0.24: How the checks of a fit end, and that of listings.
+pub type Checked = Result<(), Refusal>;
+
+// R0.20: Why a fit grew nothing.
 #[derive(Clone, Copy)]
-pub enum Checked {
-    Passed,
+pub enum FitError {
     Refused(Refusal),
+    BadDraw(Place),
 }
 
 // R0.20
-#[derive(Clone, Copy)]
-pub enum TreeAnswer {
-    Refused(Refusal),
-    BadDraw(Place),
-    Grown(Report),
-}
+pub type TreeAnswer = Result<Report, FitError>;
 
 // R0.20
-#[derive(Clone, Copy)]
-pub enum ForestAnswer {
-    Refused(Refusal),
-    BadDraw(Place),
-    Grown,
-}
+pub type ForestAnswer = Result<(), FitError>;
 
-// R0.21: The answer of a reader that writes its results, and of a check of tables.
-#[derive(Clone, Copy)]
-pub enum Reply {
-    Refused(u32),
-    Done,
-}
+// R0.21: The answer of a reader that writes its results, and of a check of tables. A refusal is a number here and below: the rules, their theorems and C name refusals by number.
+pub type Reply = Result<(), u32>;
 
 // R0.21: An out-of-bag error, and the number of rows that it is over.
 #[derive(Clone, Copy)]
@@ -184,19 +164,10 @@ pub struct Figure {
 }
 
 // R0.21
-#[derive(Clone, Copy)]
-pub enum ErrorReply {
-    Refused(u32),
-    Error(Figure),
-}
+pub type ErrorReply = Result<Figure, u32>;
 
 // R0.21: A good tree may have no node of the number asked.
-#[derive(Clone, Copy)]
-pub enum NodeReply {
-    Refused(u32),
-    Missing,
-    Read(Node),
-}
+pub type NodeReply = Result<Option<Node>, u32>;
 
 // R0.25: A model file that is misread: by which refusal, and at which byte the field begins, or the bytes that are left over do. Where the file is good but has no room
 // the place is 0.
@@ -215,22 +186,128 @@ pub struct Sizes {
 }
 
 // R0.25
-#[derive(Clone, Copy)]
-pub enum ModelReply {
-    Refused(Misread),
-    Read(Sizes),
-}
+pub type ModelReply = Result<Sizes, Misread>;
 
 // R0.25: How many bytes a model file has.
+pub type SizeReply = Result<usize, u32>;
+
+// ---- what is lent
+
+// R0.27: The data, weights and counts that a fit is given (R2.2).
 #[derive(Clone, Copy)]
-pub enum SizeReply {
-    Refused(u32),
-    Bytes(usize),
+pub struct Input<'a> {
+    pub values: &'a [f64],
+    pub targets: &'a [f64],
+    pub weights: &'a [f64],
+    pub counts: &'a [u32],
+    pub listings: &'a [u32],
+}
+
+// R0.27: The draws that a fit takes.
+#[derive(Clone, Copy)]
+pub struct Tapes<'a> {
+    pub words: &'a [u32],
+    pub thresholds: &'a [f64],
+}
+
+// R0.27: Where each tree's part of both tapes starts (R3.8).
+#[derive(Clone, Copy)]
+pub struct TapeStarts<'a> {
+    pub words: &'a [usize],
+    pub thresholds: &'a [usize],
+}
+
+// R0.27: A table to read (R2.9).
+#[derive(Clone, Copy)]
+pub struct Table<'a> {
+    pub value: &'a [f64],
+    pub feature: &'a [u32],
+    pub threshold: &'a [f64],
+    pub score: &'a [f64],
+    pub truechild: &'a [u32],
+    pub falsechild: &'a [u32],
+}
+
+impl Table<'_> {
+    // As long as its shortest column.
+    pub fn len(&self) -> usize
+        ensures { result ≡ shortest (columns_in self.now) }
+    {
+        let children = self.truechild.len().min(self.falsechild.len());
+        let cuts = self.threshold.len().min(self.score.len().min(children));
+        self.value.len().min(self.feature.len().min(cuts))
+    }
+}
+
+// R0.27: A forest to read: how many trees, where each starts in the table, and the table (R12.5).
+#[derive(Clone, Copy)]
+pub struct Trees<'a> {
+    pub number: usize,
+    pub starts: &'a [u32],
+    pub table: Table<'a>,
+}
+
+// R0.28: A table to write (R2.9).
+#[derive(Drop)]
+pub struct TableRoom<'a> {
+    pub value: &'a mut [f64],
+    pub feature: &'a mut [u32],
+    pub threshold: &'a mut [f64],
+    pub score: &'a mut [f64],
+    pub truechild: &'a mut [u32],
+    pub falsechild: &'a mut [u32],
+}
+
+// R0.28: The node room of a fit: a table's six columns, and beside them each node's count and mass (R2.9). It holds no `TableRoom`: with a struct of lent slices inside
+// another no proof closed that the slices hold, once the struct is let go, what was written through it.
+#[derive(Drop)]
+pub struct NodeRoom<'a> {
+    pub value: &'a mut [f64],
+    pub feature: &'a mut [u32],
+    pub threshold: &'a mut [f64],
+    pub score: &'a mut [f64],
+    pub truechild: &'a mut [u32],
+    pub falsechild: &'a mut [u32],
+    pub count: &'a mut [u32],
+    pub mass: &'a mut [f64],
+}
+
+impl NodeRoom<'_> {
+    // As long as the shortest of all eight columns.
+    pub fn len(&self) -> usize
+        ensures { result ≡ shortest_of_eight (nodes_in self.now) (behind_in self.now) }
+    {
+        let children = self.truechild.len().min(self.falsechild.len());
+        let cuts = self.threshold.len().min(self.score.len().min(children));
+        let six = self.value.len().min(self.feature.len().min(cuts));
+        six.min(self.count.len().min(self.mass.len()))
+    }
+}
+
+// R0.28: A forest's report columns (R2.11).
+#[derive(Drop)]
+pub struct ReportRoom<'a> {
+    pub nodes: &'a mut [u32],
+    pub depth: &'a mut [u32],
+    pub mass: &'a mut [f64],
+    pub searches: &'a mut [u32],
+    pub words: &'a mut [u32],
+    pub thresholds: &'a mut [u32],
+}
+
+// R0.28: Work room (R2.14); the waiting list lies in two slices (R2.13), as C lends it.
+#[derive(Drop)]
+pub struct WorkRoom<'a> {
+    pub order: &'a mut [u32],
+    pub scratch: &'a mut [u32],
+    pub flags: &'a mut [bool],
+    pub wholes: &'a mut [[u32; 6]],
+    pub reals: &'a mut [[f64; 3]],
 }
 
 // ---- settings and answers, as they cross over
 
-// R0.22: The settings of one tree. The limit is heeded where the depth is limited; the splitter is random, or else best; the best
+// R0.22: The settings of one tree; flags stand beside their values, since C has no option. The limit is heeded where the depth is limited; the splitter is random, or else best; the best
 // splitter cuts at the lower of two values, or else in their middle.
 #[repr(C)]
 #[derive(Clone, Copy)]
@@ -244,7 +321,7 @@ pub struct TreeSettings {
     pub lower: bool,
 }
 
-// R0.22: The settings of a forest. How many features a search tries is heeded where it is said.
+// R0.22: The settings of a forest, in the same form for C. How many features a search tries is heeded where it is said.
 #[repr(C)]
 #[derive(Clone, Copy)]
 pub struct ForestSettings {
@@ -283,7 +360,7 @@ pub struct ErrorTold {
     pub rows: u32,
 }
 
-// R0.23: Whether the node is there, and its place in the six columns; all zero where it is not.
+// R0.23: Whether the node is there, and its place in the six columns; all zero where it is not. C has no option.
 #[repr(C)]
 #[derive(Clone, Copy)]
 pub struct NodeTold {

@@ -12,36 +12,27 @@ ghost use Rattle.scores.specs.Lists.{divided_by};
 use rules::Scale;
 
 // A node's score is added to its feature's, unless it is a leaf.
-pub fn add_score(feature: u32, score: f64, truechild: u32, falsechild: u32, v: &mut [f64])
+pub fn add_score(v: &mut [f64], feature: u32, score: f64, truechild: u32, falsechild: u32)
     requires { no_child truechild falsechild ≡ false → feature < length v.old }
     ensures { v.new ≡ scored (not (is_leaf (marked feature score truechild falsechild))) (marked feature score truechild falsechild) v.old }
 {
-    if entries::is_leaf(truechild, falsechild) {
-        return;
+    if !entries::is_leaf(truechild, falsechild) {
+        v[feature as usize] += score;
     }
-    let j = slices::wide(feature);
-    v[j] = v[j] + score;
 }
 
+// From +0 on: the library's sum of floats starts at -0.
 fn sum_of(v: &[f64]) -> f64
     ensures { result ≡ sum_from nought v.now }
 {
-    let mut sum: f64 = 0.0;
-    let mut i: usize = 0;
-    while i < v.len() {
-        sum = sum + v[i];
-        i += 1;
-    }
-    sum
+    v.iter().fold(0.0, |sum, x| sum + *x)
 }
 
 pub fn divide(v: &mut [f64], by: f64)
     ensures { v.new ≡ divided_by by v.old }
 {
-    let mut i: usize = 0;
-    while i < v.len() {
-        v[i] = v[i] / by;
-        i += 1;
+    for x in v.iter_mut() {
+        *x /= by;
     }
 }
 
@@ -61,7 +52,7 @@ pub fn normalise(v: &mut [f64])
     divide_if(v, sum);
 }
 
-pub fn scale(by: Scale, v: &mut [f64])
+pub fn scale(v: &mut [f64], by: Scale)
     ensures { v.new ≡ scaled by v.old }
 {
     match by {
@@ -70,14 +61,13 @@ pub fn scale(by: Scale, v: &mut [f64])
     }
 }
 
+// By places: of what `iter_mut().zip(w)` writes no invariant of a loop could speak.
 fn add_each(v: &mut [f64], w: &[f64])
     requires { length v.old ≡ length w.now }
     ensures { v.new ≡ add_each v.old w.now }
 {
-    let mut i: usize = 0;
-    while i < v.len() {
-        v[i] = v[i] + w[i];
-        i += 1;
+    for (i, x) in v.iter_mut().enumerate() {
+        *x += w[i];
     }
 }
 

@@ -1,11 +1,13 @@
 -- The flat tables that the code is lent, and the elements that their rows stand for. Assumes nothing.
-use Rattle.std.specs.Prelude.{ℕ, zero, suc, ◌+◌, ◌-◌, ◌*◌, ◌<◌, ◌≤◌, ◌≡◌, refl, ◌⊎◌, Bool, true, false, not, ◌||◌, cond, List, [], map, length, get_or, drop, ltb, Float}
-use Rattle.std.specs.Float.Ieee.{le, eq}
+use Rattle.std.specs.Prelude.{ℕ, zero, suc, ◌+◌, ◌-◌, ◌*◌, ◌<◌, ◌≤◌, ◌≡◌, refl, ◌⊎◌, Bool, true, false, not, ◌||◌, cond, List, [], map, length, get_or, drop, ltb, Float, Some, None, Result, Ok, Err}
+use Rattle.std.specs.Float.{nan}
+use Rattle.std.specs.Float.Ieee.{binary64, fits, le, eq}
+use Rattle.std.proofs.Math.Dec.{T}
 use Rattle.rules.specs.declared.Params.{Params}
 use Rattle.rules.specs.declared.Height.{Height}
 use Rattle.rules.specs.declared.Cut.{Cut}
-use Rattle.rules.specs.declared.Held.{Held}
-use Rattle.rules.specs.declared.Held.TheVariants.{Nothing, Holds}
+use Rattle.rules.specs.declared.Input.{Input}
+use Rattle.rules.specs.Results.{Held}
 use Rattle.rules.specs.declared.Sweep.{Sweep}
 use Rattle.rules.specs.Search.{Element, Column, NodeRows, at, candidate_at, step, tally, true_side, Tries, drawn, search, Found, found}
 use Rattle.rules.specs.Totals.{take_in}
@@ -22,14 +24,11 @@ use Rattle.criterion.specs.Sides.{side_on, joined}
 use Rattle.candidates.specs.declared.Spot.{Spot}
 use Rattle.candidates.specs.declared.Candidate.{Candidate}
 use Rattle.candidates.specs.Held.{bare, held_of}
-use Rattle.search.specs.declared.Cell.{Cell}
+use Rattle.search.specs.declared.column.Cell.{Cell}
 use Rattle.search.specs.declared.best.Run.{Run}
 use Rattle.search.specs.declared.random.TrueSide.{TrueSide}
 use Rattle.search.specs.declared.Drawn.{Drawn}
-use Rattle.search.specs.declared.Search.{Search}
-use Rattle.search.specs.declared.Search.TheVariants as S
-use Rattle.search.specs.declared.Attempt.{Attempt}
-use Rattle.search.specs.declared.Attempt.TheVariants.{Refused, Goes}
+use Rattle.search.specs.declared.BadDraw.{BadDraw}
 
 -- values lie row after row; no weights at all is an empty list
 pub record Tables : Type 0 where
@@ -42,15 +41,30 @@ pub record Tables : Type 0 where
 abbrev pub tables_of : List Float → List Float → List Float → List ℕ → Tables
 tables_of values targets weights counts = record { values = values; targets = targets; weights = weights; counts = counts }
 
+-- of what a fit is lent
+abbrev pub tables_in : Input → Tables
+tables_in d = tables_of d.values.now d.targets.now d.weights.now d.counts.now
+
+-- what trying a feature leaves: the best so far, and how many thresholds were taken from the tape
+abbrev pub Attempt : Type 0
+Attempt = Result (Candidate × ℕ) BadDraw
+
+-- a search's answer: the candidate held, if any, and how far the tapes are used after it
+abbrev pub Search : Type 0
+Search = Result (Candidate × Drawn) BadDraw
+
+-- the tables are as long as rows and features say; weights are none or one a row
 pub record Shaped (rows features : ℕ) (t : Tables) : Type 0 where
   pub wide : length t.values ≡ rows * features
   pub targets : length t.targets ≡ rows
   pub counted : length t.counts ≡ rows
   pub weighed : 0 < length t.weights → length t.weights ≡ rows
 
+-- row i as growth sees it
 abbrev pub element_of : ℕ → Tables → ℕ → Element
 element_of f t i = element_in f t.values t.targets t.weights t.counts i
 
+-- what a sweep along feature j learns of a row
 unfoldable pub cell_of : ℕ → Element → Cell
 cell_of j e = record { count = e.count; mass = e.mass; target = e.target; value = at j e }
 
@@ -58,6 +72,11 @@ cell_of j e = record { count = e.count; mass = e.mass; target = e.target; value 
 abbrev pub Below : ℕ → List ℕ → Type 0
 Below n l = (k : ℕ) → k < length l → get_or l k 0 < n
 
+-- each entry has 64 bits
+abbrev pub Floats : List Float → Type 0
+Floats l = (k : ℕ) → T (fits binary64 (get_or l k nan))
+
+-- a turn of the sweep, over what it learns of a row
 unfoldable pub step_in : Params → Side → ℕ → Sweep → Cell → Sweep
 step_in P a j w e =
     record {
@@ -75,6 +94,7 @@ step-cell P a j w e = refl
 unfoldable pub too_few : Params → Side → ℕ → Bool
 too_few P a k = ltb k P.leaf || ltb (a.count - k) P.leaf
 
+-- a cut of feature j between two values
 abbrev pub cut_between : Height → ℕ → Float → Float → Cut
 cut_between g j low high = record { feature = j; threshold = threshold_between g low high }
 
@@ -100,12 +120,7 @@ Stepped w e n r = (r.spot ≡ w.spot) ⊎ ((r.spot.held ≡ true) × (r.spot.pla
 abbrev pub Stood : (ℕ → Float) → List ℕ → Spot → Spot → Type 0
 Stood v l s r = (r ≡ s) ⊎ ((i : ℕ) × (r.held ≡ true) × (r.place ≡ i + 1) × (i < length l) × (eq (v (get_or l i 0)) (run_at v l i) ≡ false))
 
--- rows whose value of feature j can be read
-pub record Readable (rows features : ℕ) (x : List Float) (j : ℕ) (l : List ℕ) : Type 0 where
-  pub below : Below rows l
-  pub wide : length x ≡ rows * features
-  pub one : j < features
-
+-- the true side of threshold t, with one row more where that is on it
 unfoldable pub side_step : Float → TrueSide → Cell → TrueSide
 side_step t s e = cond (le e.value t) (record { side = joined s.side e.target e.mass e.count; rows = s.rows + 1 }) s
 
@@ -122,31 +137,35 @@ Sorted j es = Every (λ x. Value (at j x)) es × Rising j es
 -- after feature j was tried along a column: what was held before, or a cut of that feature, with the number of rows that go true
 abbrev pub TriedOn : ℕ → Column → Candidate → Candidate → Type 0
 TriedOn j es h r =
-    (r ≡ h) ⊎ ((t : Float) × (q : Float) × (r ≡ record { held = Holds (record { feature = j; threshold = t }) q; rows = length (true_side (record { feature = j; threshold = t }) es) }))
+    (r ≡ h) ⊎ ((t : Float) × (q : Float) × (r ≡ record { held = Some ((record { feature = j; threshold = t }), q); rows = length (true_side (record { feature = j; threshold = t }) es) }))
 
+-- the same where no bad draw was met
 abbrev pub TriedBy : ℕ → Column → Candidate → Attempt → Type 0
-TriedBy j es h Refused = Unit {0}
-TriedBy j es h (Goes r m) = TriedOn j es h r
+TriedBy j es h (Err e) = Unit {0}
+TriedBy j es h (Ok (r, m)) = TriedOn j es h r
 
 -- of a cut that is held in a node of f features, n rows go true
 abbrev pub RowsFor : ℕ → NodeRows → Held → ℕ → Type 0
-RowsFor f node Nothing n = Unit {0}
-RowsFor f node (Holds c q) n = (c.feature < f) × (n ≡ length (true_side c (get_or node.columns c.feature [])))
+RowsFor f node None n = Unit {0}
+RowsFor f node (Some (c, q)) n = (c.feature < f) × (n ≡ length (true_side c (get_or node.columns c.feature [])))
 
+-- of what a candidate holds, its number of rows go true
 abbrev pub RowsOf : ℕ → NodeRows → Candidate → Type 0
 RowsOf f node h = RowsFor f node h.held h.rows
 
+-- the same of what trying a feature leaves
 abbrev pub RowsTried : ℕ → NodeRows → Attempt → Type 0
-RowsTried f node Refused = Unit {0}
-RowsTried f node (Goes h m) = RowsOf f node h
+RowsTried f node (Err e) = Unit {0}
+RowsTried f node (Ok (h, m)) = RowsOf f node h
 
 -- ---- what is left of the tapes
 abbrev pub left : List ℕ → List Float → ℕ → ℕ → Tapes
 left W M s m = record { words = W; thresholds = drop m M; searches = s }
 
+-- what trying a feature answers, as the definition has it
 abbrev pub meant_tries : List ℕ → List Float → ℕ → Attempt → Out (Tries Tapes)
-meant_tries W M s Refused = bad s
-meant_tries W M s (Goes h m) = ok (record { best = h.held; left = left W M s m })
+meant_tries W M s (Err e) = bad s
+meant_tries W M s (Ok (h, m)) = ok (record { best = h.held; left = left W M s m })
 
 -- a threshold is taken and judged
 unfoldable pub draw_at : Params → NodeRows → ℕ → Held → Column → Tapes → Float → Float → Out (Tries Tapes)
@@ -170,22 +189,26 @@ pub record NodeAsks (rows features a e : ℕ) (t : Tables) (order : List ℕ) (c
 abbrev pub draws_at : List ℕ → List Float → Drawn → Tapes
 draws_at W M d = record { words = drop d.words W; thresholds = drop d.thresholds M; searches = d.searches }
 
+-- no more words are used than there are, and no fewer than searches were made
 abbrev pub Fair : List ℕ → Drawn → Type 0
 Fair W d = (d.words ≤ length W) × (d.searches ≤ d.words)
 
 -- the answer of a search that began with d as the definition has it
 abbrev pub meant : List ℕ → List Float → Drawn → Search → Out (Found × Tapes)
-meant W M d S.Refused = bad d.searches
-meant W M d (S.Goes h e) = ok (found h.held, draws_at W M e)
+meant W M d (Err e) = bad d.searches
+meant W M d (Ok (h, e)) = ok (found h.held, draws_at W M e)
 
+-- the same after a search that met no bad draw
 abbrev pub FairAfter : List ℕ → Search → Type 0
-FairAfter W S.Refused = Unit {0}
-FairAfter W (S.Goes h d) = Fair W d
+FairAfter W (Err e) = Unit {0}
+FairAfter W (Ok (h, d)) = Fair W d
 
+-- of what a search found in a node, its number of rows go true
 abbrev pub RowsAfter : ℕ → NodeRows → Search → Type 0
-RowsAfter f node S.Refused = Unit {0}
-RowsAfter f node (S.Goes h d) = RowsOf f node h
+RowsAfter f node (Err e) = Unit {0}
+RowsAfter f node (Ok (h, d)) = RowsOf f node h
 
+-- what a search from d on answers: the definition's, and fairly
 pub record Searched (P : Params) (W : List ℕ) (M : List Float) (node : NodeRows) (d : Drawn) (r : Search) : Type 0 where
   pub same : meant W M d r ≡ search (tape P.features) P (draws_at W M d) node
   pub fair : FairAfter W r

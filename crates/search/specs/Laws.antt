@@ -9,7 +9,7 @@ use Rattle.std.specs.Float.Ieee.{le, eq}
 use Rattle.rules.specs.declared.Totals.{Totals}
 use Rattle.rules.specs.declared.Params.{Params}
 use Rattle.rules.specs.declared.Cut.{Cut}
-use Rattle.rules.specs.declared.Held.{Held}
+use Rattle.rules.specs.Results.{Held}
 use Rattle.rules.specs.declared.Sweep.{Sweep}
 use Rattle.rules.specs.Search.{Element, Column, at, better, judge, candidate_at, sweep, best_in, tally, totals_of, true_side, goes_true}
 use Rattle.rules.specs.Words.{total, keep, put_if}
@@ -19,7 +19,7 @@ use Rattle.rules.specs.Fit.{element_in}
 use Rattle.criterion.specs.declared.Side.{Side}
 use Rattle.criterion.specs.Sides.{joined}
 use Rattle.candidates.specs.Held.{bare}
-use Rattle.search.specs.declared.Cell.{Cell}
+use Rattle.search.specs.declared.column.Cell.{Cell}
 use Rattle.search.specs.declared.random.TrueSide.{TrueSide}
 use Rattle.search.specs.Flat.{Tables, element_of, cell_of, step_in, step-cell, too_few, cut_between, side_step, true_on}
 
@@ -67,10 +67,6 @@ pub cell-is : (f : ℕ) (t : Tables) (j i : ℕ) {m v : Float} → m ≡ mass_in
     → ◌≡◌ {A = Cell} (record { count = get_or t.counts i 0; mass = m; target = get_or t.targets i nan; value = v }) (cell_of j (element_of f t i))
 unfolding cell_of element_in cell count_in at
 cell-is f t j i em ev = λ k. record { count = get_or t.counts i 0; mass = em k; target = get_or t.targets i nan; value = ev k }
-
--- a cell that was read at numbers that are equal to these
-pub cell-here : (f : ℕ) (t : Tables) (j i : ℕ) {j' i' : ℕ} {e : Cell} → e ≡ cell_of j' (element_of f t i') → j' ≡ j → i' ≡ i → e ≡ cell_of j (element_of f t i)
-cell-here f t j i {j'} {i'} h a b = h ∙ ap (λ n. cell_of n (element_of f t i')) a ∙ ap (λ n. cell_of j (element_of f t n)) b
 
 -- ---- a loop over a column is a fold: one turn at place i, by what is left of the column
 

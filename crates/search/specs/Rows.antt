@@ -1,6 +1,6 @@
 -- The number of rows on the true side of a cut that is held. Assumes nothing.
-use Prim.Native.Nat.{ℕ, zero, suc, ◌+◌, ◌<◌, ◌≤◌}
-use Rattle.std.proofs.Common.{not-suc-le-zero, le_of_suc-le-suc, arith, add-one, ◌∙◌, inl, inr, append-nil, take-append-drop, length-take, take-suc, drop-cons}
+use Prim.Native.Nat.{ℕ, zero, suc, ◌+◌, ◌<◌}
+use Rattle.std.proofs.Common.{not-suc-le-zero, le_of_suc-le-suc, arith, add-one, ◌∙◌, inl, inr, append-nil, take-append-drop, length-take, take-suc, drop-cons, Some, Ok, Err}
 use Rattle.std.specs.Prelude.{◌≡◌, Bool, true, false, cond, List, [], ◌∷◌, ◌++◌, map, get_or, take, drop, Float}
 use Rattle.std.proofs.Math.Path.{refl, sym, ap, subst}
 use Rattle.std.proofs.Math.ListN.{length}
@@ -12,7 +12,6 @@ use Rattle.rules.specs.declared.Totals.{Totals}
 use Rattle.rules.specs.declared.Params.{Params}
 use Rattle.rules.specs.declared.Height.{Height}
 use Rattle.rules.specs.declared.Cut.{Cut}
-use Rattle.rules.specs.declared.Held.TheVariants.{Holds}
 use Rattle.rules.specs.Words.{keep}
 use Rattle.rules.specs.Lent.{cell}
 use Rattle.rules.specs.Fit.{element_in}
@@ -26,9 +25,7 @@ use Rattle.candidates.specs.declared.Spot.{Spot}
 use Rattle.candidates.specs.declared.Candidate.{Candidate}
 use Rattle.candidates.specs.Held.{bare, held_of, earlier_of, Moved, HeldAt}
 use Rattle.candidates.specs.Better.{held_stays, held-moves}
-use Rattle.search.specs.declared.Attempt.{Attempt}
-use Rattle.search.specs.declared.Attempt.TheVariants.{Refused, Goes}
-use Rattle.search.specs.Flat.{Tables, element_of, node_rows_at, Sorted, cut_between, run_at, cuts_in, Stood, TriedOn, TriedBy, RowsOf, RowsTried}
+use Rattle.search.specs.Flat.{Tables, element_of, node_rows_at, Sorted, cut_between, run_at, cuts_in, Stood, TriedOn, TriedBy, RowsOf, Attempt, RowsTried}
 use Rattle.search.specs.Tries.{column-of}
 use Rattle.search.specs.Runs.{cut-next}
 
@@ -138,11 +135,7 @@ module _ (f : ℕ) (t : Tables) (j : ℕ) (l : List ℕ) where
     best-found s₀ z e (inr m) =
         let w = held-moves cuts h r sp _ d m.0 m.1 m.2 (ap cuts (sym m.2)) in
         let same = ap cuts m.2 ∙ cut-next g f t.values j l b m.0 in
-        (w.1, inr (_, sp.proxy, w.0 ∙ (λ k. record { held = Holds (same k) sp.proxy; rows = place-rows g s m.0 m.3 m.4 k })))
-
-pub stood-within : (v : ℕ → Float) (l : List ℕ) (s r : Spot) → s.place ≡ 0 → Stood v l s r → r.place ≤ length l
-stood-within v l s r z (inl e) = omega (arith, ap (λ (y : Spot). y.place) e, z)
-stood-within v l s r z (inr m) = omega (arith, m.2, m.3)
+        (w.1, inr (_, sp.proxy, w.0 ∙ (λ k. record { held = Some ((same k), sp.proxy); rows = place-rows g s m.0 m.3 m.4 k })))
 
 -- ---- the random splitter
 
@@ -176,7 +169,7 @@ module _ (P : Params) (a : Side) (h r : Candidate) (s sp : Spot) (n : ℕ) (j : 
       go (inl g) = let w = held_stays cut_at h r sp new d g z before in (w.1 ∙ after, inl w.0)
       go (inr g) =
           let w = held-moves cut_at h r sp new d n g.0 g.1 there in
-          (w.1 ∙ after, inr (t, sp.proxy, w.0 ∙ ap (λ i. record { held = Holds new sp.proxy; rows = i }) rows))
+          (w.1 ∙ after, inr (t, sp.proxy, w.0 ∙ ap (λ i. record { held = Some (new, sp.proxy); rows = i }) rows))
 
 -- ---- a node
 
@@ -192,5 +185,5 @@ module _ (rows features from' to : ℕ) (t : Tables) (order : List ℕ) (a : Sid
       (hj, ap (λ es. length (true_side (record { feature = j; threshold = m.0 }) es)) (ap (map (element_of features t)) el ∙ column-of rows features from' to t order a P j hj refl))
 
   pub tries-rows : (r : Attempt) → TriedBy j (map (element_of features t) l) h r → RowsOf features node h → RowsTried features node r
-  tries-rows Refused m g = tt
-  tries-rows (Goes r n) m g = try-rows r m g
+  tries-rows (Err e) m g = tt
+  tries-rows (Ok (r, n)) m g = try-rows r m g

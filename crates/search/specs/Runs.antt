@@ -1,7 +1,7 @@
 -- The value of a run of equals, and the cuts by their places. Assumes nothing.
 use Prim.Native.Nat.{ℕ, zero, suc, ◌+◌, ◌-◌, ◌<◌}
 use Rattle.std.proofs.Common.{arith, add-one, ◌∙◌, subst, inl, inr}
-use Rattle.std.specs.Prelude.{◌≡◌, ◌⊎◌, Bool, not, List, length, get_or, Float}
+use Rattle.std.specs.Prelude.{◌≡◌, Bool, not, List, length, get_or, Float}
 use Rattle.std.proofs.Math.Path.{refl, sym, ap}
 use Rattle.std.proofs.Math.Bool.{true, false, cond}
 use Rattle.std.proofs.Math.Dec.{T}
@@ -13,8 +13,7 @@ use Rattle.rules.specs.Lent.{cell}
 use Rattle.rules.specs.Threshold.{threshold_between}
 use Rattle.rules.specs.Words.{nought}
 use Rattle.candidates.specs.declared.Spot.{Spot}
-use Rattle.candidates.specs.Held.{Moved}
-use Rattle.search.specs.declared.Cell.{Cell}
+use Rattle.search.specs.declared.column.Cell.{Cell}
 use Rattle.search.specs.declared.best.Run.{Run}
 use Rattle.search.specs.Laws.{value-is}
 use Rattle.search.specs.Flat.{Tables, element_of, cell_of, cut_between, run_at, cuts_in, Stepped, Stood}
@@ -64,11 +63,6 @@ module _ (f : ℕ) (t : Tables) (j : ℕ) (l : List ℕ) (i : ℕ) {e : Cell} (e
   turn-run eu = eu ∙ (λ k. cond (eq (turn-value k) (ez k)) (ez k) (turn-value k)) ∙ sym (run-next (cell f t.values j) l i)
 
 -- where what is held stands
-
-pub moved-step : (w : Run) (e : Cell) {s r : Spot} {n : ℕ} → s ≡ w.spot → eq e.value w.last ≡ false → Moved s n r
-    → (r ≡ w.spot) ⊎ ((r.held ≡ true) × (r.place ≡ n) × (eq e.value w.last ≡ false))
-moved-step w e es q (inl m) = inl (m ∙ es)
-moved-step w e es q (inr m) = inr (m.0, m.1, q)
 
 -- one turn at place i
 pub turn-stood : (f : ℕ) (t : Tables) (j : ℕ) (l : List ℕ) (i : ℕ) → i < length l → (s : Spot) (w r : Run) (e : Cell) → e ≡ cell_of j (element_of f t (get_or l i 0))

@@ -1,6 +1,7 @@
 -- Trying the features of a node, by the code's branches. Assumes nothing.
 use Prim.Native.Nat.{ℕ, zero, suc, ◌+◌, ◌-◌, ◌*◌, ◌<◌, ◌≤◌, min}
-use Rattle.std.proofs.Common.{mul-le-mul_right, suc-mul, not-suc-le-zero, zero-add, le_of_suc-le-suc, add-one, ◌∙◌, drop_of_length-le, length-take, length-drop, ltb-true, ne_eqb, eq-eqb, drop-cons, get_or-take, get_or-drop, take-take, drop-drop}
+use Rattle.std.proofs.Common.{not-suc-le-zero, zero-add, le_of_suc-le-suc, add-one, ◌∙◌, drop_of_length-le, length-take, ltb-true, ne_eqb, drop-cons, get_or-take, take-take, drop-drop, None, Ok, Err}
+use Rattle.std.proofs.lemmas.List.{take_rest}
 use native.Mathlib.Omega.{arith}
 use Rattle.std.specs.Prelude.{◌≡◌, Bool, not, ◌&&◌, length, take, ltb, Float}
 use Rattle.std.proofs.Math.Path.{refl, sym, ap, subst}
@@ -9,8 +10,7 @@ use mathlib.Core.List.{List, [], ◌∷◌, map}
 use Rattle.std.proofs.Math.ListN.{get_or, drop}
 use Rattle.std.specs.Float.Ieee.{nan, lt, le, eq}
 use Rattle.rules.specs.declared.Params.{Params}
-use Rattle.rules.specs.declared.Held.{Held}
-use Rattle.rules.specs.declared.Held.TheVariants.{Nothing}
+use Rattle.rules.specs.Results.{Held}
 use Rattle.rules.specs.declared.Sweep.{Sweep}
 use Rattle.rules.specs.Search.{Element, Column, NodeRows, at, judge, candidate_at, step, sweep, best_in, true_side, Tries, drawn, draw_in, random_in, try_one, try_all, final, search, found, Found}
 use Rattle.rules.specs.Words.{member, fresh, each_once}
@@ -20,11 +20,9 @@ use Rattle.criterion.specs.declared.Side.{Side}
 use Rattle.criterion.specs.Sides.{side_on}
 use Rattle.candidates.specs.declared.Candidate.{Candidate}
 use Rattle.candidates.specs.Held.{bare}
-use Rattle.search.specs.Flat.{Tables, element_of, left, meant_tries, draw_at, node_rows_at, draws_at, Fair, RowsTried, Searched}
+use Rattle.search.specs.Flat.{Tables, element_of, left, meant_tries, draw_at, node_rows_at, draws_at, Fair, Attempt, RowsTried, Searched}
 use Rattle.search.specs.declared.Drawn.{Drawn}
-use Rattle.search.specs.declared.Search.TheVariants as S
-use Rattle.search.specs.declared.Attempt.{Attempt}
-use Rattle.search.specs.declared.Attempt.TheVariants.{Refused, Goes}
+use Rattle.search.specs.declared.BadDraw.{BadDraw}
 use Rattle.lemmas.specs.Lists.{get_d-from}
 use Rattle.rules.specs.declared.Splitter.{Splitter}
 use Rattle.rules.specs.declared.Splitter.TheVariants.{Best, Random}
@@ -53,7 +51,7 @@ module _ (P : Params) (a : Side) (j : ℕ) (h : Held) (es : Column) (W : List �
 
   pub draw-good : m < length M → (le lo (get_or M m nan) && lt (get_or M m nan) hi) ≡ true → {q : Side} (b : Candidate)
       → q ≡ side_on (true_side (record { feature = j; threshold = get_or M m nan }) es) → b.held ≡ judge P (bare a) h q.totals q.count (record { feature = j; threshold = get_or M m nan })
-      → meant_tries W M s (Goes b (m + 1)) ≡ draw_at P (bare a) j h es (left W M s m) lo hi
+      → meant_tries W M s (Ok (b, m + 1)) ≡ draw_at P (bare a) j h es (left W M s m) lo hi
   unfolding take_threshold bind drawn
   draw-good k e {q} b eq' eb =
       ap (λ z. ok (record { best = z; left = left W M s (m + 1) })) (eb ∙ ap (λ (z : Side). judge P (bare a) h z.totals z.count (record { feature = j; threshold = get_or M m nan })) eq')
@@ -91,9 +89,9 @@ module _ (el : ℕ → Element) (P : Params) (a : Side) (j : ℕ) (h : Candidate
       last = ap (at j) (final-at el x l) ∙ ap (λ n. at j (el (get_or (x ∷ l) n 0))) (sym (less_one (length l))) ∙ sym eh
 
   pub random-flat : (l : List ℕ) → (length l ≡ 0 → ⊥) → (lo hi : Float) → lo ≡ at j (el (get_or l 0 0)) → hi ≡ at j (el (get_or l (length l - 1) 0)) → lt lo hi ≡ false
-      → meant_tries W M s (Goes h m) ≡ random_in (tape P.features) P (bare a) j (record { best = h.held; left = left W M s m }) (map el l)
+      → meant_tries W M s (Ok (h, m)) ≡ random_in (tape P.features) P (bare a) j (record { best = h.held; left = left W M s m }) (map el l)
   unfolding draw_in
-  random-flat l n lo hi el' eh e = random-by l n lo hi el' eh false e (meant_tries W M s (Goes h m)) (λ x es i p q. refl)
+  random-flat l n lo hi el' eh e = random-by l n lo hi el' eh false e (meant_tries W M s (Ok (h, m))) (λ x es i p q. refl)
 
   pub random-draws : (l : List ℕ) → (length l ≡ 0 → ⊥) → (lo hi : Float) → lo ≡ at j (el (get_or l 0 0)) → hi ≡ at j (el (get_or l (length l - 1) 0)) → lt lo hi ≡ true
       → (q : Out (Tries Tapes)) → q ≡ draw_at P (bare a) j h.held (map el l) (left W M s m) lo hi
@@ -172,57 +170,31 @@ module _ (rows features from' to : ℕ) (t : Tables) (order : List ℕ) (a : Sid
       ∙ random-bare P a (columns_at (element_of features t) rows features from' to order) j r (get_or (columns_at (element_of features t) rows features from' to order) j [])
       ∙ ap (λ z. try_one (tape P.features) z P (node_rows_at rows features from' to t order a) j r) (sym ek)
 
-pub column-room : (rows features j : ℕ) {k : ℕ} → k ≡ j → j < features → k * rows + rows ≤ features * rows
-column-room rows features j {k} q h = subst (λ n. n * rows + rows ≤ features * rows) (sym q) (subst (λ n. n ≤ features * rows) (suc-mul j rows) (mul-le-mul_right rows h))
-
--- ---- the words of a choice
-
-module _ (n : ℕ) (words : List ℕ) (p : ℕ) (room : p + n ≤ length words) where
-  abbrev pub choice : List ℕ
-  choice = take n (drop p words)
-
-  pub choice-long : length choice ≡ n
-  choice-long = simp (length-take, length-drop) (omega arith)
-
-  pub choice-at : (i : ℕ) → i < n → get_or choice i 0 ≡ get_or words (p + i) 0
-  choice-at i h = get_or-take n (drop p words) i 0 h ∙ get_or-drop p words i 0
-
-  choice-head : (i : ℕ) → i < n → drop i choice ≡ get_or words (p + i) 0 ∷ drop (suc i) choice
-  choice-head i h = drop-cons choice i 0 (subst (λ k. i < k) (sym choice-long) h) ∙ ap (λ w. w ∷ drop (suc i) choice) (choice-at i h)
-
-  all-chosen : each_once n choice ≡ fresh n [] choice
-  unfolding each_once
-  all-chosen = ap (λ b. b && fresh n [] choice) (eq-eqb (length choice) n choice-long)
-
 -- ---- the features, one after the other
 
-module _ (P : Params) (node : NodeRows) (M : List Float) (words : List ℕ) (p k i : ℕ) (room : p + k ≤ length words) (h : i < k) (best : Candidate) (used : ℕ) (W : List ℕ) (s : ℕ) where
+module _ (P : Params) (node : NodeRows) (M : List Float) (l : List ℕ) (i : ℕ) (h : i < length l) (best : Candidate) (used : ℕ) (W : List ℕ) (s : ℕ) where
   abbrev here : Tries Tapes
   here = record { best = best.held; left = left W M s used }
 
-  tries-head : try_all (tape P.features) P node (drop i (take k (drop p words))) here ≡ bind
-      (try_one (tape P.features) P.splitter P node (get_or words (p + i) 0) here)
-      (λ r. try_all (tape P.features) P node (drop (suc i) (take k (drop p words))) r)
+  tries-head : try_all (tape P.features) P node (drop i l) here
+      ≡ bind (try_one (tape P.features) P.splitter P node (get_or l i 0) here) (λ r. try_all (tape P.features) P node (drop (suc i) l) r)
   unfolding try_all
-  tries-head = ap (λ l. try_all (tape P.features) P node l here) (choice-head k words p room i h)
+  tries-head = ap (λ z. try_all (tape P.features) P node z here) (drop-cons l i 0 h)
 
-  pub tries-stop : {r : Attempt} → r ≡ Refused → meant_tries W M s r ≡ try_one (tape P.features) P.splitter P node (get_or words (p + i) 0) here
-      → bad s ≡ try_all (tape P.features) P node (drop i (take k (drop p words))) here
+  pub tries-stop : bad s ≡ try_one (tape P.features) P.splitter P node (get_or l i 0) here → bad s ≡ try_all (tape P.features) P node (drop i l) here
   unfolding bind
-  tries-stop e q = ap (λ m. bind m (λ r. try_all (tape P.features) P node (drop (suc i) (take k (drop p words))) r)) (sym (ap (meant_tries W M s) e) ∙ q) ∙ sym tries-head
+  tries-stop q = ap (λ m. bind m (λ r. try_all (tape P.features) P node (drop (suc i) l) r)) q ∙ sym tries-head
 
-  pub tries-next : {r : Attempt} {b : Candidate} {n : ℕ} → r ≡ Goes b n → meant_tries W M s r ≡ try_one (tape P.features) P.splitter P node (get_or words (p + i) 0) here
-      → try_all (tape P.features) P node (drop (i + 1) (take k (drop p words))) (record { best = b.held; left = left W M s n })
-      ≡ try_all (tape P.features) P node (drop i (take k (drop p words))) here
+  pub tries-next : (b : Candidate) (n : ℕ) → ok (record { best = b.held; left = left W M s n }) ≡ try_one (tape P.features) P.splitter P node (get_or l i 0) here
+      → try_all (tape P.features) P node (drop (i + 1) l) (record { best = b.held; left = left W M s n }) ≡ try_all (tape P.features) P node (drop i l) here
   unfolding bind
-  tries-next {r} {b} {n} e q =
-      ap (λ j. try_all (tape P.features) P node (drop j (take k (drop p words))) (record { best = b.held; left = left W M s n })) (add-one i)
-      ∙ ap (λ m. bind m (λ r. try_all (tape P.features) P node (drop (suc i) (take k (drop p words))) r)) (sym (ap (meant_tries W M s) e) ∙ q) ∙ sym tries-head
+  tries-next b n q =
+      ap (λ j. try_all (tape P.features) P node (drop j l) (record { best = b.held; left = left W M s n })) (add-one i)
+      ∙ ap (λ m. bind m (λ r. try_all (tape P.features) P node (drop (suc i) l) r)) q ∙ sym tries-head
 
-pub tries-end : (P : Params) (node : NodeRows) (words : List ℕ) (p k i : ℕ) → p + k ≤ length words → k ≤ i → (r : Tries Tapes)
-    → ok r ≡ try_all (tape P.features) P node (drop i (take k (drop p words))) r
+pub tries-end : (P : Params) (node : NodeRows) (l : List ℕ) (i : ℕ) → length l ≤ i → (r : Tries Tapes) → ok r ≡ try_all (tape P.features) P node (drop i l) r
 unfolding try_all
-tries-end P node words p k i room h r = sym (ap (λ l. try_all (tape P.features) P node l r) (drop_of_length-le (take k (drop p words)) (subst (λ n. n ≤ i) (sym (choice-long k words p room)) h)))
+tries-end P node l i h r = sym (ap (λ z. try_all (tape P.features) P node z r) (drop_of_length-le l h))
 
 -- ---- the search of a node
 
@@ -240,57 +212,73 @@ fresh_at n seen [] e i h = absurd (not-suc-le-zero h)
 fresh_at n seen (w ∷ l) e zero h = ltb-true w n (both_left (ltb w n) (not (member w seen)) (both_left (ltb w n && not (member w seen)) (fresh n (w ∷ seen) l) e))
 fresh_at n seen (w ∷ l) e (suc i) h = fresh_at n (w ∷ seen) l (both_right (ltb w n && not (member w seen)) (fresh n (w ∷ seen) l) e) i (le_of_suc-le-suc h)
 
-pub chosen_at : (n : ℕ) (words : List ℕ) (p : ℕ) (room : p + n ≤ length words) → each_once n (take n (drop p words)) ≡ true → (k : ℕ) → k ≤ n → (i : ℕ) → i < k → get_or words (p + i) 0 < n
-chosen_at n words p room e k hk i h =
-    let g : i < n = omega arith in
-    subst (λ w. w < n) (choice-at n words p room i g) (fresh_at n [] (choice n words p room) (sym (all-chosen n words p room) ∙ e) i (subst (λ z. i < z) (sym (choice-long n words p room)) g))
+-- a good choice of the first n words from place p on, by a test of as many words as there are in it
+pub chosen-once : (n n' p : ℕ) (W : List ℕ) {b : Bool} → n ≡ n' → n ≤ length (take (length W - p) (drop p W))
+    → b ≡ each_once (length (take n (take (length W - p) (drop p W)))) (take n (take (length W - p) (drop p W))) → b ≡ each_once n' (take n' (drop p W))
+chosen-once n n' p W e room q =
+    q ∙ ap (λ l. each_once (length (take n l)) (take n l)) rest ∙ ap (λ k. each_once k (take n (drop p W))) long ∙ ap (λ k. each_once k (take k (drop p W))) e
+  where
+    rest : take (length W - p) (drop p W) ≡ drop p W
+    rest = take_rest W p
+
+    long : length (take n (drop p W)) ≡ n
+    long = simp length-take (omega (arith, room, ap length rest))
+
+-- each of the first k is a feature
+pub chosen_at : (n : ℕ) (l : List ℕ) → each_once n (take n l) ≡ true → (k : ℕ) → k ≤ n → (i : ℕ) → i < length (take k l) → get_or (take k l) i 0 < n
+unfolding each_once
+chosen_at n l e k hk i h =
+    let g = simp length-take at h in
+    let inside : i < length (take n l) = simp length-take (omega (arith, g)) in
+    let same : get_or (take n l) i 0 ≡ get_or (take k l) i 0 = get_or-take n l i 0 (omega (arith, g)) ∙ sym (get_or-take k l i 0 (omega (arith, g))) in
+    subst (λ w. w < n) same (fresh_at n [] (take n l) (both_right _ (fresh n [] (take n l)) e) i inside)
 
 module _ (P : Params) (W : List ℕ) (M : List Float) (node : NodeRows) (d : Drawn) (fair : Fair W d) where
   abbrev n' : ℕ
   n' = P.features
 
   abbrev after : List ℕ × Tapes → Out (Found × Tapes)
-  after o = bind (try_all (tape P.features) P node (take (min P.tried n') o.0) (record { best = Nothing; left = o.1 })) (λ r. ok (found r.best, (tape P.features).done r.left))
+  after o = bind (try_all (tape P.features) P node (take (min P.tried n') o.0) (record { best = None; left = o.1 })) (λ r. ok (found r.best, (tape P.features).done r.left))
 
   search-by : (b : Bool) → each_once n' (take n' (drop d.words W)) ≡ b → bind (take_words b n' (draws_at W M d)) after ≡ search (tape P.features) P (draws_at W M d) node
   unfolding search tape
   search-by b e = sym (ap (λ z. bind (take_words z n' (draws_at W M d)) after) e)
 
-  pub search-bad : each_once n' (take n' (drop d.words W)) ≡ false → Searched P W M node d S.Refused
+  pub search-bad : each_once n' (take n' (drop d.words W)) ≡ false → (x : BadDraw) → Searched P W M node d (Err x)
   unfolding take_words bind
-  search-bad e = record { same = search-by false e; fair = tt; rows = tt }
+  search-bad e x = record { same = search-by false e; fair = tt; rows = tt }
 
-  pub search-short : length W - d.words < n' → Searched P W M node d S.Refused
+  pub search-short : length (drop d.words W) < n' → (x : BadDraw) → Searched P W M node d (Err x)
   unfolding each_once
   search-short h =
       search-bad (ap (λ b. b && fresh n' [] (take n' (drop d.words W)))
-      (ne_eqb (length (take n' (drop d.words W))) n' (λ e. let q = simp (length-take, length-drop) at e in omega (arith, q, h))))
+      (ne_eqb (length (take n' (drop d.words W))) n' (λ e. let q = simp length-take at e in omega (arith, q, h))))
 
   search-tries : each_once n' (take n' (drop d.words W)) ≡ true
-      → bind (try_all (tape P.features) P node (take (min P.tried n') (drop d.words W)) (record { best = Nothing; left = left (drop n' (drop d.words W)) M d.searches d.thresholds }))
+      → bind (try_all (tape P.features) P node (take (min P.tried n') (drop d.words W)) (record { best = None; left = left (drop n' (drop d.words W)) M d.searches d.thresholds }))
       (λ r. ok (found r.best, (tape P.features).done r.left)) ≡ search (tape P.features) P (draws_at W M d) node
   unfolding take_words bind
   search-tries e =
       ap (λ l. bind (try_all (tape P.features) P node l (record {
-        best = Nothing;
+        best = None;
         left = left (drop n' (drop d.words W)) M d.searches d.thresholds;
       })) (λ r. ok (found r.best, (tape P.features).done r.left)))
       (sym (take-take (min P.tried n') n' (drop d.words W) (omega arith)))
       ∙ search-by true e
 
   module _ (e : each_once n' (take n' (drop d.words W)) ≡ true) {k : ℕ} (ek : k ≡ min P.tried n') (r : Attempt)
-      (t : (U : List ℕ) (s : ℕ) → meant_tries U M s r ≡ try_all (tape P.features) P node (take k (drop d.words W)) (record { best = Nothing; left = left U M s d.thresholds })) where
+      (t : (U : List ℕ) (s : ℕ) → meant_tries U M s r ≡ try_all (tape P.features) P node (take k (drop d.words W)) (record { best = None; left = left U M s d.thresholds })) where
     search-meant : bind (meant_tries (drop n' (drop d.words W)) M d.searches r) (λ r. ok (found r.best, (tape P.features).done r.left)) ≡ search
         (tape P.features) P (draws_at W M d) node
     search-meant =
         ap (λ m. bind m (λ r. ok (found r.best, (tape P.features).done r.left)))
         (t (drop n' (drop d.words W)) d.searches
-        ∙ ap (λ j. try_all (tape P.features) P node (take j (drop d.words W)) (record { best = Nothing; left = left (drop n' (drop d.words W)) M d.searches d.thresholds })) ek)
+        ∙ ap (λ j. try_all (tape P.features) P node (take j (drop d.words W)) (record { best = None; left = left (drop n' (drop d.words W)) M d.searches d.thresholds })) ek)
         ∙ search-tries e
 
-    pub search-stop : r ≡ Refused → Searched P W M node d S.Refused
+    pub search-stop : {x : BadDraw} → r ≡ Err x → (y : BadDraw) → Searched P W M node d (Err y)
     unfolding bind
-    search-stop q =
+    search-stop q y =
         record {
           same = sym (ap (λ z. bind (meant_tries (drop n' (drop d.words W)) M d.searches z) (λ r. ok (
             found r.best,
@@ -301,8 +289,8 @@ module _ (P : Params) (W : List ℕ) (M : List Float) (node : NodeRows) (d : Dra
           rows = tt;
         }
 
-    pub search-goes : (h : Candidate) (m : ℕ) → r ≡ Goes h m → RowsTried n' node r → (n : ℕ) → n ≡ n' → d.words + n ≤ length W → 0 < n
-        → Searched P W M node d (S.Goes h (record { words = d.words + n; thresholds = m; searches = d.searches + 1 }))
+    pub search-goes : (h : Candidate) (m : ℕ) → r ≡ Ok (h, m) → RowsTried n' node r → (n : ℕ) → n ≡ n' → d.words + n ≤ length W → 0 < n
+        → Searched P W M node d (Ok (h, record { words = d.words + n; thresholds = m; searches = d.searches + 1 }))
     unfolding bind tape
     search-goes h m q g n en room pos' =
         record {

@@ -1,13 +1,13 @@
 // Best search: the sweep along a column, and the best candidate that it meets.
-ghost use Rattle.std.specs.Prelude.{◌≡◌, map, ℕ, ◌+◌, ◌≤◌, ◌<◌, length};
-ghost use Rattle.rules.specs.Lent.{cell};
+ghost use Rattle.std.specs.Prelude.{◌≡◌, ℕ, ◌+◌, ◌≤◌, ◌<◌, length};
 ghost use Rattle.rules.specs.Search.{sweep, tally, best_in};
 ghost use Rattle.candidates.specs.Held.{bare, HeldAt};
-ghost use Rattle.search.specs.Flat.{tables_of, Shaped, Below, element_of, step_in, cut_between, sweep_of, run_at, cuts_in, Readable, Sorted, Stepped, Stood, TriedOn};
+ghost use Rattle.search.specs.Flat.{step_in, cut_between, sweep_of, Sorted, Stepped, Stood, TriedOn};
+ghost use Rattle.search.specs.Stretches.{elements_in, values_in, run_in, cuts_of};
 
-use crate::Cell;
+use crate::column::{Cell, Stretch};
 use candidates::{Candidate, Spot};
-use criterion::{Side, take_in, threshold_of};
+use criterion::{Side, no_rows, take_in, threshold_of};
 use rules::{Cut, Height, Params, Totals};
 
 // What is carried along a column: the rows before by totals and count, the value of the run of equals, what is held.
@@ -21,171 +21,106 @@ pub struct Run {
 
 pub fn step_of(p: Params, a: Side, w: Run, e: Cell, place: usize) -> Run
     requires { w.count + e.count ≤ a.count }
-    ensures { Stepped w e place result × ((j : ℕ) (c : ℕ → Cut) → c place ≡ cut_between p.height j w.last e.value → sweep_of c result ≡ step_in p a j (sweep_of c w) e) }
+    ensures stepped { Stepped w e place result }
+    ensures sweep { (j : ℕ) (c : ℕ → Cut) → c place ≡ cut_between p.height j w.last e.value → sweep_of c result ≡ step_in p a j (sweep_of c w) e }
 {
-    let before = w.before;
     let spot = candidates::anew(w.spot);
-    let n = w.count + e.count;
-    let now = take_in(before, e.target, e.mass);
+    let before = take_in(w.before, e.target, e.mass);
+    let count = w.count + e.count;
     if e.value == w.last {
-        return Run {
-            before: now,
-            count: n,
+        Run {
+            before,
+            count,
             last: w.last,
             spot,
-        };
-    }
-    let next = crate::judge_spot(p, a, spot, before, w.count, place);
-    Run {
-        before: now,
-        count: n,
-        last: e.value,
-        spot: next,
+        }
+    } else {
+        Run {
+            before,
+            count,
+            last: e.value,
+            spot: crate::judge_spot(p, a, spot, w.before, w.count, place),
+        }
     }
 }
 
 // The sweep of a column's stretch.
-pub fn sweep_column(
-    values: &[f64],
-    targets: &[f64],
-    weights: &[f64],
-    counts: &[u32],
-    col: &[u32],
-    rows: usize,
-    features: usize,
-    p: Params,
-    j: u32,
-    a: Side,
-    w: Run,
-) -> Run
-    requires rows { Below rows col.now }
-    requires shape { Shaped rows features (tables_of values.now targets.now weights.now counts.now) × (j < features) }
-    requires room { w.count + tally (map (element_of features (tables_of values.now targets.now weights.now counts.now)) col.now) ≤ a.count }
-    requires start { w.last ≡ run_at (cell features values.now j) col.now 0 }
-    ensures { Stood (cell features values.now j) col.now w.spot result.spot ×
-        ((b : Cut) → let c = cuts_in p.height features values.now j col.now b in sweep_of c result ≡ sweep p (bare a) j (sweep_of c w) (map (element_of features
-        (tables_of values.now targets.now weights.now counts.now)) col.now)) }
+pub fn sweep_column(col: &Stretch, p: Params, a: Side, w: Run) -> Run
+    requires room { w.count + tally (elements_in col.now) ≤ a.count }
+    requires start { w.last ≡ run_in col.now 0 }
+    ensures stood { Stood (values_in col.now) col.now.rows.now w.spot result.spot }
+    ensures swept { (b : Cut) → sweep_of (cuts_of p.height col.now b) result
+        ≡ sweep p (bare a) col.now.feature (sweep_of (cuts_of p.height col.now b) w) (elements_in col.now) }
 {
+    // By value, so that its slices stay in registers along the column.
+    let lent = *col;
     let mut v = w;
-    let mut i: usize = 0;
-    while i < col.len() {
-        let e = crate::cell_of(
-            values,
-            targets,
-            weights,
-            counts,
-            rows,
-            features,
-            slices::wide(j),
-            slices::wide(col[i]),
-        );
-        i += 1;
-        v = step_of(p, a, v, e, i);
+    for (i, r) in lent.rows.iter().enumerate() {
+        v = step_of(p, a, v, lent.cell(*r as usize), i + 1);
     }
     v
 }
 
 // The value of the run of equals that ends before place n, its first, from the column's start on.
-fn run_anew(values: &[f64], col: &[u32], rows: usize, features: usize, j: u32, n: usize) -> f64
-    requires { Readable rows features values.now j col.now × (n < length col.now) }
-    ensures { result ≡ run_at (cell features values.now j) col.now n }
+fn run_anew(col: &Stretch, n: usize) -> f64
+    requires { n < length col.now.rows.now }
+    ensures { result ≡ run_in col.now n }
 {
-    let mut v = crate::value_here(values, col, rows, features, j, 0);
-    let mut i: usize = 0;
-    while i < n {
-        let e = crate::value_here(values, col, rows, features, j, i);
-        v = candidates::run_on(v, e);
-        i += 1;
+    let mut v = col.value(0);
+    for i in 0..n {
+        v = candidates::run_on(v, col.value(i));
     }
     v
 }
 
 // The same. Values that are equal differ only where they are zeros: any other is the same as the last of its run, which is read first.
-fn run_before(values: &[f64], col: &[u32], rows: usize, features: usize, j: u32, n: usize) -> f64
-    requires { Readable rows features values.now j col.now × (n < length col.now) }
-    ensures { result ≡ run_at (cell features values.now j) col.now n }
+fn run_before(col: &Stretch, n: usize) -> f64
+    requires { n < length col.now.rows.now }
+    ensures { result ≡ run_in col.now n }
 {
     if 0 < n {
-        let v = crate::value_here(values, col, rows, features, j, n - 1);
-        if v == 0.0 {
-            return run_anew(values, col, rows, features, j, n);
+        let v = col.value(n - 1);
+        if v != 0.0 {
+            return v;
         }
-        return v;
     }
-    run_anew(values, col, rows, features, j, n)
+    run_anew(col, n)
 }
 
 // What is held once the column is swept: if the place of s is in it, the values there are read again.
-pub fn held_of(
-    values: &[f64],
-    col: &[u32],
-    rows: usize,
-    features: usize,
-    j: u32,
-    height: Height,
-    h: Candidate,
-    s: Spot,
-) -> Candidate
-    requires { Readable rows features values.now j col.now × (s.place ≤ length col.now) }
-    ensures { (b : Cut) → HeldAt h s (cuts_in height features values.now j col.now b s.place) result }
+pub fn held_of(col: &Stretch, height: Height, h: Candidate, s: Spot) -> Candidate
+    requires { s.place ≤ length col.now.rows.now }
+    ensures { (b : Cut) → HeldAt h s (cuts_of height col.now b s.place) result }
 {
     if s.place == 0 {
         return h;
     }
     let i = s.place - 1;
-    let low = run_before(values, col, rows, features, j, i);
-    let high = crate::value_here(values, col, rows, features, j, i);
-    let t = threshold_of(height, low, high);
-    candidates::held_at(
-        h,
-        s,
-        Cut {
-            feature: j,
-            threshold: t,
-        },
-    )
+    let low = run_before(col, i);
+    let high = col.value(i);
+    let cut = Cut {
+        feature: col.feature,
+        threshold: threshold_of(height, low, high),
+    };
+    candidates::held_at(h, s, cut)
 }
 
 // The best splitter along a column's stretch.
-pub fn best_in(
-    values: &[f64],
-    targets: &[f64],
-    weights: &[f64],
-    counts: &[u32],
-    col: &[u32],
-    rows: usize,
-    features: usize,
-    p: Params,
-    j: u32,
-    a: Side,
-    h: Candidate,
-) -> Candidate
-    requires rows { Below rows col.now }
-    requires shape { Shaped rows features (tables_of values.now targets.now weights.now counts.now) × (j < features) }
-    requires room { tally (map (element_of features (tables_of values.now targets.now weights.now counts.now)) col.now) ≤ a.count }
-    requires sorted { Sorted j (map (element_of features (tables_of values.now targets.now weights.now counts.now)) col.now) }
-    ensures { (result.held ≡ best_in p (bare a) j h.held
-        (map (element_of features (tables_of values.now targets.now weights.now counts.now)) col.now))
-        × TriedOn j (map (element_of features (tables_of values.now targets.now weights.now counts.now)) col.now) h result }
+pub fn best_in(col: &Stretch, p: Params, a: Side, h: Candidate) -> Candidate
+    requires room { tally (elements_in col.now) ≤ a.count }
+    requires sorted { Sorted col.now.feature (elements_in col.now) }
+    ensures best { result.held ≡ best_in p (bare a) col.now.feature h.held (elements_in col.now) }
+    ensures tried { TriedOn col.now.feature (elements_in col.now) h result }
 {
-    if col.len() == 0 {
+    if col.rows.len() == 0 {
         return h;
     }
-    let first = crate::value_here(values, col, rows, features, j, 0);
-    let g = h.held;
-    let height = p.height;
-    let spot = candidates::spot_of(g);
     let w = Run {
-        before: Totals {
-            sum: 0.0,
-            mass: 0.0,
-        },
+        before: no_rows(),
         count: 0,
-        last: first,
-        spot,
+        last: col.value(0),
+        spot: candidates::spot_of(h.held),
     };
-    let v = sweep_column(
-        values, targets, weights, counts, col, rows, features, p, j, a, w,
-    );
-    held_of(values, col, rows, features, j, height, h, v.spot)
+    let v = sweep_column(col, p, a, w);
+    held_of(col, p.height, h, v.spot)
 }

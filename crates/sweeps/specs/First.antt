@@ -9,6 +9,7 @@ use Rattle.rules.specs.Words.{keep, put_if}
 use Rattle.lemmas.specs.Lists.{Every, every_drop}
 use Rattle.sweeps.specs.Swept.{fails, bit, PartAsks, SweepAsks, Begun, two_column, two_others, TwoDone, front_end, third_place, last_place, four_column, four_others, FourDone}
 
+-- before the first row nothing is swept
 pub begun-none : (p : ℕ → Bool) (l scratch : List ℕ) → Begun p l l scratch 0 0
 unfolding keep
 begun-none p l scratch = record { within = omega arith; few = omega arith; long = refl; passed = refl; others = refl; rest = refl }
@@ -43,10 +44,11 @@ begun {n = n} v h l k o er ec es =
       rest = ap (drop n) ec ∙ v.same;
     }
 
--- what is kept of two rows, of four rows, by their flags
+-- what is kept of two rows, by their flags
 abbrev two : Bool → Bool → ℕ → ℕ → List ℕ
 two s t d e = put_if s d (put_if t e [])
 
+-- of four rows
 abbrev four : Bool → Bool → Bool → Bool → ℕ → ℕ → ℕ → ℕ → List ℕ
 four s t u v d e f g = put_if s d (put_if t e (two u v f g))
 
@@ -88,10 +90,10 @@ module _ (p : ℕ → Bool) where
   unfolding keep
   two-begun (d ∷ e ∷ l) (x ∷ y ∷ m) h k {s} {t} a b q =
       begun (two-leaves d e l x y m s t) h (length-set (d ∷ e ∷ l) (bit s) e) (λ i. two (a i) (b i) d e) (λ i. two (not (a i)) (not (b i)) d e) q.count q.column q.others
-  two-begun (d ∷ e ∷ l) (x ∷ []) h k a b q = absurd (let no : ¬ (2 ≤ 1) = omega arith in no k)
-  two-begun (d ∷ e ∷ l) [] h k a b q = absurd (let no : ¬ (2 ≤ 0) = omega arith in no k)
-  two-begun (d ∷ []) m h k a b q = absurd (let no : ¬ (2 ≤ 1) = omega arith in no h)
-  two-begun [] m h k a b q = absurd (let no : ¬ (2 ≤ 0) = omega arith in no h)
+  two-begun (d ∷ e ∷ l) (x ∷ []) h k a b q = absurd (omega arith)
+  two-begun (d ∷ e ∷ l) [] h k a b q = absurd (omega arith)
+  two-begun (d ∷ []) m h k a b q = absurd (omega arith)
+  two-begun [] m h k a b q = absurd (omega arith)
 
   pub four-begun : (l m : List ℕ) → 4 ≤ length l → 4 ≤ length m → {s t u v : Bool} → s ≡ p (get_or l 0 0) → t ≡ p (get_or l 1 0) → u ≡ p (get_or l 2 0) → v ≡ p (get_or l 3 0)
       → {col scratch : List ℕ} {r : ℕ} → FourDone s t u v l m col scratch r → Begun p l col scratch 4 r
@@ -99,22 +101,11 @@ module _ (p : ℕ → Bool) where
   four-begun (d ∷ e ∷ f ∷ g ∷ l) (x ∷ y ∷ z ∷ w ∷ m) h k {s} {t} {u} {v} a b c o q =
       begun (four-leaves d e f g l x y z w m s t u v) h (four-long s t u (d ∷ e ∷ f ∷ g ∷ l)) (λ i. four (a i) (b i) (c i) (o i) d e f g)
       (λ i. four (not (a i)) (not (b i)) (not (c i)) (not (o i)) d e f g) q.count q.column q.others
-  four-begun (d ∷ e ∷ f ∷ g ∷ l) (x ∷ y ∷ z ∷ []) h k a b c o q = absurd (let no : ¬ (4 ≤ 3) = omega arith in no k)
-  four-begun (d ∷ e ∷ f ∷ g ∷ l) (x ∷ y ∷ []) h k a b c o q = absurd (let no : ¬ (4 ≤ 2) = omega arith in no k)
-  four-begun (d ∷ e ∷ f ∷ g ∷ l) (x ∷ []) h k a b c o q = absurd (let no : ¬ (4 ≤ 1) = omega arith in no k)
-  four-begun (d ∷ e ∷ f ∷ g ∷ l) [] h k a b c o q = absurd (let no : ¬ (4 ≤ 0) = omega arith in no k)
-  four-begun (d ∷ e ∷ f ∷ []) m h k a b c o q = absurd (let no : ¬ (4 ≤ 3) = omega arith in no h)
-  four-begun (d ∷ e ∷ []) m h k a b c o q = absurd (let no : ¬ (4 ≤ 2) = omega arith in no h)
-  four-begun (d ∷ []) m h k a b c o q = absurd (let no : ¬ (4 ≤ 1) = omega arith in no h)
-  four-begun [] m h k a b c o q = absurd (let no : ¬ (4 ≤ 0) = omega arith in no h)
-
--- none of these places is before the end of the front
-pub four-behind : (s t u : Bool) → (front_end s t u ≤ third_place s t u) × (front_end s t u ≤ last_place s t u)
-four-behind true true true = (omega arith, omega arith)
-four-behind true true false = (omega arith, omega arith)
-four-behind true false true = (omega arith, omega arith)
-four-behind true false false = (omega arith, omega arith)
-four-behind false true true = (omega arith, omega arith)
-four-behind false true false = (omega arith, omega arith)
-four-behind false false true = (omega arith, omega arith)
-four-behind false false false = (omega arith, omega arith)
+  four-begun (d ∷ e ∷ f ∷ g ∷ l) (x ∷ y ∷ z ∷ []) h k a b c o q = absurd (omega arith)
+  four-begun (d ∷ e ∷ f ∷ g ∷ l) (x ∷ y ∷ []) h k a b c o q = absurd (omega arith)
+  four-begun (d ∷ e ∷ f ∷ g ∷ l) (x ∷ []) h k a b c o q = absurd (omega arith)
+  four-begun (d ∷ e ∷ f ∷ g ∷ l) [] h k a b c o q = absurd (omega arith)
+  four-begun (d ∷ e ∷ f ∷ []) m h k a b c o q = absurd (omega arith)
+  four-begun (d ∷ e ∷ []) m h k a b c o q = absurd (omega arith)
+  four-begun (d ∷ []) m h k a b c o q = absurd (omega arith)
+  four-begun [] m h k a b c o q = absurd (omega arith)

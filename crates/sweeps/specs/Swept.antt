@@ -3,9 +3,11 @@ use Rattle.std.specs.Prelude.{ℕ, ◌+◌, ◌-◌, ◌<◌, ◌≤◌, ◌≡�
 use Rattle.rules.specs.Words.{keep}
 use Rattle.lemmas.specs.Lists.{Every}
 
+-- whether row r is flagged
 abbrev pub flagged : List Bool → ℕ → Bool
 flagged flags r = get_or flags r false
 
+-- the test turned round
 abbrev pub fails : (ℕ → Bool) → ℕ → Bool
 fails p r = not (p r)
 
@@ -13,6 +15,7 @@ fails p r = not (p r)
 abbrev pub parted : (ℕ → Bool) → List ℕ → List ℕ
 parted p l = keep p l ++ keep (fails p) l
 
+-- a list partitioned, r of it having passed
 pub record Parted (p : ℕ → Bool) (before after : List ℕ) (r : ℕ) : Type 0 where
   pub within : r ≤ length before
   pub count : r ≡ length (keep p before)
@@ -49,49 +52,58 @@ pub record PartDone (p : ℕ → Bool) (col₀ scratch₀ : List ℕ) (i w : ℕ
   pub within : r ≤ length col₀
   pub done : (before : List ℕ) → Begun p before col₀ scratch₀ i w → Parted p before col r
 
+-- one if the test holds
 abbrev pub bit : Bool → ℕ
 bit b = cond b 1 0
 
--- what a sweep of the first two rows leaves in the column l and in the scratch m, s and t being their flags
+-- what a sweep of the first two rows leaves in the column l, s and t being their flags
 abbrev pub two_column : Bool → List ℕ → List ℕ
 two_column s l = set l (bit s) (get_or l 1 0)
 
+-- and in the scratch
 abbrev pub two_others : Bool → List ℕ → List ℕ → List ℕ
 two_others s l m = set (set m 0 (cond s (get_or l 1 0) (get_or l 0 0))) (1 - bit s) (get_or l 1 0)
 
+-- the first two rows swept, r of them flagged
 pub record TwoDone (s t : Bool) (col₀ scratch₀ col scratch : List ℕ) (r : ℕ) : Type 0 where
   pub count : r ≡ bit s + bit t
   pub column : col ≡ two_column s col₀
   pub others : scratch ≡ two_others s col₀ scratch₀
 
--- the row that a sweep of the first four writes for the third, for the second, for the first: if it and all before it are flagged, the one that it writes for the next
+-- the row that a sweep of the first four writes for the third: if it and all before it are flagged, the one that it writes for the next
 abbrev pub for_third : Bool → Bool → Bool → List ℕ → ℕ
 for_third s t u l = cond ((s && t) && u) (get_or l 3 0) (get_or l 2 0)
 
+-- for the second
 abbrev pub for_second : Bool → Bool → Bool → List ℕ → ℕ
 for_second s t u l = cond (s && t) (for_third s t u l) (get_or l 1 0)
 
+-- for the first
 abbrev pub for_first : Bool → Bool → Bool → List ℕ → ℕ
 for_first s t u l = cond s (for_second s t u l) (get_or l 0 0)
 
--- the places of the column where it writes them: for the second where a front of fewer than four rows ends, for the third, for the last
+-- the place of the column where it writes the second: where a front of fewer than four rows ends
 abbrev pub front_end : Bool → Bool → Bool → ℕ
 front_end s t u = bit s + bit (s && t) + bit ((s && t) && u)
 
+-- the third
 abbrev pub third_place : Bool → Bool → Bool → ℕ
 third_place s t u = bit s + bit t + bit ((s && t) && u)
 
+-- the last
 abbrev pub last_place : Bool → Bool → Bool → ℕ
 last_place s t u = bit s + bit t + bit u
 
--- and what it leaves
+-- what it leaves in the column
 abbrev pub four_column : Bool → Bool → Bool → List ℕ → List ℕ
 four_column s t u l = set (set (set l (front_end s t u) (for_second s t u l)) (third_place s t u) (for_third s t u l)) (last_place s t u) (get_or l 3 0)
 
+-- and in the scratch
 abbrev pub four_others : Bool → Bool → Bool → List ℕ → List ℕ → List ℕ
 four_others s t u l m =
     set (set (set (set m 0 (for_first s t u l)) (1 - bit s) (for_second s t u l)) (2 - (bit s + bit t)) (for_third s t u l)) (3 - (bit s + bit t + bit u)) (get_or l 3 0)
 
+-- the first four rows swept, r of them flagged
 pub record FourDone (s t u v : Bool) (col₀ scratch₀ col scratch : List ℕ) (r : ℕ) : Type 0 where
   pub count : r ≡ bit s + bit t + bit u + bit v
   pub column : col ≡ four_column s t u col₀

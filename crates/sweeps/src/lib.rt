@@ -3,7 +3,7 @@
 
 ghost use Rattle.std.specs.Prelude.{◌≡◌, cond, ◌+◌, ◌≤◌, length};
 ghost use Rattle.std.proofs.Math.Seq.{paste};
-ghost use Rattle.sweeps.specs.Swept.{flagged, bit, SweepAsks, SweepDone, PartDone, TwoDone, FourDone};
+ghost use Rattle.sweeps.specs.Swept.{flagged, SweepAsks, SweepDone, PartDone, TwoDone, FourDone};
 
 // The rows from `start` on in one pass: the flagged ones to the front of the stretch, the others to the front of the scratch. Each row is written to both.
 // It goes on from where another stopped: what it promises holds if the rows before `start` are swept already, and `found` of them are flagged.
@@ -12,31 +12,27 @@ fn sweep(col: &mut [u32], scratch: &mut [u32], flags: &[bool], start: usize, fou
     ensures { SweepDone (flagged flags.now) col.old scratch.old start found col.new scratch.new result }
 {
     let mut w = found;
-    let mut i = start;
-    while i < col.len() {
+    for i in start..col.len() {
         let e = col[i];
-        let row = e as usize;
-        let t = flags[row];
+        let t = flags[e as usize];
         let f = i - w;
         col[w] = e;
         scratch[f] = e;
         if t {
             w += 1;
         }
-        i += 1;
     }
     w
 }
 
-// The first n of src, copied over dst from `at` on.
+// The first n of src, copied over dst from `at` on. A loop, which the compiler writes out in place: `copy_from_slice` is a call of `memmove` for every column of a node, which is slower, and
+// asks one thing more of whoever links the library (docs/BOUNDARY.md).
 fn copy_in(dst: &mut [u32], at: usize, src: &[u32], n: usize)
     requires { (at + n ≤ length dst.old) × (n ≤ length src.now) }
     ensures { dst.new ≡ paste dst.old at src.now n }
 {
-    let mut j: usize = 0;
-    while j < n {
+    for j in 0..n {
         dst[at + j] = src[j];
-        j += 1;
     }
 }
 
@@ -57,24 +53,15 @@ pub fn part_from(
     w
 }
 
-// ---- the first rows: what is compiled has no branch for `one_if` and `pick`, and so none on where the front ends, which cannot be foreseen
+// ---- the first rows: what is compiled has no branch for `usize::from` and `pick`, and so none on where the front ends, which cannot be foreseen
 
-fn one_if(b: bool) -> usize
-    ensures { (result ≡ bit b) × (result ≤ 1) }
-{
-    if b {
-        return 1;
-    }
-    0
-}
+// Two rows and four are written out: in a loop over N flags each place hangs on all flags before it, and is no plainer.
 
-fn pick(b: bool, x: u32, y: u32) -> u32
+// x if b is set, or else y.
+fn pick<T: Copy>(b: bool, x: T, y: T) -> T
     ensures { result ≡ cond b x y }
 {
-    if b {
-        return x;
-    }
-    y
+    if b { x } else { y }
 }
 
 // The first two rows swept, s and t being their flags. If the first one stays, the second is written in its stead.
@@ -84,8 +71,8 @@ pub fn sweep_two(col: &mut [u32], scratch: &mut [u32], s: bool, t: bool) -> usiz
 {
     let last = col[1];
     let first = pick(s, last, col[0]);
-    let a = one_if(s);
-    let b = a + one_if(t);
+    let a = usize::from(s);
+    let b = a + usize::from(t);
     let f = 1 - a;
     scratch[0] = first;
     col[a] = last;
@@ -104,12 +91,12 @@ pub fn sweep_four(col: &mut [u32], scratch: &mut [u32], s: bool, t: bool, u: boo
     let third = pick(three, last, col[2]);
     let second = pick(two, third, col[1]);
     let first = pick(s, second, col[0]);
-    let late = one_if(three);
-    let a = one_if(s);
-    let b = a + one_if(t);
-    let c = b + one_if(u);
-    let d = c + one_if(v);
-    let w = a + one_if(two) + late;
+    let late = usize::from(three);
+    let a = usize::from(s);
+    let b = a + usize::from(t);
+    let c = b + usize::from(u);
+    let d = c + usize::from(v);
+    let w = a + usize::from(two) + late;
     let x = b + late;
     let f = 1 - a;
     let g = 2 - b;

@@ -1,14 +1,13 @@
 -- Laws of the table check: node by node from place k on, tree by tree, and a node read out. Assumes nothing.
 use Prim.Native.Nat.{ℕ, zero, suc, ◌+◌, ◌-◌, ◌<◌, ◌≤◌}
-use Rattle.std.proofs.Common.{add-zero, zero-add, add-one, ◌∙◌, subst, get_or-take, length-take-le}
+use Rattle.std.proofs.Common.{add-zero, zero-add, add-one, ◌∙◌, subst, get_or-take, length-take-le, Ok, Err, Some, None}
 use Rattle.std.proofs.Math.Decide.{ℕ_discrete}
 use native.Mathlib.Omega.{arith}
-use Rattle.std.specs.Prelude.{◌≡◌, Bool, ◌&&◌, List, [], ◌∷◌, map, length, get_or, take, T, eqb}
+use Rattle.std.specs.Prelude.{◌≡◌, Bool, ◌&&◌, List, [], ◌∷◌, map, get_or, take, T, eqb}
 use Rattle.std.proofs.Math.Path.{refl, sym, ap}
 use Rattle.std.proofs.Math.Bool.{true, false, cond}
 use Rattle.std.proofs.Math.Dec.{leb, ltb}
 use borrow.Author.Tests.{lt-ltb, le-ltb, leb-true}
-use Rattle.rules.specs.declared.NodeReply.{NodeReply}
 use Rattle.rules.specs.Words.{from, every, along}
 use Rattle.rules.specs.Lent.{Columns, Entry, shortest, entry_at, entries_at}
 use Rattle.rules.specs.Table.{good_entry, good_from, good_tree, ForestTable, starts_good, tree_at, trees_of, node_of, node_read}
@@ -16,7 +15,8 @@ use Rattle.lemmas.specs.Lists.{is_true, each, every-from, same-default, rising-a
 use Rattle.lemmas.specs.Laid.{entries-long}
 use Rattle.lemmas.specs.Scans.{range-next, range-end}
 use Rattle.lemmas.specs.Tests.{and_both}
-use Rattle.tables.specs.Table.{Lying, TreeLies, TreesLie}
+use Rattle.rules.specs.Checks.{replies}
+use Rattle.tables.specs.Table.{Started, Lying, TreeLies, TreesLie}
 
 -- ---- node by node
 
@@ -25,18 +25,14 @@ module _ (features : ℕ) (c : Columns) (a n : ℕ) where
   abbrev pub good_on : ℕ → Bool
   good_on k = good_from features n k (entries_at c (a + k) (n - k))
 
-  pub tree-starts : 0 < n → good_tree features (entries_at c a n) ≡ good_on 0
+  pub tree-starts : good_tree features (entries_at c a n) ≡ (ltb 0 n && good_on 0)
   unfolding good_tree
-  tree-starts h =
-      (λ i. lt-ltb 0 (length (entries_at c a n)) (subst (λ m. 0 < m) (sym (entries-long c a n)) h) i && good_from features (entries-long c a n i) 0 (entries_at c a n))
-      ∙ (λ i. good_from features n 0 (entries_at c (sym (add-zero a) i) (whole n i)))
+  tree-starts =
+      (λ i. ltb 0 (entries-long c a n i) && good_from features (entries-long c a n i) 0 (entries_at c a n))
+      ∙ (λ i. ltb 0 n && good_from features n 0 (entries_at c (sym (add-zero a) i) (whole n i)))
     where
       whole : (n : ℕ) → n ≡ n - 0
       whole n = omega arith
-
-  pub tree-none : n ≡ 0 → false ≡ good_tree features (entries_at c a n)
-  unfolding good_tree
-  tree-none h = sym (ap (λ b. b && good_from features (length (entries_at c a n)) 0 (entries_at c a n)) (le-ltb 0 (length (entries_at c a n)) (omega (arith, entries-long c a n))))
 
   tree-next : (k : ℕ) → k < n → good_on k ≡ (good_entry features n k (entry_at c (a + k)) && good_on (k + 1))
   unfolding entries_at good_from
@@ -69,6 +65,24 @@ pub every-mapped {ℓ κ} : {A : Type ℓ} {B : Type κ} (p : B → Bool) (f : A
 unfolding every
 every-mapped p f [] = refl
 every-mapped p f (x ∷ l) = ap (λ b. p (f x) && b) (every-mapped p f l)
+
+-- ---- the start table's rule, over its part that is looked at
+
+pub starts_part : (F : ForestTable) → Started F.trees F.starts
+    → starts_good F ≡ (eqb (get_or (take (F.trees + 1) F.starts) 0 0) 0 && (along ltb (take (F.trees + 1) F.starts) && leb (get_or (take (F.trees + 1) F.starts) F.trees 0) (shortest F.nodes)))
+unfolding starts_good
+starts_part F h =
+    λ i. eqb (first i) 0 && (along ltb (take (sym (add-one F.trees) i) F.starts) && leb (last i) (shortest F.nodes))
+  where
+    -- what stands at a place of the part is what stands there, whatever is said for a place that is not there
+    at : (k d : ℕ) → k < suc F.trees → get_or F.starts k d ≡ get_or (take (F.trees + 1) F.starts) k 0
+    at k d b = same-default F.starts k d 0 (omega (arith, h.long)) ∙ sym (get_or-take (F.trees + 1) F.starts k 0 (omega arith))
+
+    first : get_or F.starts 0 1 ≡ get_or (take (F.trees + 1) F.starts) 0 0
+    first = at 0 1 (omega arith)
+
+    last : get_or F.starts F.trees (suc (shortest F.nodes)) ≡ get_or (take (F.trees + 1) F.starts) F.trees 0
+    last = at F.trees (suc (shortest F.nodes)) (omega arith)
 
 -- ---- where the trees of a good start table lie
 
@@ -125,21 +139,38 @@ tree-lies features F h t b {a} {e} p q =
     all : T (every (λ k. good_tree features (tree k)) (from 0 F.trees))
     all = subst T (sym (sym (every-mapped (good_tree features) tree (from 0 F.trees)) ∙ h.good)) tt
 
+-- ---- what a reply says of the number that it was made of
+
+pub told-none : (n : ℕ) → Ok tt ≡ replies n → n ≡ 0
+unfolding replies
+told-none zero h = refl
+told-none (suc n) h = cc
+
+pub told-number : (n : ℕ) {r : ℕ} → Err r ≡ replies n → n ≡ r
+unfolding replies
+told-number zero h = cc
+told-number (suc n) h = cc
+
+pub told-some : (n : ℕ) {r : ℕ} → Err r ≡ replies n → n ≡ 0 → ⊥
+unfolding replies
+told-some zero h = cc
+told-some (suc n) h = λ e. absurd (omega arith)
+
 -- ---- a node read out
 
 module _ (c : Columns) (k n : ℕ) where
-  pub read-refused : (n ≡ 0 → ⊥) → NodeReply.Refused n ≡ node_read n c k
-  unfolding node_read
+  pub read-refused : {r : ℕ} → Err r ≡ replies n → Err r ≡ node_read n c k
+  unfolding node_read replies
   read-refused h = go n h
     where
-      go : (n : ℕ) → (n ≡ 0 → ⊥) → NodeReply.Refused n ≡ node_read n c k
-      go zero h = absurd (h refl)
-      go (suc n) h = refl
+      go : (n : ℕ) {r : ℕ} → Err r ≡ replies n → Err r ≡ node_read n c k
+      go zero h = cc
+      go (suc n) h = cc
 
-  pub read-missing : n ≡ 0 → shortest c ≤ k → NodeReply.Missing ≡ node_read n c k
+  pub read-missing : n ≡ 0 → shortest c ≤ k → Ok None ≡ node_read n c k
   unfolding node_read
-  read-missing h g = sym (ap (λ b. cond b (NodeReply.Read (node_of (entry_at c k))) NodeReply.Missing) (le-ltb k (shortest c) g)) ∙ ap (λ m. node_read m c k) (sym h)
+  read-missing h g = sym (ap (λ b. cond b (Ok (Some (node_of (entry_at c k)))) (Ok None)) (le-ltb k (shortest c) g)) ∙ ap (λ m. node_read m c k) (sym h)
 
-  pub read-there : n ≡ 0 → k < shortest c → NodeReply.Read (node_of (entry_at c k)) ≡ node_read n c k
+  pub read-there : n ≡ 0 → k < shortest c → Ok (Some (node_of (entry_at c k))) ≡ node_read n c k
   unfolding node_read
-  read-there h g = sym (ap (λ b. cond b (NodeReply.Read (node_of (entry_at c k))) NodeReply.Missing) (lt-ltb k (shortest c) g)) ∙ ap (λ m. node_read m c k) (sym h)
+  read-there h g = sym (ap (λ b. cond b (Ok (Some (node_of (entry_at c k)))) (Ok None)) (lt-ltb k (shortest c) g)) ∙ ap (λ m. node_read m c k) (sym h)

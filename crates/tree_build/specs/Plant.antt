@@ -1,11 +1,13 @@
 -- A tree once the checks have passed: what it asks, what it leaves, and how the root that the code lays out is the definition's. Assumes nothing.
 use Prim.Native.Nat.{ℕ, ◌+◌, ◌-◌, ◌*◌, ◌<◌, ◌≤◌, min, max}
 use native.Mathlib.Omega.{arith}
-use Rattle.std.specs.Prelude.{◌≡◌, List, map, length, T, leb, Float}
+use Rattle.std.specs.Prelude.{◌≡◌, List, map, length, T, leb, Float, Ok, Err}
 use Rattle.std.proofs.Math.Path.{sym, ap, subst}
 use Rattle.std.proofs.Common.{◌∙◌}
 use Rattle.rules.specs.declared.Params.{Params}
-use Rattle.rules.specs.declared.Totals.{Totals}
+use Rattle.rules.specs.declared.Shape.{Shape}
+use Rattle.rules.specs.declared.Input.{Input}
+use Rattle.rules.specs.declared.Tapes.{Tapes}
 use Rattle.rules.specs.declared.Report.{Report}
 use Rattle.rules.specs.Words.{from, keep, total, each_once}
 use Rattle.rules.specs.Lent.{Data, OneTree, Columns, count_in, kept, kept_in, kept_rows, listing_at, shortest, shortest_of_eight}
@@ -25,19 +27,28 @@ use Rattle.node_entries.specs.Entries.{LongAll, NodeRoom, LongRoom}
 use Rattle.node_entries.specs.Nodes.{write_nodes}
 use Rattle.node_growth.specs.Rooms.{Ground}
 use Rattle.tree_growth.specs.Tree.{TreeAsks, root_rows}
-use Rattle.tree_report.specs.declared.Planted.{Planted}
-use Rattle.tree_report.specs.declared.Planted.TheVariants.{BadDraw, Grown}
+use Rattle.tree_report.specs.Report.{Planted}
 use Rattle.tree_build.specs.declared.Root.{Root}
 
 -- what is lent, as the rules have it
 abbrev pub one_tree_in : ℕ → Params → List Float → List ℕ → List ℕ → List Float → OneTree
 one_tree_in rows p weights counts words thresholds = record { rows = rows; params = p; weights = weights; counts = counts; words = words; thresholds = thresholds }
 
+-- the data
 abbrev pub data_in : List Float → List Float → List ℕ → Data
 data_in values targets listings = record { values = values; targets = targets; listings = listings }
 
+-- from what is lent
+abbrev pub tree_for : Shape → Params → Input → Tapes → OneTree
+tree_for shape p d t = one_tree_in shape.rows p d.weights.now d.counts.now t.words.now t.thresholds.now
+
+-- its data
+abbrev pub data_for : Input → Data
+data_for d = data_in d.values.now d.targets.now d.listings.now
+
 -- ---- set-up
 
+-- what set-up asks
 pub record SetUpAsks (rows features : ℕ) (targets weights : List Float) (counts listings : List ℕ) (order : ℕ) : Type 0 where
   pub few : rows ≤ 65535
   pub some : 0 < features
@@ -48,20 +59,16 @@ pub record SetUpAsks (rows features : ℕ) (targets weights : List Float) (count
   pub once : (j : ℕ) → j < features → T (each_once rows (listing_at rows listings j))
   pub room : order ≡ features * rows
 
+-- what it leaves
 pub record SetUp (rows features : ℕ) (targets weights : List Float) (counts listings order : List ℕ) (r : Root) : Type 0 where
   pub kept : KeptAll (kept_in weights counts) rows features listings order r.kept
   pub totals : r.asked.totals ≡ totals_of empty (map (bare targets weights counts) (from 0 rows))
   pub count : r.asked.count ≡ total (count_in counts) (keep (kept_in weights counts) (from 0 rows))
   pub most : r.most ≡ max 1 (2 * r.kept - 1)
 
-pub set-up-made : {rows features : ℕ} {targets weights : List Float} {counts listings order : List ℕ} {kept count most : ℕ} {t : Totals}
-    → KeptAll (kept_in weights counts) rows features listings order kept → t ≡ totals_of empty (map (bare targets weights counts) (from 0 rows))
-    → count ≡ total (count_in counts) (keep (kept_in weights counts) (from 0 rows)) → most ≡ max 1 (2 * kept - 1)
-    → SetUp rows features targets weights counts listings order (record { kept = kept; most = most; asked = record { totals = t; count = count } })
-set-up-made s et en em = record { kept = s; totals = et; count = en; most = em }
-
 -- ---- the whole
 
+-- what a tree asks, once the checks have passed
 pub record PlantAsks (features : ℕ) (F : OneTree) (D : Data) (c : NodeRoom) (order scratch flags wholes reals : ℕ) : Type 0 where
   pub listed : Listed F D
   pub same : features ≡ F.params.features
@@ -89,10 +96,12 @@ pub record Grew (F : OneTree) (D : Data) (c c' : NodeRoom) (r : Report) : Type 0
   pub report : tree.report ≡ r
   pub written : c' ≡ write_nodes tree.nodes c
 
+-- what it answers, and leaves in the node columns
 abbrev pub Answers : OneTree → Data → NodeRoom → NodeRoom → Planted → Type 0
-Answers F D c c' (BadDraw k) = fit F D ≡ bad k
-Answers F D c c' (Grown r) = Grew F D c c' r
+Answers F D c c' (Err k) = fit F D ≡ bad k
+Answers F D c c' (Ok r) = Grew F D c c' r
 
+-- the same, as the contract says it
 pub record PlantDone (F : OneTree) (D : Data) (c c' : NodeRoom) (r : Planted) : Type 0 where
   pub done : Answers F D c c' r
 

@@ -2,11 +2,14 @@
 #![tactic(auto)]
 
 ghost use Rattle.std.specs.Prelude.{◌≡◌, ◌-◌, ◌*◌, ◌≤◌, max, length};
-ghost use Rattle.node_entries.specs.Entries.{node_room_of};
-ghost use Rattle.tree_build.specs.Plant.{one_tree_in, data_in, SetUpAsks, SetUp, PlantAsks, PlantDone};
+ghost use Rattle.rules.specs.Slices.{SameNodes, SameWork};
+ghost use Rattle.lemmas.specs.Passed.{Binary64};
+ghost use Rattle.node_entries.specs.Entries.{room_in, node_lengths};
+ghost use Rattle.tree_growth.specs.Places.{work_lengths};
+ghost use Rattle.tree_build.specs.Plant.{tree_for, data_for, SetUpAsks, SetUp, PlantAsks, PlantDone};
 
 use criterion::Side;
-use rules::Params;
+use rules::{Input, NodeRoom, Params, Shape, Tapes, WorkRoom};
 use tree_report::Planted;
 
 // A root: how many rows it keeps, how many nodes may come of it, its totals and count.
@@ -22,79 +25,46 @@ fn most_nodes(kept: usize) -> usize
     requires { kept ≤ 65535 }
     ensures { result ≡ max 1 (2 * kept - 1) }
 {
-    if kept == 0 {
-        return 1;
-    }
-    2 * kept - 1
+    (2 * kept).saturating_sub(1).max(1)
 }
 
 // The kept rows are laid out in the work columns, which are as long as the listings.
-fn set_up(
-    order: &mut [u32],
-    targets: &[f64],
-    weights: &[f64],
-    counts: &[u32],
-    listings: &[u32],
-    rows: usize,
-    features: usize,
-) -> Root
-    requires { SetUpAsks rows features targets.now weights.now counts.now listings.now (length order.old) }
-    ensures { SetUp rows features targets.now weights.now counts.now listings.now order.new result }
+fn set_up(order: &mut [u32], input: &Input, shape: Shape) -> Root
+    requires { SetUpAsks shape.rows shape.features input.now.targets.now input.now.weights.now input.now.counts.now input.now.listings.now (length order.old) }
+    ensures { SetUp shape.rows shape.features input.now.targets.now input.now.weights.now input.now.counts.now input.now.listings.now order.new result }
 {
-    let kept = work_columns::kept_columns(listings, weights, counts, order, rows, features);
-    let totals = work_columns::root_totals(targets, weights, counts, rows);
-    let count = work_columns::kept_count(weights, counts, rows);
-    let most = most_nodes(kept);
-    let few = kept as u32;
+    let kept = work_columns::kept_columns(order, input, shape);
+    let totals = work_columns::root_totals(input, shape.rows);
+    let count = work_columns::kept_count(input, shape.rows);
     Root {
-        kept: few,
-        most,
+        kept: kept as u32,
+        most: most_nodes(kept),
         asked: Side { totals, count },
     }
 }
 
+// The order room is as long as the work columns, no longer.
 pub fn plant(
-    value: &mut [f64],
-    feature: &mut [u32],
-    threshold: &mut [f64],
-    score: &mut [f64],
-    truechild: &mut [u32],
-    falsechild: &mut [u32],
-    nodecount: &mut [u32],
-    nodemass: &mut [f64],
-    order: &mut [u32],
-    scratch: &mut [u32],
-    flags: &mut [bool],
-    wholes: &mut [[u32; 6]],
-    reals: &mut [[f64; 3]],
-    values: &[f64],
-    targets: &[f64],
-    weights: &[f64],
-    counts: &[u32],
-    listings: &[u32],
-    words: &[u32],
-    thresholds: &[f64],
-    rows: usize,
-    features: usize,
+    nodes: &mut NodeRoom,
+    work: &mut WorkRoom,
+    input: &Input,
+    tapes: &Tapes,
+    shape: Shape,
     p: Params,
 ) -> Planted
-    requires { PlantAsks features (one_tree_in rows p weights.now counts.now words.now thresholds.now) (data_in values.now targets.now listings.now)
-        (node_room_of value.old feature.old threshold.old score.old truechild.old falsechild.old nodecount.old nodemass.old)
-        (length order.old) (length scratch.old) (length flags.old) (length wholes.old) (length reals.old) }
-    ensures { PlantDone (one_tree_in rows p weights.now counts.now words.now thresholds.now)
-        (data_in values.now targets.now listings.now)
-        (node_room_of value.old feature.old threshold.old score.old truechild.old falsechild.old nodecount.old
-        nodemass.old)
-        (node_room_of value.new feature.new threshold.new score.new truechild.new falsechild.new nodecount.new
-        nodemass.new) result }
+    requires { Binary64 input.now.values.now → PlantAsks shape.features (tree_for shape p input.now tapes.now) (data_for input.now) (room_in nodes.old)
+        (length work.old.order.now) (length work.old.scratch.now) (length work.old.flags.now) (length work.old.wholes.now) (length work.old.reals.now) }
+    ensures same_nodes { SameNodes nodes.old nodes.new }
+    ensures same_work { SameWork work.old work.new }
+    ensures nodes_long { node_lengths (room_in nodes.new) ≡ node_lengths (room_in nodes.old) }
+    ensures work_long { work_lengths work.new ≡ work_lengths work.old }
+    ensures planted { PlantDone (tree_for shape p input.now tapes.now) (data_for input.now) (room_in nodes.old) (room_in nodes.new) result }
 {
-    let root = set_up(order, targets, weights, counts, listings, rows, features);
+    rooms::values_fit(input.values);
+    let root = set_up(work.order, input, shape);
     let asked = root.asked;
-    let t = asked.totals;
-    let r = tree_growth::grow_tree(
-        order, scratch, flags, value, feature, threshold, score, truechild, falsechild, nodecount,
-        nodemass, wholes, reals, values, targets, weights, counts, words, thresholds, rows,
-        features, root.most, p, root.kept, asked,
+    let grown = tree_growth::grow_tree(
+        nodes, work, input, tapes, shape, root.most, p, root.kept, asked,
     );
-    tree_report::tell(r, t.mass, words.len(), thresholds.len())
+    tree_report::tell(grown, asked.totals.mass, tapes)
 }

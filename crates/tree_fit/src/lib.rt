@@ -1,147 +1,103 @@
 // The fit of one tree: checks, set-up, growth, and the rooms as they are left.
 #![tactic(auto)]
 
-ghost use Rattle.std.specs.Prelude.{◌≡◌};
-ghost use Rattle.rules.specs.Lent.{waiting_room, given_of, columns_of, behind_of, work_of, tree_rooms_of, outcome_of};
+ghost use Rattle.std.specs.Prelude.{◌≡◌, ◌*◌, ◌≤◌, length};
+ghost use Rattle.rules.specs.Lent.{waiting_room, tree_rooms_of, outcome_of};
+ghost use Rattle.rules.specs.Slices.{given_in, nodes_in, behind_in, work_in, SameNodes, SameWork};
 ghost use Rattle.rules.specs.Fit.{fit_tree, tree_call};
+ghost use Rattle.lemmas.specs.Passed.{Binary64};
+ghost use Rattle.node_entries.specs.Entries.{room_in, node_lengths};
+ghost use Rattle.tree_build.specs.Plant.{tree_for, data_for, PlantAsks, PlantDone};
 ghost use Rattle.tree_fit.specs.Ends.{finished};
 
 use checks::Lengths;
-use rules::{Checked, Settings, Shape, TreeAnswer};
+use rules::{FitError, Input, NodeRoom, Params, Settings, Shape, Tapes, TreeAnswer, WorkRoom};
 use tree_report::Planted;
 
 // Work room is left zero; a bad draw leaves node room zero as well.
-fn finish(
-    value: &mut [f64],
-    feature: &mut [u32],
-    threshold: &mut [f64],
-    score: &mut [f64],
-    truechild: &mut [u32],
-    falsechild: &mut [u32],
-    nodecount: &mut [u32],
-    nodemass: &mut [f64],
-    order: &mut [u32],
-    scratch: &mut [u32],
-    flags: &mut [bool],
-    wholes: &mut [[u32; 6]],
-    reals: &mut [[f64; 3]],
-    r: Planted,
-) -> TreeAnswer
-    ensures { outcome_of result (tree_rooms_of
-        (columns_of value.new feature.new threshold.new score.new truechild.new falsechild.new)
-        (behind_of nodecount.new nodemass.new)
-        (work_of order.new scratch.new flags.new wholes.new reals.new))
-        ≡ finished r (tree_rooms_of
-        (columns_of value.old feature.old threshold.old score.old truechild.old falsechild.old)
-        (behind_of nodecount.old nodemass.old)
-        (work_of order.old scratch.old flags.old wholes.old reals.old)) }
+fn finish(nodes: &mut NodeRoom, work: &mut WorkRoom, r: Planted) -> TreeAnswer
+    ensures same_nodes { SameNodes nodes.old nodes.new }
+    ensures same_work { SameWork work.old work.new }
+    ensures finished { outcome_of result (tree_rooms_of (nodes_in nodes.new) (behind_in nodes.new) (work_in work.new))
+        ≡ finished r (tree_rooms_of (nodes_in nodes.old) (behind_in nodes.old) (work_in work.old)) }
 {
-    rooms::zero_work(order, scratch, flags, wholes, reals);
+    rooms::zero_work(work);
     match r {
-        Planted::BadDraw(k) => {
-            rooms::zero_nodes(value, feature, threshold, score, truechild, falsechild);
-            rooms::zero_behind(nodecount, nodemass);
-            tree_report::bad_draw(k)
+        Ok(report) => Ok(report),
+        Err(search) => {
+            rooms::zero_nodes(nodes);
+            tree_report::bad_draw(search)
         }
-        Planted::Grown(report) => TreeAnswer::Grown(report),
     }
 }
 
-pub fn fit_tree(
-    value: &mut [f64],
-    feature: &mut [u32],
-    threshold: &mut [f64],
-    score: &mut [f64],
-    truechild: &mut [u32],
-    falsechild: &mut [u32],
-    nodecount: &mut [u32],
-    nodemass: &mut [f64],
+// The tree is planted in the front of the order room. The parts of the work room come one by one, so that one of them can be cut.
+fn plant_in_front(
+    nodes: &mut NodeRoom,
     order: &mut [u32],
     scratch: &mut [u32],
     flags: &mut [bool],
     wholes: &mut [[u32; 6]],
     reals: &mut [[f64; 3]],
-    values: &[f64],
-    targets: &[f64],
-    weights: &[f64],
-    counts: &[u32],
-    listings: &[u32],
-    words: &[u32],
-    thresholds: &[f64],
+    input: &Input,
+    tapes: &Tapes,
     shape: Shape,
-    settings: Settings,
-    tried: u32,
-) -> TreeAnswer
-    ensures { outcome_of result (tree_rooms_of
-        (columns_of value.new feature.new threshold.new score.new truechild.new falsechild.new)
-        (behind_of nodecount.new nodemass.new)
-        (work_of order.new scratch.new flags.new wholes.new reals.new))
-        ≡ fit_tree waiting_room
-        (tree_call shape settings tried
-        (given_of values.now targets.now weights.now counts.now listings.now) words.now thresholds.now)
-        (tree_rooms_of
-        (columns_of value.old feature.old threshold.old score.old truechild.old falsechild.old)
-        (behind_of nodecount.old nodemass.old)
-        (work_of order.old scratch.old flags.old wholes.old reals.old)) }
+    p: Params,
+) -> Planted
+    requires size_small { shape.features * shape.rows ≤ 1024 * 65535 }
+    requires order_long { shape.features * shape.rows ≤ length order.old }
+    requires plant_asks { Binary64 input.now.values.now → PlantAsks shape.features (tree_for shape p input.now tapes.now) (data_for input.now) (room_in nodes.old)
+        (shape.features * shape.rows) (length scratch.old) (length flags.old) (length wholes.old) (length reals.old) }
+    ensures same_nodes { SameNodes nodes.old nodes.new }
+    ensures nodes_long { node_lengths (room_in nodes.new) ≡ node_lengths (room_in nodes.old) }
+    ensures planted { PlantDone (tree_for shape p input.now tapes.now) (data_for input.now) (room_in nodes.old) (room_in nodes.new) result }
 {
-    let nodes = slices::shortest_of_eight(
-        value.len(),
-        feature.len(),
-        threshold.len(),
-        score.len(),
-        truechild.len(),
-        falsechild.len(),
-        nodecount.len(),
-        nodemass.len(),
-    );
-    let waiting = slices::least(wholes.len(), reals.len());
-    let room = Lengths {
-        nodes,
-        order: order.len(),
-        scratch: scratch.len(),
-        flags: flags.len(),
-        waiting,
-    };
-    let verdict = checks::tree::tree_verdict(
-        shape, values, targets, weights, counts, listings, room,
-    );
-    match verdict {
-        Checked::Refused(r) => {
-            return TreeAnswer::Refused(r);
-        }
-        Checked::Passed => {}
-    }
-    let rows = shape.rows;
-    let features = shape.features;
-    let size = features * rows;
-    let p = params::params_of(settings, tried, features);
-    let r = tree_build::plant(
-        value,
-        feature,
-        threshold,
-        score,
-        truechild,
-        falsechild,
-        nodecount,
-        nodemass,
-        &mut order[0..size],
+    let size = shape.features * shape.rows;
+    let mut work = WorkRoom {
+        order: &mut order[..size],
         scratch,
         flags,
         wholes,
         reals,
-        values,
-        targets,
-        weights,
-        counts,
-        listings,
-        words,
-        thresholds,
-        rows,
-        features,
+    };
+    tree_build::plant(nodes, &mut work, input, tapes, shape, p)
+}
+
+pub fn fit_tree(
+    nodes: &mut NodeRoom,
+    work: &mut WorkRoom,
+    input: &Input,
+    tapes: &Tapes,
+    shape: Shape,
+    settings: Settings,
+    tried: u32,
+) -> TreeAnswer
+    ensures same_nodes { SameNodes nodes.old nodes.new }
+    ensures same_work { SameWork work.old work.new }
+    ensures fitted { outcome_of result (tree_rooms_of (nodes_in nodes.new) (behind_in nodes.new) (work_in work.new))
+        ≡ fit_tree waiting_room (tree_call shape settings tried (given_in input.now) tapes.now.words.now tapes.now.thresholds.now)
+        (tree_rooms_of (nodes_in nodes.old) (behind_in nodes.old) (work_in work.old)) }
+{
+    let room = Lengths {
+        nodes: nodes.len(),
+        order: work.order.len(),
+        scratch: work.scratch.len(),
+        flags: work.flags.len(),
+        waiting: work.wholes.len().min(work.reals.len()),
+    };
+    checks::tree::tree_verdict(shape, input, room).map_err(FitError::Refused)?;
+    let p = params::params_of(settings, tried, shape.features);
+    let planted = plant_in_front(
+        nodes,
+        work.order,
+        work.scratch,
+        work.flags,
+        work.wholes,
+        work.reals,
+        input,
+        tapes,
+        shape,
         p,
     );
-    finish(
-        value, feature, threshold, score, truechild, falsechild, nodecount, nodemass, order,
-        scratch, flags, wholes, reals, r,
-    )
+    finish(nodes, work, planted)
 }

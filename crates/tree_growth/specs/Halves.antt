@@ -1,6 +1,6 @@
 -- The two halves of a turn: the pair that is left is searched, and the last to join is split. Before a turn, what is known is of those that will wait once the pair is
 -- searched; between its halves, of those that wait. Assumes nothing.
-use Rattle.std.specs.Prelude.{ℕ, suc, ◌+◌, ◌-◌, ◌*◌, ◌<◌, ◌≤◌, ◌≡◌, List, ◌∷◌, ◌++◌, length, replicate, Float}
+use Rattle.std.specs.Prelude.{ℕ, suc, ◌+◌, ◌-◌, ◌*◌, ◌<◌, ◌≤◌, ◌≡◌, List, ◌∷◌, ◌++◌, length, replicate, Float, Ok, Err}
 use Rattle.std.proofs.Common.{le_refl, le_trans, sym, ◌∙◌, subst}
 use native.Mathlib.Omega.{arith}
 use Rattle.std.proofs.Math.Path.{ap}
@@ -24,17 +24,14 @@ use Rattle.node_entries.specs.Nodes.{RoomIn}
 use Rattle.node_entries.specs.Writes.{room-less}
 use Rattle.node_growth.specs.declared.Pair.{Pair}
 use Rattle.node_growth.specs.declared.Stand.{Stand}
-use Rattle.node_growth.specs.declared.Step.{Step}
-use Rattle.node_growth.specs.declared.Step.TheVariants.{Refused, Goes}
-use Rattle.node_growth.specs.Rooms.{Ground, waiting_of, waiting_list, Laid, BelowTo, meant_step, LaidStep, FairStep}
+use Rattle.node_growth.specs.declared.BadSearch.{BadSearch}
+use Rattle.node_growth.specs.Rooms.{Ground, Step, waiting_of, waiting_list, Laid, BelowTo, meant_step, LaidStep, FairStep}
 use Rattle.node_growth.specs.Steps.{laid_more}
 use Rattle.node_growth.specs.Pairs.{sought, edge, PairAsks, PairDone}
 use Rattle.node_growth.specs.InColumns.{with_order}
 use Rattle.node_growth.specs.Numbers.{expand-number}
 use Rattle.tree_growth.specs.declared.At.{At}
-use Rattle.tree_growth.specs.declared.Turned.{Turned}
-use Rattle.tree_growth.specs.declared.Turned.TheVariants as U
-use Rattle.tree_growth.specs.Places.{state_at, stand_of, searched_to, onto, into, TurnAsks, TurnDone}
+use Rattle.tree_growth.specs.Places.{Grown, state_at, searched_to, onto, into, TurnAsks, TurnDone}
 
 -- what holds of the rooms throughout
 pub record Housed (g : Ground) (P : Params) (top scratch flags : ℕ) (c : NodeRoom) (wholes reals : ℕ) : Type 0 where
@@ -66,41 +63,42 @@ pub record Sound (P : Params) (top n : ℕ) (ws : List Waiting) : Type 0 where
 pub record GrowAsks (g : Ground) (P : Params) (W : List ℕ) (M : List Float) (top scratch flags : ℕ) (c : NodeRoom) (wholes : List (List ℕ)) (reals : List (List Float))
     (q : Pair) (at : At) : Type 0 where
   pub housed : Housed g P top scratch flags c (length wholes) (length reals)
-  pub asks : PairAsks g P W wholes reals q (stand_of at)
+  pub asks : PairAsks g P W wholes reals q at.stand
   pub high : edge q q.sides ≤ housed.kept
-  pub sound : Then (sought g P W M wholes reals q (stand_of at)) (λ o. Sound P top at.nodes o.0)
+  pub sound : Then (sought g P W M wholes reals q at.stand) (λ o. Sound P top at.nodes o.0)
 
 -- after its searches
 pub record Waits (g : Ground) (P : Params) (W : List ℕ) (top scratch flags : ℕ) (c : NodeRoom) (wholes : List (List ℕ)) (reals : List (List Float)) (at : At) : Type 0 where
   pub housed : Housed g P top scratch flags c (length wholes) (length reals)
-  pub laid : Laid g wholes reals housed.kept at.waiting
-  pub sound : Sound P top at.nodes (waiting_list g wholes reals at.waiting)
-  pub fair : Fair W at.drawn
+  pub laid : Laid g wholes reals housed.kept at.stand.waiting
+  pub sound : Sound P top at.nodes (waiting_list g wholes reals at.stand.waiting)
+  pub fair : Fair W at.stand.drawn
 
 -- the growth as the definition has it, and what the code answers and leaves in the node columns
-abbrev pub GrownTo : List ℕ → List Float → NodeRoom → NodeRoom → Out (State Tapes) → Turned → Type 0
-GrownTo W M old c' o (U.Refused k) = o ≡ bad k
-GrownTo W M old c' o (U.Goes at) = (ns : List TreeNode) × (o ≡ ok (state_at W M ns at)) × (length ns ≡ at.nodes) × RoomIn old ns c' × Fair W at.drawn
+abbrev pub GrownTo : List ℕ → List Float → NodeRoom → NodeRoom → Out (State Tapes) → Grown → Type 0
+GrownTo W M old c' o (Err b) = o ≡ bad b.search
+GrownTo W M old c' o (Ok at) = (ns : List TreeNode) × (o ≡ ok (state_at W M ns at)) × (length ns ≡ at.nodes) × RoomIn old ns c' × Fair W at.stand.drawn
 
 -- the pair is searched, and all that waits then is split
 abbrev pub grown_from : Ground → Params → List ℕ → List Float → List (List ℕ) → List (List Float) → Pair → List TreeNode → At → Out (State Tapes)
 grown_from g P W M wholes reals q ns at =
-    bind (sought g P W M wholes reals q (stand_of at)) (λ o. grow_all P (search (tape P.features) P) o.0 (record { nodes = ns; depth = at.depth; left = o.1 }))
+    bind (sought g P W M wholes reals q at.stand) (λ o. grow_all P (search (tape P.features) P) o.0 (record { nodes = ns; depth = at.depth; left = o.1 }))
 
-abbrev pub GrowDone : Ground → Params → List ℕ → List Float → ℕ → NodeRoom → NodeRoom → List (List ℕ) → List (List Float) → Pair → At → Turned → Type 0
+-- of any nodes that the columns held: the growth as the definition has it
+abbrev pub GrowDone : Ground → Params → List ℕ → List Float → ℕ → NodeRoom → NodeRoom → List (List ℕ) → List (List Float) → Pair → At → Grown → Type 0
 GrowDone g P W M top c c' wholes reals q at r =
     (old : NodeRoom) (ns : List TreeNode) → length ns ≡ at.nodes → LongRoom top old → RoomIn old ns c → GrownTo W M old c' (grown_from g P W M wholes reals q ns at) r
 
 -- ---- the searches of a turn
 
 module _ (g : Ground) (P : Params) (W : List ℕ) (M : List Float) (top sc fl : ℕ) (c : NodeRoom) (wholes : List (List ℕ)) (reals : List (List Float)) (q : Pair) (at : At)
-    (h : GrowAsks g P W M top sc fl c wholes reals q at) (wholes' : List (List ℕ)) (reals' : List (List Float)) (r : Step) (d : PairDone g P W M wholes reals wholes' reals' q (stand_of at) r) where
-  pub searched-stop : (k : ℕ) → r ≡ Refused k → (ns : List TreeNode) → grown_from g P W M wholes reals q ns at ≡ bad k
+    (h : GrowAsks g P W M top sc fl c wholes reals q at) (wholes' : List (List ℕ)) (reals' : List (List Float)) (r : Step) (d : PairDone g P W M wholes reals wholes' reals' q at.stand r) where
+  pub searched-stop : (b : BadSearch) → r ≡ Err b → (ns : List TreeNode) → grown_from g P W M wholes reals q ns at ≡ bad b.search
   unfolding bind
-  searched-stop k e ns =
+  searched-stop b e ns =
       ap (λ z. bind z (λ o. grow_all P (search (tape P.features) P) o.0 (record { nodes = ns; depth = at.depth; left = o.1 }))) (d.same ∙ ap (meant_step g W M wholes' reals') e)
 
-  module _ (s : Stand) (e : r ≡ Goes s) where
+  module _ (s : Stand) (e : r ≡ Ok s) where
     pub searched-on : (ns : List TreeNode) → grown_from g P W M wholes reals q ns at
         ≡ grow_all P (search (tape P.features) P) (waiting_list g wholes' reals' s.waiting) (state_at W M ns (searched_to at s))
     unfolding bind
@@ -127,15 +125,15 @@ then-into (bad n) mk Q t = tt
 then-into (ok o) mk Q t = t
 
 module _ (g : Ground) (P : Params) (W : List ℕ) (top sc fl : ℕ) (c : NodeRoom) (wholes : List (List ℕ)) (reals : List (List Float)) (at : At)
-    (h : Waits g P W top sc fl c wholes reals at) (hw : 0 < at.waiting) where
+    (h : Waits g P W top sc fl c wholes reals at) (hw : 0 < at.stand.waiting) where
   abbrev pub w : Waiting
-  w = waiting_of g (waiting_at wholes reals (at.waiting - 1))
+  w = waiting_of g (waiting_at wholes reals (at.stand.waiting - 1))
 
   abbrev ws : List Waiting
-  ws = waiting_list g wholes reals (at.waiting - 1)
+  ws = waiting_list g wholes reals (at.stand.waiting - 1)
 
-  list-is : waiting_list g wholes reals at.waiting ≡ w ∷ ws
-  list-is = ap (waiting_list g wholes reals) (less_one at.waiting hw)
+  list-is : waiting_list g wholes reals at.stand.waiting ≡ w ∷ ws
+  list-is = ap (waiting_list g wholes reals) (less_one at.stand.waiting hw)
 
   sound' : Sound P top at.nodes (w ∷ ws)
   sound' = subst (Sound P top at.nodes) list-is h.sound
@@ -150,12 +148,12 @@ module _ (g : Ground) (P : Params) (W : List ℕ) (top sc fl : ℕ) (c : NodeRoo
       room : (n r l a b : ℕ) → 1 ≤ a → 1 ≤ b → a + b ≡ r → n + 2 * ((r - 1) + l) ≤ top → n + 2 ≤ top
       room n r l a b h₁ h₂ h₃ h₄ = omega arith
 
-  top-laid : Laid g wholes reals h.housed.kept (suc (at.waiting - 1))
-  top-laid = subst (Laid g wholes reals h.housed.kept) (less_one at.waiting hw) h.laid
+  top-laid : Laid g wholes reals h.housed.kept (suc (at.stand.waiting - 1))
+  top-laid = subst (Laid g wholes reals h.housed.kept) (less_one at.stand.waiting hw) h.laid
 
-  top_below : BelowTo g (waiting_at wholes reals (at.waiting - 1)).end
+  top_below : BelowTo g (waiting_at wholes reals (at.stand.waiting - 1)).end
   top_below k l =
-      part-every (λ r. r < g.rows) g.rows k 0 h.housed.kept 0 (waiting_at wholes reals (at.waiting - 1)).end g.order (le_refl 0) top-laid.2 (omega arith) (h.housed.below k l)
+      part-every (λ r. r < g.rows) g.rows k 0 h.housed.kept 0 (waiting_at wholes reals (at.stand.waiting - 1)).end g.order (le_refl 0) top-laid.2 (omega arith) (h.housed.below k l)
 
   pub turn-may : TurnAsks g P W sc fl c wholes reals at
   turn-may =
@@ -191,13 +189,13 @@ module _ (g : Ground) (P : Params) (W : List ℕ) (top sc fl : ℕ) (c : NodeRoo
     g' = with_order g order'
 
     pub popped : (ns : List TreeNode) → length ns ≡ at.nodes
-        → grow_all P (search (tape P.features) P) (waiting_list g wholes reals at.waiting) (state_at W M ns at) ≡ grown_from g' P W M wholes reals q (with_children w ns) at'
+        → grow_all P (search (tape P.features) P) (waiting_list g wholes reals at.stand.waiting) (state_at W M ns at) ≡ grown_from g' P W M wholes reals q (with_children w ns) at'
     popped ns en =
         ap (λ l. grow_all P (search (tape P.features) P) l (state_at W M ns at)) list-is
         ∙ pop P (search (tape P.features) P) w ws (state_at W M ns at) sound'.levels.0
         ∙ sym (bind-through (expand P (search (tape P.features) P) w (state_at W M ns at)) put go)
         ∙ ap (λ o. bind o go) (d.same ns en)
-        ∙ bind-through (sought g' P W M wholes reals q (stand_of at')) made go
+        ∙ bind-through (sought g' P W M wholes reals q at'.stand) made go
       where
         put : List Waiting × State Tapes → List Waiting × State Tapes
         put o = (o.0 ++ ws, o.1)
@@ -222,17 +220,17 @@ module _ (g : Ground) (P : Params) (W : List ℕ) (top sc fl : ℕ) (c : NodeRoo
     after = expand P (search (tape P.features) P) w (state_at W M some-nodes at)
 
     -- what holds after the definition's step holds once the pair is searched
-    stepped : (Q : List Waiting → ℕ → Type 0) → Then after (λ r. Q (r.0 ++ ws) (length r.1.nodes)) → Then (sought g' P W M wholes reals q (stand_of at')) (λ o. Q o.0 at'.nodes)
+    stepped : (Q : List Waiting → ℕ → Type 0) → Then after (λ r. Q (r.0 ++ ws) (length r.1.nodes)) → Then (sought g' P W M wholes reals q at'.stand) (λ o. Q o.0 at'.nodes)
     stepped Q t =
-        then-after (sought g' P W M wholes reals q (stand_of at')) _ _
-        (then-into (sought g' P W M wholes reals q (stand_of at')) _ (λ l s. Q l (length s.nodes))
+        then-after (sought g' P W M wholes reals q at'.stand) _ _
+        (then-into (sought g' P W M wholes reals q at'.stand) _ (λ l s. Q l (length s.nodes))
         (subst (λ o. Then o (λ z. Q z.0 (length z.1.nodes))) (d.same some-nodes enough) (then-bind after (onto ws) (λ z. Q z.0 (length z.1.nodes)) t)))
         (λ o x. subst (Q o.0) (more-nodes some-nodes enough) x)
 
-    next-sound : Then (sought g' P W M wholes reals q (stand_of at')) (λ o. Sound P top at'.nodes o.0)
+    next-sound : Then (sought g' P W M wholes reals q at'.stand) (λ o. Sound P top at'.nodes o.0)
     next-sound =
-        then-after (sought g' P W M wholes reals q (stand_of at')) _ _ (then-both (sought g' P W M wholes reals q (stand_of at')) _ _ bounded (then-both (sought g' P W M wholes reals q
-        (stand_of at')) _ _ levelled numbered))
+        then-after (sought g' P W M wholes reals q at'.stand) _ _ (then-both (sought g' P W M wholes reals q at'.stand) _ _ bounded (then-both (sought g' P W M wholes reals q
+        at'.stand) _ _ levelled numbered))
         (λ o x. record {
           ripe = x.0.0;
           levels = x.1.0;
@@ -240,17 +238,17 @@ module _ (g : Ground) (P : Params) (W : List ℕ) (top sc fl : ℕ) (c : NodeRoo
           loaded = x.0.1;
         })
       where
-        bounded : Then (sought g' P W M wholes reals q (stand_of at')) (λ o. Every (Ripe P) o.0 × (at'.nodes + 2 * load o.0 ≤ top))
+        bounded : Then (sought g' P W M wholes reals q at'.stand) (λ o. Every (Ripe P) o.0 × (at'.nodes + 2 * load o.0 ≤ top))
         bounded = stepped (λ l n. Every (Ripe P) l × (n + 2 * load l ≤ top))
             (expand-bounded P (search (tape P.features) P) (search-fine P (tape P.features) (tape-fair P)) some' top w ws (state_at W M some-nodes at)
             sound'.levels.0 (sound'.ripe, subst (λ n. n + 2 * load (w ∷ ws) ≤ top) (sym enough) sound'.loaded))
 
-        levelled : Then (sought g' P W M wholes reals q (stand_of at')) (λ o. Every (λ v. v.level < P.limit) o.0)
+        levelled : Then (sought g' P W M wholes reals q at'.stand) (λ o. Every (λ v. v.level < P.limit) o.0)
         levelled = stepped (λ l n. Every (λ v. v.level < P.limit) l)
             (then-after after _ _ (expand-level P (search (tape P.features) P) w (state_at W M some-nodes at))
             (λ r h. every_append (λ v. v.level < P.limit) r.0 ws (every-imp _ _ (λ v x. x.1) r.0 h) sound'.levels.1))
 
-        numbered : Then (sought g' P W M wholes reals q (stand_of at')) (λ o. Every (λ v. v.number < at.nodes + 2) o.0)
+        numbered : Then (sought g' P W M wholes reals q at'.stand) (λ o. Every (λ v. v.number < at.nodes + 2) o.0)
         numbered = stepped (λ l n. Every (λ v. v.number < at.nodes + 2) l)
             (then-after after _ _ (expand-number P (search (tape P.features) P) w (state_at W M some-nodes at))
             (λ r h. every_append (λ v. v.number < at.nodes + 2) r.0 ws (every-imp _ _ (λ v x. subst (λ n. v.number < n + 2) enough x) r.0 h) (every-imp _

@@ -1,5 +1,5 @@
 -- The growth loop: its invariant, and its turns by what the code did. Assumes nothing.
-use Rattle.std.specs.Prelude.{ℕ, ◌+◌, ◌-◌, ◌<◌, ◌≤◌, max, ◌≡◌, refl, Bool, List, length, Float}
+use Rattle.std.specs.Prelude.{ℕ, ◌+◌, ◌-◌, ◌<◌, max, ◌≡◌, Bool, List, length, Float, Ok, Err}
 use Rattle.std.proofs.Common.{arith, ◌∙◌}
 use Rattle.std.proofs.Math.Path.{sym, ap, subst}
 use Rattle.rules.specs.declared.Params.{Params}
@@ -12,17 +12,15 @@ use Rattle.search.specs.Flat.{element_of}
 use Rattle.node_entries.specs.declared.WaitingNode.{WaitingNode}
 use Rattle.node_entries.specs.Entries.{NodeRoom, LongRoom, waiting_at}
 use Rattle.node_entries.specs.Nodes.{RoomIn}
-use Rattle.node_entries.specs.Writes.{room-less}
+use Rattle.node_entries.specs.Writes.{room-less, as-long, split-lengths}
 use Rattle.node_growth.specs.declared.Pair.{Pair}
 use Rattle.node_growth.specs.declared.Stand.{Stand}
-use Rattle.node_growth.specs.declared.Step.{Step}
-use Rattle.node_growth.specs.declared.Step.TheVariants.{Refused, Goes}
-use Rattle.node_growth.specs.Rooms.{Ground, cut_of, waiting_list, wrote_sides, FairStep}
+use Rattle.node_growth.specs.declared.BadSearch.{BadSearch}
+use Rattle.node_growth.specs.Rooms.{Ground, Step, cut_of, waiting_list, wrote_sides, FairStep}
 use Rattle.node_growth.specs.Pairs.{PairDone, PartAsks, PartDone}
 use Rattle.node_growth.specs.InColumns.{with_order}
 use Rattle.tree_growth.specs.declared.At.{At}
-use Rattle.tree_growth.specs.declared.Turned.TheVariants as U
-use Rattle.tree_growth.specs.Places.{state_at, stand_of, searched_to, TurnAsks, TurnDone}
+use Rattle.tree_growth.specs.Places.{state_at, searched_to, TurnAsks, TurnDone}
 use Rattle.tree_growth.specs.Turns.{top-room, code-split, code-parts, code-done}
 use Rattle.tree_growth.specs.Halves.{GrowAsks, Waits, grown_from, GrowDone, searched-stop, searched-on, searched-waits, w, two-left, turn-may, popped, more-nodes, next-asks}
 
@@ -33,58 +31,24 @@ Stands g₀ P W M top c₀ wholes₀ reals₀ q₀ at₀ g c wholes reals q at =
     (old : NodeRoom) (ns₀ : List TreeNode) → length ns₀ ≡ at₀.nodes → LongRoom top old → RoomIn old ns₀ c₀
     → (ns : List TreeNode) × (length ns ≡ at.nodes) × RoomIn old ns c × (grown_from g P W M wholes reals q ns at ≡ grown_from g₀ P W M wholes₀ reals₀ q₀ ns₀ at₀)
 
--- ---- the loop's invariant: it may go on, it stands within the growth, and no room changed its length
+-- ---- the loop's invariant: it may go on, and it stands within the growth
 
-pub record Growing (g₀ : Ground) (P : Params) (W : List ℕ) (M : List Float) (top sc₀ fl₀ : ℕ) (c₀ : NodeRoom) (wholes₀ : List (List ℕ)) (reals₀ : List (List Float)) (q₀ : Pair) (at₀ : At)
+pub record Growing (g₀ : Ground) (P : Params) (W : List ℕ) (M : List Float) (top : ℕ) (c₀ : NodeRoom) (wholes₀ : List (List ℕ)) (reals₀ : List (List Float)) (q₀ : Pair) (at₀ : At)
     (g : Ground) (sc fl : ℕ) (c : NodeRoom) (wholes : List (List ℕ)) (reals : List (List Float)) (q : Pair) (at : At) : Type 0 where
   pub asks : GrowAsks g P W M top sc fl c wholes reals q at
   pub stands : Stands g₀ P W M top c₀ wholes₀ reals₀ q₀ at₀ g c wholes reals q at
-  pub order : length g.order ≡ length g₀.order
-  pub scratch : sc ≡ sc₀
-  pub flags : fl ≡ fl₀
-  pub value : length c.nodes.value ≡ length c₀.nodes.value
-  pub feature : length c.nodes.feature ≡ length c₀.nodes.feature
-  pub threshold : length c.nodes.threshold ≡ length c₀.nodes.threshold
-  pub score : length c.nodes.score ≡ length c₀.nodes.score
-  pub truechild : length c.nodes.true_child ≡ length c₀.nodes.true_child
-  pub falsechild : length c.nodes.false_child ≡ length c₀.nodes.false_child
-  pub count : length c.behind.count ≡ length c₀.behind.count
-  pub mass : length c.behind.mass ≡ length c₀.behind.mass
-  pub waiting-wholes : length wholes ≡ length wholes₀
-  pub waiting-reals : length reals ≡ length reals₀
 
-pub growing-first : (g : Ground) (P : Params) (W : List ℕ) (M : List Float) (top sc fl : ℕ) (c : NodeRoom) (wholes : List (List ℕ)) (reals : List (List Float)) (q : Pair) (at : At)
-    → GrowAsks g P W M top sc fl c wholes reals q at → Growing g P W M top sc fl c wholes reals q at g sc fl c wholes reals q at
-growing-first g P W M top sc fl c wholes reals q at h =
-    record {
-      asks = h;
-      stands = λ old ns e lo i. (ns, e, i, refl);
-      order = refl;
-      scratch = refl;
-      flags = refl;
-      value = refl;
-      feature = refl;
-      threshold = refl;
-      score = refl;
-      truechild = refl;
-      falsechild = refl;
-      count = refl;
-      mass = refl;
-      waiting-wholes = refl;
-      waiting-reals = refl;
-    }
-
-module _ (g₀ : Ground) (P : Params) (W : List ℕ) (M : List Float) (top sc₀ fl₀ : ℕ) (c₀ : NodeRoom) (wholes₀ : List (List ℕ)) (reals₀ : List (List Float)) (q₀ : Pair) (at₀ : At)
-    (g : Ground) (sc : ℕ) (flags : List Bool) (c : NodeRoom) (wholes : List (List ℕ)) (reals : List (List Float)) (q : Pair) (at : At)
-    (i : Growing g₀ P W M top sc₀ fl₀ c₀ wholes₀ reals₀ q₀ at₀ g sc (length flags) c wholes reals q at)
-    (wholes' : List (List ℕ)) (reals' : List (List Float)) (r : Step) (d : PairDone g P W M wholes reals wholes' reals' q (stand_of at) r) where
-  pub growing-stop : (k : ℕ) → r ≡ Refused k → GrowDone g₀ P W M top c₀ c wholes₀ reals₀ q₀ at₀ (U.Refused k)
-  growing-stop k e old ns₀ e₀ lo n =
+module _ {g₀ : Ground} {P : Params} {W : List ℕ} {M : List Float} {top : ℕ} {c₀ : NodeRoom} {wholes₀ : List (List ℕ)} {reals₀ : List (List Float)} {q₀ : Pair} {at₀ : At}
+    {g : Ground} {sc : ℕ} (flags : List Bool) {c : NodeRoom} {wholes : List (List ℕ)} {reals : List (List Float)} {q : Pair} {at : At}
+    (i : Growing g₀ P W M top c₀ wholes₀ reals₀ q₀ at₀ g sc (length flags) c wholes reals q at)
+    {wholes' : List (List ℕ)} {reals' : List (List Float)} {r : Step} (d : PairDone g P W M wholes reals wholes' reals' q at.stand r) where
+  pub growing-stop : (b : BadSearch) → r ≡ Err b → GrowDone g₀ P W M top c₀ c wholes₀ reals₀ q₀ at₀ (Err b)
+  growing-stop b e old ns₀ e₀ lo n =
       let s = i.stands old ns₀ e₀ lo n in
-      sym s.3 ∙ searched-stop g P W M top sc (length flags) c wholes reals q at i.asks wholes' reals' r d k e s.0
+      sym s.3 ∙ searched-stop g P W M top sc (length flags) c wholes reals q at i.asks wholes' reals' r d b e s.0
 
-  module _ (s : Stand) (e : r ≡ Goes s) where
-    pub growing-end : s.waiting ≡ 0 → GrowDone g₀ P W M top c₀ c wholes₀ reals₀ q₀ at₀ (U.Goes (record { nodes = at.nodes; depth = at.depth; waiting = 0; drawn = s.drawn }))
+  module _ {s : Stand} (e : r ≡ Ok s) where
+    pub growing-end : s.waiting ≡ 0 → GrowDone g₀ P W M top c₀ c wholes₀ reals₀ q₀ at₀ (Ok (searched_to at s))
     unfolding grow_all runs
     growing-end none old ns₀ e₀ lo n =
         let t = i.stands old ns₀ e₀ lo n in (
@@ -118,40 +82,24 @@ module _ (g₀ : Ground) (P : Params) (W : List ℕ) (M : List Float) (top sc₀
             z.rows (length flags) × (LongRoom (at.nodes + 2) c × (z.node < at.nodes) × (at.nodes + 2 < 4294967296))
         growing-split = code-split g P W sc flags c wholes' reals' (searched_to at s) may ez
 
-        module _ (flags' : List Bool) (lf : length flags' ≡ length flags) (h : Sides)
+        module _ (flags' : List Bool) (lf : length flags' ≡ length flags) {h : Sides}
             (sd : SplitDone g.rows z.start z.end (element_of g.features g.tables) (cut_of z) g.order flags' h) where
           pub growing-parts : PartAsks g.rows g.features g.order sc flags' z h
           growing-parts = code-parts g P W sc flags c wholes' reals' (searched_to at s) may flags' lf ez h sd
 
-          module _ (c' : NodeRoom) (wr : c' ≡ wrote_sides z h at.nodes c) (order' : List ℕ) (q' : Pair) (pd : PartDone g.rows g.features g.order order' flags' P z at.nodes h q')
-              (deep : ℕ) (ed : deep ≡ max at.depth q'.level) where
+          module _ {c' : NodeRoom} (wr : c' ≡ wrote_sides z h at.nodes c) {order' : List ℕ} {q' : Pair} (pd : PartDone g.rows g.features g.order order' flags' P z at.nodes h q')
+              {deep : ℕ} (ed : deep ≡ max at.depth q'.level) where
             abbrev at' : At
-            at' = record { nodes = at.nodes + 2; depth = deep; waiting = s.waiting - 1; drawn = s.drawn }
+            at' = record { nodes = at.nodes + 2; depth = deep; stand = record { waiting = s.waiting - 1; drawn = s.drawn } }
 
             t : TurnDone g (with_order g order') P W M c c' wholes' reals' (searched_to at s) q' at'
             t = code-done g P W sc flags c wholes' reals' (searched_to at s) may flags' lf ez h sd c' wr M order' q' pd deep ed
 
-            pub growing-on : {sc' : ℕ} → sc' ≡ sc
-                → length c'.nodes.value ≡ length c.nodes.value → length c'.nodes.feature ≡ length c.nodes.feature → length c'.nodes.threshold ≡ length c.nodes.threshold
-                → length c'.nodes.score ≡ length c.nodes.score → length c'.nodes.true_child ≡ length c.nodes.true_child → length c'.nodes.false_child ≡ length c.nodes.false_child
-                → length c'.behind.count ≡ length c.behind.count → length c'.behind.mass ≡ length c.behind.mass
-                → Growing g₀ P W M top sc₀ fl₀ c₀ wholes₀ reals₀ q₀ at₀ (with_order g order') sc' (length flags') c' wholes' reals' q' at'
-            growing-on es v f th sr y n k m =
-                let room = i.asks.housed.node-room in
+            pub growing-on : {sc' : ℕ} → sc' ≡ sc → Growing g₀ P W M top c₀ wholes₀ reals₀ q₀ at₀ (with_order g order') sc' (length flags') c' wholes' reals' q' at'
+            growing-on es =
                 record {
                   asks = next-asks g P W top sc (length flags) c wholes' reals' (searched_to at s) waits hw M order' c' q' at' t es lf
-                      (record {
-                        nodes = record {
-                          value = subst (λ z. top ≤ z) (sym v) room.nodes.value;
-                          feature = subst (λ z. top ≤ z) (sym f) room.nodes.feature;
-                          threshold = subst (λ z. top ≤ z) (sym th) room.nodes.threshold;
-                          score = subst (λ z. top ≤ z) (sym sr) room.nodes.score;
-                          truechild = subst (λ z. top ≤ z) (sym y) room.nodes.truechild;
-                          falsechild = subst (λ z. top ≤ z) (sym n) room.nodes.falsechild;
-                        };
-                        count = subst (λ z. top ≤ z) (sym k) room.count;
-                        mass = subst (λ z. top ≤ z) (sym m) room.mass;
-                      });
+                      (as-long top c c' (split-lengths z h.trueside h.falseside _ at.nodes c wr) i.asks.housed.node-room);
                   stands = λ old ns₀ e₀ lo j.
                       let u = i.stands old ns₀ e₀ lo j in (
                         with_children (w g P W top sc (length flags) c wholes' reals' (searched_to at s) waits hw) u.0,
@@ -160,17 +108,4 @@ module _ (g₀ : Ground) (P : Params) (W : List ℕ) (M : List Float) (top sc₀
                         sym (popped g P W top sc (length flags) c wholes' reals' (searched_to at s) waits hw M order' c' q' at' t u.0 u.1)
                             ∙ sym (searched-on g P W M top sc (length flags) c wholes reals q at i.asks wholes' reals' r d s e u.0) ∙ u.3,
                       );
-                  order = t.long ∙ i.order;
-                  scratch = es ∙ i.scratch;
-                  flags = lf ∙ i.flags;
-                  value = v ∙ i.value;
-                  feature = f ∙ i.feature;
-                  threshold = th ∙ i.threshold;
-                  score = sr ∙ i.score;
-                  truechild = y ∙ i.truechild;
-                  falsechild = n ∙ i.falsechild;
-                  count = k ∙ i.count;
-                  mass = m ∙ i.mass;
-                  waiting-wholes = lw ∙ i.waiting-wholes;
-                  waiting-reals = lr ∙ i.waiting-reals;
                 }

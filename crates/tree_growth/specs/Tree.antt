@@ -1,5 +1,5 @@
 -- The growth from the root on: what it asks, what it leaves, and how it starts. Assumes nothing.
-use Rattle.std.specs.Prelude.{ℕ, ◌+◌, ◌-◌, ◌*◌, ◌<◌, ◌≤◌, ◌≡◌, Bool, ◌&&◌, length, ltb, Float}
+use Rattle.std.specs.Prelude.{ℕ, ◌+◌, ◌-◌, ◌*◌, ◌<◌, ◌≤◌, ◌≡◌, Bool, ◌&&◌, length, ltb, Float, Ok, Err}
 use Rattle.std.proofs.Math.Nat.{le_refl}
 use native.Mathlib.Omega.{arith}
 use Rattle.std.proofs.Math.Path.{refl, ap}
@@ -29,20 +29,22 @@ use Rattle.node_growth.specs.Pairs.{sought_from, sought, edge, SideAsks, root_si
 use Rattle.node_growth.specs.InColumns.{good-asks}
 use Rattle.node_growth.specs.Numbers.{search_if-number}
 use Rattle.tree_growth.specs.declared.At.{At}
-use Rattle.tree_growth.specs.declared.Turned.{Turned}
-use Rattle.tree_growth.specs.declared.Turned.TheVariants as U
-use Rattle.tree_growth.specs.Places.{stand_of}
+use Rattle.tree_growth.specs.Places.{Grown}
 use Rattle.tree_growth.specs.Halves.{Sound, GrowAsks, GrownTo, grown_from, GrowDone}
 
+-- tapes of which nothing is used
 abbrev pub unused : Drawn
 unused = record { words = 0; thresholds = 0; searches = 0 }
 
+-- the root alone, and nothing waits
 abbrev pub outset : At
-outset = record { nodes = 1; depth = 0; waiting = 0; drawn = unused }
+outset = record { nodes = 1; depth = 0; stand = record { waiting = 0; drawn = unused } }
 
+-- the root's rows, at the front of every column
 abbrev pub root_rows : Ground → ℕ → Side → NodeRows
 root_rows g kept q = node_rows g 0 kept q
 
+-- what a tree asks
 pub record TreeAsks (g : Ground) (P : Params) (top kept : ℕ) (q : Side) (wholes reals : ℕ) : Type 0 where
   pub shape : Shaped g.rows g.features g.tables
   pub small : g.rows < 4294967296
@@ -63,21 +65,23 @@ pub record TreeAsks (g : Ground) (P : Params) (top kept : ℕ) (q : Side) (whole
 -- a tree as the definition has it, its nodes written at the front of the columns: past them the columns keep what they held
 pub record Grew (W : List ℕ) (M : List Float) (c c' : NodeRoom) (o : Out (State Tapes)) (at : At) : Type 0 where
   pub nodes : List TreeNode
-  pub same : o ≡ ok (record { nodes = nodes; depth = at.depth; left = draws_at W M at.drawn })
+  pub same : o ≡ ok (record { nodes = nodes; depth = at.depth; left = draws_at W M at.stand.drawn })
   pub count : length nodes ≡ at.nodes
   pub written : c' ≡ write_nodes nodes c
-  pub fair : Fair W at.drawn
+  pub fair : Fair W at.stand.drawn
 
-abbrev pub Answers : List ℕ → List Float → NodeRoom → NodeRoom → Out (State Tapes) → Turned → Type 0
-Answers W M c c' o (U.Refused k) = o ≡ bad k
-Answers W M c c' o (U.Goes at) = Grew W M c c' o at
+-- what a growth answers, and leaves in the node columns
+abbrev pub Answers : List ℕ → List Float → NodeRoom → NodeRoom → Out (State Tapes) → Grown → Type 0
+Answers W M c c' o (Err b) = o ≡ bad b.search
+Answers W M c c' o (Ok at) = Grew W M c c' o at
 
-pub record TreeDone (g : Ground) (P : Params) (W : List ℕ) (M : List Float) (c c' : NodeRoom) (kept : ℕ) (q : Side) (r : Turned) : Type 0 where
+-- the same of the growth from a root
+pub record TreeDone (g : Ground) (P : Params) (W : List ℕ) (M : List Float) (c c' : NodeRoom) (kept : ℕ) (q : Side) (r : Grown) : Type 0 where
   pub grown : Answers W M c c' (from_root P (search (tape P.features) P) (root_rows g kept q) (record { words = W; thresholds = M; searches = 0 })) r
 
-grown-answers : (W : List ℕ) (M : List Float) (c c' : NodeRoom) (o : Out (State Tapes)) (t : Turned) → GrownTo W M c c' o t → Answers W M c c' o t
-grown-answers W M c c' o (U.Refused k) h = h
-grown-answers W M c c' o (U.Goes at) h = record { nodes = h.0; same = h.1; count = h.2; written = room-written c c' h.0 h.3; fair = h.4 }
+grown-answers : (W : List ℕ) (M : List Float) (c c' : NodeRoom) (o : Out (State Tapes)) (t : Grown) → GrownTo W M c c' o t → Answers W M c c' o t
+grown-answers W M c c' o (Err b) h = h
+grown-answers W M c c' o (Ok at) h = record { nodes = h.0; same = h.1; count = h.2; written = room-written c c' h.0 h.3; fair = h.4 }
 
 -- ---- the root is searched as the definition searches it
 
@@ -90,7 +94,7 @@ module _ (g : Ground) (P : Params) (W : List ℕ) (M : List Float) (wholes : Lis
   abbrev root_search : Out (List Waiting × Tapes)
   root_search = search_if P (search (tape P.features) P) (ltb 0 q.count && searchable P 1 (root_rows g kept q)) 0 1 (root_rows g kept q) (draws_at W M unused)
 
-  root-sought : sought g P W M wholes reals (root_pair kept q) (stand_of outset) ≡ root_search
+  root-sought : sought g P W M wholes reals (root_pair kept q) outset.stand ≡ root_search
   unfolding root_sides search_if
   root-sought = go (ltb 0 q.count)
     where
@@ -140,9 +144,9 @@ root-nodes c c' node l e =
 
 module _ (g : Ground) (P : Params) (W : List ℕ) (M : List Float) (top kept : ℕ) (q : Side) (wholes : List (List ℕ)) (reals : List (List Float))
     (h : TreeAsks g P top kept q (length wholes) (length reals)) where
-  root-asks : (k : ℕ) → k < root_sides q.count → SideAsks g (length wholes) (length reals) (root_pair kept q) (stand_of outset) k
+  root-asks : (k : ℕ) → k < root_sides q.count → SideAsks g (length wholes) (length reals) (root_pair kept q) outset.stand k
   root-asks k u =
-      subst (SideAsks g (length wholes) (length reals) (root_pair kept q) (stand_of outset)) (sym (first k (root_sides q.count) u (root-few g P W M wholes reals kept q)))
+      subst (SideAsks g (length wholes) (length reals) (root_pair kept q) outset.stand) (sym (first k (root_sides q.count) u (root-few g P W M wholes reals kept q)))
       (record {
         node = good-asks g P h.same 0 kept q h.good h.shape h.long kept (le_refl kept) h.below (omega arith) h.high;
         place = le_refl 0;
@@ -153,7 +157,7 @@ module _ (g : Ground) (P : Params) (W : List ℕ) (M : List Float) (top kept : �
       first : (k n : ℕ) → k < n → n ≤ 1 → k ≡ 0
       first k n u f = omega arith
 
-  root-sound : Then (sought g P W M wholes reals (root_pair kept q) (stand_of outset)) (λ o. Sound P top 1 o.0)
+  root-sound : Then (sought g P W M wholes reals (root_pair kept q) outset.stand) (λ o. Sound P top 1 o.0)
   root-sound =
       subst (λ m. Then m (λ o. Sound P top 1 o.0)) (sym (root-sought g P W M wholes reals kept q))
       (then-after (root_search g P W M wholes reals kept q) _ _
@@ -209,7 +213,7 @@ module _ (g : Ground) (P : Params) (W : List ℕ) (M : List Float) (top kept : �
         sound = root-sound;
       })
 
-  pub tree-goes : (c c₁ c' : NodeRoom) → LongRoom top c → c₁ ≡ put_leaf 0 q c → {r : Pair} → r ≡ root_pair kept q → (t : Turned)
+  pub tree-goes : (c c₁ c' : NodeRoom) → LongRoom top c → c₁ ≡ put_leaf 0 q c → {r : Pair} → r ≡ root_pair kept q → (t : Grown)
       → GrowDone g P W M top c₁ c' wholes reals r outset t → TreeDone g P W M c c' kept q t
   tree-goes c c₁ c' lc ec e t gd =
       record {

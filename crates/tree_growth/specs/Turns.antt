@@ -25,7 +25,7 @@ use Rattle.node_growth.specs.Pairs.{sought, sought_two, PartAsks, PartDone}
 use Rattle.node_growth.specs.InColumns.{with_order}
 use Rattle.node_growth.specs.Sides.{SidesDone, sides-count, mine, taken-room, taken-splits, part-asks, true-child, false-child, sides-sought}
 use Rattle.tree_growth.specs.declared.At.{At}
-use Rattle.tree_growth.specs.Places.{state_at, stand_of, onto, into, TurnAsks, TurnDone}
+use Rattle.tree_growth.specs.Places.{state_at, onto, into, TurnAsks, TurnDone}
 
 -- ---- answers put together
 
@@ -45,7 +45,7 @@ two (ok t) k mk ws = two-end (k t.1) mk t.0 ws
 module _ (g : Ground) (P : Params) (W : List ℕ) (sc : ℕ) (flags : List Bool) (c : NodeRoom) (wholes : List (List ℕ)) (reals : List (List Float)) (at : At)
     (q : TurnAsks g P W sc (length flags) c wholes reals at) where
   abbrev m : ℕ
-  m = at.waiting - 1
+  m = at.stand.waiting - 1
 
   abbrev e : WaitingNode
   e = waiting_at wholes reals m
@@ -54,7 +54,7 @@ module _ (g : Ground) (P : Params) (W : List ℕ) (sc : ℕ) (flags : List Bool)
   w = waiting_of g e
 
   abbrev rest : Stand
-  rest = record { waiting = m; drawn = at.drawn }
+  rest = record { waiting = m; drawn = at.stand.drawn }
 
   module _ (h : Sides) (d : SplitDone g.rows e.start e.end (element_of g.features g.tables) (cut_of e) g.order flags h) (c' : NodeRoom) (wr : c' ≡ wrote_sides e h at.nodes c) where
     true-is : h.trueside ≡ record { totals = (child on_true w).totals; count = (child on_true w).count }
@@ -111,22 +111,22 @@ module _ (g : Ground) (P : Params) (W : List ℕ) (sc : ℕ) (flags : List Bool)
 
     module _ (g' : Ground) (M : List Float) (r : Pair) (b : SidesDone g g' P W M wholes reals e at.nodes rest r) (deep : ℕ) (ed : deep ≡ max at.depth (e.level + 1)) where
       abbrev at' : At
-      at' = record { nodes = at.nodes + 2; depth = deep; waiting = m; drawn = at.drawn }
+      at' = record { nodes = at.nodes + 2; depth = deep; stand = rest }
 
       abbrev made : List TreeNode → ℕ → Tapes → State Tapes
       made ns depth d' = record { nodes = with_children w ns; depth = depth; left = d' }
 
       stepped : (ns : List TreeNode) → length ns ≡ at.nodes
-          → bind (expand P (search (tape P.features) P) w (state_at W M ns at)) (onto (waiting_list g wholes reals m)) ≡ bind (sought g' P W M wholes reals r (stand_of at')) (into (made ns deep))
+          → bind (expand P (search (tape P.features) P) w (state_at W M ns at)) (onto (waiting_list g wholes reals m)) ≡ bind (sought g' P W M wholes reals r at'.stand) (into (made ns deep))
       unfolding expand
       stepped ns en =
-          two (search_if P (search (tape P.features) P) (searchable P (suc e.level) (child on_true w)) (length ns) (suc e.level) (child on_true w) (draws_at W M at.drawn))
+          two (search_if P (search (tape P.features) P) (searchable P (suc e.level) (child on_true w)) (length ns) (suc e.level) (child on_true w) (draws_at W M at.stand.drawn))
           (λ d'. search_if P (search (tape P.features) P) (searchable P (suc e.level) (child on_false w)) (suc (length ns)) (suc e.level) (child on_false w) d')
           (made ns (max at.depth (suc e.level))) (waiting_list g wholes reals m)
-          ∙ (λ i. bind (bind (search_if P (search (tape P.features) P) (searchable P (level i) (child on_true w)) (length ns) (level i) (child on_true w) (draws_at W M at.drawn))
+          ∙ (λ i. bind (bind (search_if P (search (tape P.features) P) (searchable P (level i) (child on_true w)) (length ns) (level i) (child on_true w) (draws_at W M at.stand.drawn))
           (λ a. bind (search_if P (search (tape P.features) P) (searchable P (level i) (child on_false w)) (sym (add-one (length ns)) i) (level i) (child on_false w) a.1)
           (λ z. ok (z.0 ++ (a.0 ++ waiting_list g wholes reals m), z.1)))) (into (made ns (max at.depth (level i)))))
-          ∙ (λ i. bind (sought_two P (en i) (e.level + 1) (child on_true w) (child on_false w) (waiting_list g wholes reals m) (draws_at W M at.drawn)) (into (made ns (sym ed i))))
+          ∙ (λ i. bind (sought_two P (en i) (e.level + 1) (child on_true w) (child on_false w) (waiting_list g wholes reals m) (draws_at W M at.stand.drawn)) (into (made ns (sym ed i))))
           ∙ ap (λ z. bind z (into (made ns deep))) (sym b.same)
         where
           level : suc e.level ≡ e.level + 1
@@ -140,12 +140,12 @@ module _ (g : Ground) (P : Params) (W : List ℕ) (sc : ℕ) (flags : List Bool)
 module _ (g : Ground) (P : Params) (W : List ℕ) (sc : ℕ) (flags : List Bool) (c : NodeRoom) (wholes : List (List ℕ)) (reals : List (List Float)) (at : At)
     (q : TurnAsks g P W sc (length flags) c wholes reals at) where
   abbrev top_waiting : WaitingNode
-  top_waiting = waiting_at wholes reals (at.waiting - 1)
+  top_waiting = waiting_at wholes reals (at.stand.waiting - 1)
 
   abbrev left : Stand
-  left = record { waiting = at.waiting - 1; drawn = at.drawn }
+  left = record { waiting = at.stand.waiting - 1; drawn = at.stand.drawn }
 
-  pub top-room : (at.waiting - 1 < length wholes) × (at.waiting - 1 < length reals)
+  pub top-room : (at.stand.waiting - 1 < length wholes) × (at.stand.waiting - 1 < length reals)
   top-room = taken-room g P W sc flags wholes reals top_waiting at.nodes left q.taken
 
   pub code-taken : {z : WaitingNode} → z ≡ top_waiting → Taken g P W sc (length flags) wholes reals z at.nodes left
@@ -172,9 +172,9 @@ module _ (g : Ground) (P : Params) (W : List ℕ) (sc : ℕ) (flags : List Bool)
 
     pub code-done : {z : WaitingNode} → z ≡ top_waiting → (h : Sides) → DoneAt h z → (c' : NodeRoom) → c' ≡ wrote_sides z h at.nodes c
         → (M : List Float) (order' : List ℕ) (r : Pair) → PartDone g.rows g.features g.order order' flags' P z at.nodes h r → (deep : ℕ) → deep ≡ max at.depth r.level
-        → TurnDone g (with_order g order') P W M c c' wholes reals at r (record { nodes = at.nodes + 2; depth = deep; waiting = at.waiting - 1; drawn = at.drawn })
+        → TurnDone g (with_order g order') P W M c c' wholes reals at r (record { nodes = at.nodes + 2; depth = deep; stand = left })
     code-done {z} ez h d c' wr M order' r p deep ed =
         subst (λ (z : WaitingNode). DoneAt h z → c' ≡ wrote_sides z h at.nodes c → SidesDone g (with_order g order') P W M wholes reals z at.nodes left r → deep ≡ max at.depth (z.level + 1)
-        → TurnDone g (with_order g order') P W M c c' wholes reals at r (record { nodes = at.nodes + 2; depth = deep; waiting = at.waiting - 1; drawn = at.drawn })) (sym ez)
+        → TurnDone g (with_order g order') P W M c c' wholes reals at r (record { nodes = at.nodes + 2; depth = deep; stand = left })) (sym ez)
         (λ d wr b ed. turn-done g P W sc flags' c wholes reals at q' h d c' wr (with_order g order') M r b deep ed)
         d wr (sides-sought g P W sc flags' wholes reals z at.nodes left (taken' ez) h d M order' r p) (ed ∙ ap (λ (x : Pair). max at.depth x.level) p.pair)

@@ -1,182 +1,100 @@
 // A tree grown from its root: the last node to wait is split, and its children are searched, until none waits.
 #![tactic(auto)]
 
-ghost use Rattle.std.specs.Prelude.{◌≡◌, ◌≤◌, max, length};
-ghost use Rattle.node_entries.specs.Entries.{node_room_of, LongRoom};
-ghost use Rattle.node_growth.specs.Rooms.{ground_of};
+ghost use Rattle.std.specs.Prelude.{◌≡◌, ◌≤◌, length};
+ghost use Rattle.rules.specs.Slices.{SameNodes, SameWork};
+ghost use Rattle.node_entries.specs.Entries.{room_in, LongRoom, node_lengths};
+ghost use Rattle.node_growth.specs.Rooms.{ground_in};
+ghost use Rattle.tree_growth.specs.Places.{work_lengths};
 ghost use Rattle.tree_growth.specs.Halves.{GrowAsks, GrowDone};
 ghost use Rattle.tree_growth.specs.Tree.{TreeAsks, TreeDone};
 
 use criterion::Side;
-use node_growth::{Pair, Stand, Step};
-use rules::Params;
+use node_growth::{BadSearch, Pair, Stand};
+use rules::{Input, NodeRoom, Params, Shape, Tapes, WorkRoom};
 use search::Drawn;
 
-// A tree that grows: how many nodes it has, its depth so far, how many nodes wait, and how far the tapes are used.
+// A tree that grows: how many nodes it has, its depth so far, and how many nodes wait, with how far the tapes are used.
 #[derive(Clone, Copy)]
 pub struct At {
     pub nodes: u32,
     pub depth: u32,
-    pub waiting: usize,
-    pub drawn: Drawn,
-}
-
-#[derive(Clone, Copy)]
-pub enum Turned {
-    Refused(usize),
-    Goes(At),
-}
-
-pub fn greater(a: u32, b: u32) -> u32
-    ensures { result ≡ max a b }
-{
-    if a <= b {
-        return b;
-    }
-    a
+    pub stand: Stand,
 }
 
 // The growth: what is left to search is searched, and the last to join is split, until nothing waits. `most` is how many nodes there may be.
+// The parts of the work room come one by one: with the room as one struct the loop did not prove, since it reads `order` while `wholes` and `reals` are written.
 pub fn grow(
+    nodes: &mut NodeRoom,
     order: &mut [u32],
     scratch: &mut [u32],
     flags: &mut [bool],
-    value: &mut [f64],
-    feature: &mut [u32],
-    threshold: &mut [f64],
-    score: &mut [f64],
-    truechild: &mut [u32],
-    falsechild: &mut [u32],
-    nodecount: &mut [u32],
-    nodemass: &mut [f64],
     wholes: &mut [[u32; 6]],
     reals: &mut [[f64; 3]],
-    values: &[f64],
-    targets: &[f64],
-    weights: &[f64],
-    counts: &[u32],
-    words: &[u32],
-    thresholds: &[f64],
-    rows: usize,
-    features: usize,
+    input: &Input,
+    tapes: &Tapes,
+    shape: Shape,
     most: usize,
     p: Params,
     root: Pair,
     start: At,
-) -> Turned
-    requires { GrowAsks (ground_of rows features values.now targets.now weights.now counts.now order.old) p words.now thresholds.now most (length scratch.old)
-        (length flags.old) (node_room_of value.old feature.old threshold.old score.old truechild.old falsechild.old nodecount.old nodemass.old) wholes.old reals.old root start }
-    ensures { GrowDone (ground_of rows features values.now targets.now weights.now counts.now order.old) p
-        words.now thresholds.now most
-        (node_room_of value.old feature.old threshold.old score.old truechild.old falsechild.old nodecount.old
-        nodemass.old)
-        (node_room_of value.new feature.new threshold.new score.new truechild.new falsechild.new nodecount.new
-        nodemass.new)
+) -> Result<At, BadSearch>
+    requires { GrowAsks (ground_in shape input.now order.old) p tapes.now.words.now tapes.now.thresholds.now most (length scratch.old)
+        (length flags.old) (room_in nodes.old) wholes.old reals.old root start }
+    ensures same_slices { SameNodes nodes.old nodes.new }
+    ensures nodes_long { node_lengths (room_in nodes.new) ≡ node_lengths (room_in nodes.old) }
+    ensures grown { GrowDone (ground_in shape input.now order.old) p tapes.now.words.now tapes.now.thresholds.now most (room_in nodes.old) (room_in nodes.new)
         wholes.old reals.old root start result }
 {
     let mut at = start;
     let mut q = root;
-    loop {
-        let d = at.drawn;
-        let r = node_growth::search_pair(
-            wholes,
-            reals,
-            values,
-            targets,
-            weights,
-            counts,
-            order,
-            words,
-            thresholds,
-            rows,
-            features,
-            p,
-            q,
-            Stand {
-                waiting: at.waiting,
-                drawn: d,
-            },
-        );
-        match r {
-            Step::Refused(k) => {
-                return Turned::Refused(k);
-            }
-            Step::Goes(s) => {
-                let n = at.nodes;
-                let e = s.drawn;
-                if s.waiting == 0 {
-                    return Turned::Goes(At {
-                        nodes: n,
-                        depth: at.depth,
-                        waiting: 0,
-                        drawn: e,
-                    });
-                }
-                let m = s.waiting - 1;
-                let w = node_entries::top(wholes, reals, m);
-                let h = node_growth::split_node(
-                    flags, value, feature, threshold, score, truechild, falsechild, nodecount,
-                    nodemass, values, targets, weights, counts, order, rows, features, w, n,
-                );
-                q = node_growth::part_sides(order, scratch, flags, rows, features, p, w, n, h);
-                let deep = greater(at.depth, q.level);
-                let nodes = n + 2;
-                at = At {
-                    nodes,
-                    depth: deep,
-                    waiting: m,
-                    drawn: e,
-                };
-            }
+    'turns: loop {
+        let s = node_growth::search_pair(
+            wholes, reals, input, order, tapes, shape, p, q, at.stand,
+        )?;
+        if s.waiting == 0 {
+            return Ok(At { stand: s, ..at });
         }
+        let m = s.waiting - 1;
+        let w = node_entries::top(wholes, reals, m);
+        let h = node_growth::split_node(flags, nodes, input, order, shape, w, at.nodes);
+        q = node_growth::part_sides(order, scratch, flags, shape, p, w, at.nodes, h);
+        at = At {
+            nodes: at.nodes + 2,
+            depth: at.depth.max(q.level),
+            stand: Stand {
+                waiting: m,
+                drawn: s.drawn,
+            },
+        };
     }
 }
 
 // The growth of a tree whose kept rows lie in the work columns from 0 to `kept`.
 pub fn grow_tree(
-    order: &mut [u32],
-    scratch: &mut [u32],
-    flags: &mut [bool],
-    value: &mut [f64],
-    feature: &mut [u32],
-    threshold: &mut [f64],
-    score: &mut [f64],
-    truechild: &mut [u32],
-    falsechild: &mut [u32],
-    nodecount: &mut [u32],
-    nodemass: &mut [f64],
-    wholes: &mut [[u32; 6]],
-    reals: &mut [[f64; 3]],
-    values: &[f64],
-    targets: &[f64],
-    weights: &[f64],
-    counts: &[u32],
-    words: &[u32],
-    thresholds: &[f64],
-    rows: usize,
-    features: usize,
+    nodes: &mut NodeRoom,
+    work: &mut WorkRoom,
+    input: &Input,
+    tapes: &Tapes,
+    shape: Shape,
     most: usize,
     p: Params,
     kept: u32,
     root: Side,
-) -> Turned
-    requires tree_asks { TreeAsks (ground_of rows features values.now targets.now weights.now counts.now order.old) p most kept root (length wholes.old) (length reals.old) }
-    requires rows_in_bounds { (rows ≤ length scratch.old) × (rows ≤ length flags.old) × LongRoom most
-        (node_room_of value.old feature.old threshold.old score.old truechild.old falsechild.old nodecount.old nodemass.old) }
-    ensures { TreeDone (ground_of rows features values.now targets.now weights.now counts.now order.old) p
-        words.now thresholds.now
-        (node_room_of value.old feature.old threshold.old score.old truechild.old falsechild.old nodecount.old
-        nodemass.old)
-        (node_room_of value.new feature.new threshold.new score.new truechild.new falsechild.new nodecount.new
-        nodemass.new) kept root result }
+) -> Result<At, BadSearch>
+    requires tree_asks { TreeAsks (ground_in shape input.now work.old.order.now) p most kept root (length work.old.wholes.now) (length work.old.reals.now) }
+    requires scratch_long { shape.rows ≤ length work.old.scratch.now }
+    requires flags_long { shape.rows ≤ length work.old.flags.now }
+    requires nodes_enough { LongRoom most (room_in nodes.old) }
+    ensures same_nodes { SameNodes nodes.old nodes.new }
+    ensures same_work { SameWork work.old work.new }
+    ensures nodes_long { node_lengths (room_in nodes.new) ≡ node_lengths (room_in nodes.old) }
+    ensures work_long { work_lengths work.new ≡ work_lengths work.old }
+    ensures grown { TreeDone (ground_in shape input.now work.old.order.now) p tapes.now.words.now tapes.now.thresholds.now (room_in nodes.old) (room_in nodes.new) kept root result }
 {
-    let t = root.totals;
-    node_entries::put_leaf(
-        value, feature, threshold, score, truechild, falsechild, nodecount, nodemass, 0, t,
-        root.count,
-    );
+    node_entries::put_leaf(nodes, 0, root);
     let q = node_growth::root_pair(kept, root);
-    let d = Drawn {
+    let unused = Drawn {
         words: 0,
         thresholds: 0,
         searches: 0,
@@ -184,12 +102,24 @@ pub fn grow_tree(
     let at = At {
         nodes: 1,
         depth: 0,
-        waiting: 0,
-        drawn: d,
+        stand: Stand {
+            waiting: 0,
+            drawn: unused,
+        },
     };
     grow(
-        order, scratch, flags, value, feature, threshold, score, truechild, falsechild, nodecount,
-        nodemass, wholes, reals, values, targets, weights, counts, words, thresholds, rows,
-        features, most, p, q, at,
+        nodes,
+        work.order,
+        work.scratch,
+        work.flags,
+        work.wholes,
+        work.reals,
+        input,
+        tapes,
+        shape,
+        most,
+        p,
+        q,
+        at,
     )
 }

@@ -9,9 +9,11 @@ use Rattle.rules.specs.Table.{good_tree}
 use Rattle.lemmas.specs.Cells.{part_lies, part-long}
 use Rattle.walks.specs.Sixes.{SixWalkable}
 
+-- the n places from place a on, as a sub-slice has them
 abbrev part {ℓ} : {A : Type ℓ} → ℕ → ℕ → List A → List A
 part a n l = take (a + n - a) (drop a l)
 
+-- of each column
 abbrev pub alone : ℕ → ℕ → Columns → Columns
 alone a n c = columns_of (part a n c.value) (part a n c.feature) (part a n c.threshold) (part a n c.score) (part a n c.true_child) (part a n c.false_child)
 

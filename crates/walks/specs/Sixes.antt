@@ -1,52 +1,36 @@
--- Six rows that walk side by side until all are at leaves. Assumes nothing.
-use Rattle.std.specs.Prelude.{ℕ, suc, ◌+◌, ◌-◌, ◌*◌, ◌<◌, ◌≤◌, ◌≡◌, length, get_or, Float}
-use native.Mathlib.Omega.{arith}
-use Rattle.std.proofs.Common.{sym, ap, ◌∙◌, subst}
-use mathlib.Core.List.{List, [], ◌∷◌, map}
+-- Six rows that walk side by side until all are at leaves: where they are stands in a list of six nodes. Assumes nothing.
+use Rattle.std.specs.Prelude.{ℕ, zero, suc, ◌+◌, ◌-◌, ◌*◌, ◌<◌, ◌≤◌, ◌≡◌, refl, List, [], ◌∷◌, map, length, get_or, Float}
+use Rattle.std.specs.List.{sum_by}
+use Rattle.std.proofs.Common.{arith, add-zero, sym, ap, ◌∙◌, subst}
+use Rattle.std.proofs.lemmas.List.Sums.{sum_by-cons, get_or-le-sum_by}
 use Rattle.std.specs.Float.{nan}
 use Rattle.rules.specs.Words.{from}
 use Rattle.rules.specs.Lent.{Columns, Entry, values_at, entries_at}
 use Rattle.lemmas.specs.Cells.{stretch-within}
 use Rattle.tables.specs.Table.{TreeLies}
-use Rattle.walks.specs.declared.Six.{Six}
 use Rattle.walks.specs.Walks.{Readable, leaf_at, Reached, walk-starts}
 use Rattle.walks.specs.Steps.{step_of, Steppable, Stepped, stepped, stops}
 
-abbrev pub steps_of : ℕ → List Float → List ℕ → List Float → List ℕ → ℕ → Six → Six
-steps_of features xs fs ts ys i v =
-    record {
-      p = step_of features xs fs ts ys i v.p;
-      q = step_of features xs fs ts ys (i + 1) v.q;
-      r = step_of features xs fs ts ys (i + 2) v.r;
-      s = step_of features xs fs ts ys (i + 3) v.s;
-      t = step_of features xs fs ts ys (i + 4) v.t;
-      u = step_of features xs fs ts ys (i + 5) v.u;
-    }
-
-abbrev pub children_of : List ℕ → Six → ℕ
-children_of ys v = get_or ys v.p 0 + get_or ys v.q 0 + get_or ys v.r 0 + get_or ys v.s 0 + get_or ys v.t 0 + get_or ys v.u 0
-
-abbrev pub values_of : List Float → Six → List Float
-values_of vs v = get_or vs v.p nan ∷ get_or vs v.q nan ∷ get_or vs v.r nan ∷ get_or vs v.s nan ∷ get_or vs v.t nan ∷ get_or vs v.u nan ∷ []
-
 -- ---- what is asked
 
-pub record Among (n : ℕ) (v : Six) : Type 0 where
-  pub p : v.p < n
-  pub q : v.q < n
-  pub r : v.r < n
-  pub s : v.s < n
-  pub t : v.t < n
-  pub u : v.u < n
+-- six nodes of a tree of n nodes, or of columns of n places
+pub record Among (n : ℕ) (v : List ℕ) : Type 0 where
+  pub each : (j : ℕ) → j < 6 → get_or v j 0 < n
 
-pub record SixSteppable (features i : ℕ) (v : Six) (xs : List Float) (fs : List ℕ) (ts : List Float) (ys : List ℕ) : Type 0 where
+-- a step can be taken from each
+pub record SixSteppable (features i : ℕ) (v : List ℕ) (xs : List Float) (c : Columns) : Type 0 where
   pub few : i ≤ 65535
-  pub p : Steppable features i v.p xs fs ts ys
-  pub q : Steppable features (i + 1) v.q xs fs ts ys
-  pub r : Steppable features (i + 2) v.r xs fs ts ys
-  pub s : Steppable features (i + 3) v.s xs fs ts ys
-  pub t : Steppable features (i + 4) v.t xs fs ts ys
-  pub u : Steppable features (i + 5) v.u xs fs ts ys
+  pub each : (j : ℕ) → j < 6 → Steppable features (i + j) (get_or v j 0) xs c
+
+-- and has been taken from each
+pub record SixStepped (features i : ℕ) (v : List ℕ) (xs : List Float) (c : Columns) (w : List ℕ) : Type 0 where
+  pub long : length w ≡ 6
+  pub each : (j : ℕ) → j < 6 → get_or w j 0 ≡ step_of features xs c (i + j) (get_or v j 0)
+
+-- what stands at each
+pub record SixRead (vs : List Float) (v : List ℕ) (w : List Float) : Type 0 where
+  pub long : length w ≡ 6
+  pub each : (j : ℕ) → j < 6 → get_or w j nan ≡ get_or vs (get_or v j 0) nan
 
 -- a good tree, and the values of six rows from row i on
 pub record SixWalkable (features a n i : ℕ) (xs : List Float) (c : Columns) : Type 0 where
@@ -55,27 +39,44 @@ pub record SixWalkable (features a n i : ℕ) (xs : List Float) (c : Columns) : 
   pub few : i ≤ 65535
   pub rows : (k : ℕ) → k < i + 6 → k * features + features ≤ length xs
 
-pub six-walkable : (rows features a n : ℕ) (xs : List Float) (c : Columns) (out : List Float) → Readable rows features a n xs c out → (i : ℕ) → i + 6 ≤ rows
-    → SixWalkable features a n i xs c
-six-walkable rows features a n xs c out g i h =
-    record {
-      tree = g.tree;
-      some = g.some;
-      few = omega (arith, g.few);
-      rows = λ k b. subst (λ m. k * features + features ≤ m) (sym g.long) (stretch-within k rows features (omega arith));
-    }
+-- ---- numbers added up
+
+-- where they stand, by how far each is
+abbrev pub added : List ℕ → ℕ
+added v = sum_by (λ k. k) v
+
+-- no more than that many times the greatest
+sum-low : (f : ℕ → ℕ) (m : ℕ) (v : List ℕ) → ((j : ℕ) → j < length v → f (get_or v j 0) ≤ m) → sum_by f v ≤ length v * m
+sum-low f m [] h = omega arith
+sum-low f m (k ∷ v) h = omega (arith, sum_by-cons f k v, h 0 (omega arith), sum-low f m v (λ j b. h (suc j) (omega arith)))
+
+-- if none goes down the sum does not, and if it does not go up all are where they were
+sum-up : (v w : List ℕ) → length w ≡ length v → ((j : ℕ) → j < length v → get_or v j 0 ≤ get_or w j 0) → added v ≤ added w
+sum-up [] [] e h = omega arith
+sum-up [] (m ∷ w) e h = absurd (omega arith)
+sum-up (k ∷ v) [] e h = absurd (omega arith)
+sum-up (k ∷ v) (m ∷ w) e h =
+    omega (arith, sum_by-cons (λ k. k) k v, sum_by-cons (λ k. k) m w, h 0 (omega arith), sum-up v w (omega arith) (λ j b. h (suc j) (omega arith)))
+
+all-still : (v w : List ℕ) → length w ≡ length v → ((j : ℕ) → j < length v → get_or v j 0 ≤ get_or w j 0) → added w ≤ added v
+    → (j : ℕ) → j < length v → get_or w j 0 ≡ get_or v j 0
+all-still [] w e h s j b = absurd (omega arith)
+all-still (k ∷ v) [] e h s j b = absurd (omega arith)
+all-still (k ∷ v) (m ∷ w) e h s zero b =
+    omega (arith, sum_by-cons (λ k. k) k v, sum_by-cons (λ k. k) m w, h 0 (omega arith), sum-up v w (omega arith) (λ j b. h (suc j) (omega arith)))
+all-still (k ∷ v) (m ∷ w) e h s (suc j) b =
+    all-still v w (omega arith) (λ j b. h (suc j) (omega arith)) (omega (arith, sum_by-cons (λ k. k) k v, sum_by-cons (λ k. k) m w, h 0 (omega arith))) j (omega arith)
+
+-- a list by what stands at each place
+by-row : (g : ℕ → Float) (i : ℕ) (w : List Float) → ((j : ℕ) → j < length w → get_or w j nan ≡ g (i + j)) → w ≡ map g (from i (length w))
+unfolding from
+by-row g i [] h = refl
+by-row g i (x ∷ w) h = λ z. (h 0 (omega arith) ∙ ap g (add-zero i)) z ∷ by-row g (suc i) w (λ j b. h (suc j) (omega arith) ∙ ap g (up i j)) z
+  where
+    up : (i j : ℕ) → i + suc j ≡ suc i + j
+    up i j = omega arith
 
 -- ---- until all six are at leaves
-
-abbrev pub added : Six → ℕ
-added v = v.p + v.q + v.r + v.s + v.t + v.u
-
-rises : (v m : Six) → v.p ≤ m.p → v.q ≤ m.q → v.r ≤ m.r → v.s ≤ m.s → v.t ≤ m.t → v.u ≤ m.u
-    → (m.p ≡ v.p → m.q ≡ v.q → m.r ≡ v.r → m.s ≡ v.s → m.t ≡ v.t → m.u ≡ v.u → ⊥) → added v < added m
-rises v m hp hq hr hs ht hu f = omega (arith, no)
-  where
-    no : added m ≤ added v → ⊥
-    no h = f (omega arith) (omega arith) (omega arith) (omega arith) (omega arith) (omega arith)
 
 module _ (features n i : ℕ) (xs : List Float) (c : Columns) where
   abbrev es : List Entry
@@ -85,106 +86,60 @@ module _ (features n i : ℕ) (xs : List Float) (c : Columns) where
   row j = values_at features xs j
 
   -- each row is where its own walk is
-  pub record SixReached (v : Six) : Type 0 where
-    pub p : Reached n es (row i) v.p
-    pub q : Reached n es (row (i + 1)) v.q
-    pub r : Reached n es (row (i + 2)) v.r
-    pub s : Reached n es (row (i + 3)) v.s
-    pub t : Reached n es (row (i + 4)) v.t
-    pub u : Reached n es (row (i + 5)) v.u
+  pub record SixReached (v : List ℕ) : Type 0 where
+    pub long : length v ≡ 6
+    pub each : (j : ℕ) → j < 6 → Reached n es (row (i + j)) (get_or v j 0)
 
   module _ (w : SixWalkable features 0 n i xs c) where
-    starts : (j : ℕ) → Reached n es (row j) 0
-    starts j = walk-starts features 0 n c w.tree.good (row j)
+    -- at the root
+    pub six-starts : SixReached (0 ∷ 0 ∷ 0 ∷ 0 ∷ 0 ∷ 0 ∷ [])
+    six-starts = record { long = refl; each = at }
+      where
+        root : (j : ℕ) → Reached n es (row j) 0
+        root j = walk-starts features 0 n c w.tree.good (row j)
 
-    pub six-starts : SixReached (record { p = 0; q = 0; r = 0; s = 0; t = 0; u = 0 })
-    six-starts = record { p = starts i; q = starts (i + 1); r = starts (i + 2); s = starts (i + 3); t = starts (i + 4); u = starts (i + 5) }
+        at : (j : ℕ) → j < 6 → Reached n es (row (i + j)) (get_or (0 ∷ 0 ∷ 0 ∷ 0 ∷ 0 ∷ 0 ∷ []) j 0)
+        at zero b = root (i + 0)
+        at (suc zero) b = root (i + 1)
+        at (suc (suc zero)) b = root (i + 2)
+        at (suc (suc (suc zero))) b = root (i + 3)
+        at (suc (suc (suc (suc zero)))) b = root (i + 4)
+        at (suc (suc (suc (suc (suc zero))))) b = root (i + 5)
+        at (suc (suc (suc (suc (suc (suc j)))))) b = absurd (omega (arith, b))
 
-    pub six-among : (m : ℕ) → n ≤ m → (v : Six) → SixReached v → Among m v
-    six-among m h v g =
-        record {
-          p = omega (arith, g.p.inside);
-          q = omega (arith, g.q.inside);
-          r = omega (arith, g.r.inside);
-          s = omega (arith, g.s.inside);
-          t = omega (arith, g.t.inside);
-          u = omega (arith, g.u.inside);
-        }
-
-    steppable : (j k : ℕ) → j < i + 6 → k < n → Steppable features j k xs c.feature c.threshold c.true_child
-    steppable j k h g =
-        record {
-          some = w.some;
-          row = w.rows j h;
-          known = omega (arith, w.tree.inside);
-          cut = omega (arith, w.tree.inside);
-          child = omega (arith, w.tree.inside);
-        }
-
-    pub six-steppable : (v : Six) → SixReached v → SixSteppable features i v xs c.feature c.threshold c.true_child
-    six-steppable v g =
-        record {
-          few = w.few;
-          p = steppable i v.p (omega arith) g.p.inside;
-          q = steppable (i + 1) v.q (omega arith) g.q.inside;
-          r = steppable (i + 2) v.r (omega arith) g.r.inside;
-          s = steppable (i + 3) v.s (omega arith) g.s.inside;
-          t = steppable (i + 4) v.t (omega arith) g.t.inside;
-          u = steppable (i + 5) v.u (omega arith) g.u.inside;
-        }
-
-    abbrev pub onward : Six → Six
-    onward = steps_of features xs c.feature c.threshold c.true_child i
-
-    on : (j k : ℕ) → Reached n es (row j) k → Stepped features n c w.tree xs j k k (step_of features xs c.feature c.threshold c.true_child j k)
+    on : (j k : ℕ) → Reached n es (row j) k → Stepped features n c w.tree xs j k k (step_of features xs c j k)
     on j k g = stepped features n c w.tree xs j k g
 
-    pub six-goes : (v : Six) → SixReached v → SixReached (onward v)
-    six-goes v g =
-        record {
-          p = (on i v.p g.p).there;
-          q = (on (i + 1) v.q g.q).there;
-          r = (on (i + 2) v.r g.r).there;
-          s = (on (i + 3) v.s g.s).there;
-          t = (on (i + 4) v.t g.t).there;
-          u = (on (i + 5) v.u g.u).there;
-        }
+    pub six-goes : (v next : List ℕ) → SixReached v → SixStepped features i v xs c next → SixReached next
+    six-goes v next g s =
+        record { long = s.long; each = λ j b. subst (Reached n es (row (i + j))) (sym (s.each j b)) (on (i + j) (get_or v j 0) (g.each j b)).there }
 
-    inside : (v : Six) → SixReached v → added v ≤ 6 * n
-    inside v g = omega (arith, g.p.inside, g.q.inside, g.r.inside, g.s.inside, g.t.inside, g.u.inside)
+    inside : (v : List ℕ) → SixReached v → added v ≤ 6 * n
+    inside v g = subst (λ m. added v ≤ m * n) g.long (sum-low (λ k. k) n v (λ j b. omega (arith, (g.each j (subst (λ m. j < m) g.long b)).inside)))
 
     -- while one has a true child, one goes up
-    pub six-falls : (v : Six) → SixReached v → (children_of c.true_child v ≡ 0 → ⊥) → 6 * n - added (onward v) < 6 * n - added v
-    six-falls v g z =
-        let p = on i v.p g.p in
-        let q = on (i + 1) v.q g.q in
-        let r = on (i + 2) v.r g.r in
-        let s = on (i + 3) v.s g.s in
-        let t = on (i + 4) v.t g.t in
-        let u = on (i + 5) v.u g.u in
-        less (6 * n) (added v) (added (onward v)) (inside (onward v) (six-goes v g))
-        (rises v (onward v) p.up q.up r.up s.up t.up u.up
-        (λ ep eq er es et eu. z (none (p.still ep) (q.still eq) (r.still er) (s.still es) (t.still et) (u.still eu))))
+    pub six-falls : (v next : List ℕ) → SixReached v → SixStepped features i v xs c next → (sum_by (λ k. get_or c.true_child k 0) v ≡ 0 → ⊥)
+        → 6 * n - added next < 6 * n - added v
+    six-falls v next g s z = omega (arith, inside next (six-goes v next g s), no)
       where
-        less : (m a b : ℕ) → b ≤ m → a < b → m - b < m - a
-        less m a b h g = omega arith
+        six : (j : ℕ) → j < length v → j < 6
+        six j b = subst (λ m. j < m) g.long b
 
-        none : {a b c d e f : ℕ} → a ≡ 0 → b ≡ 0 → c ≡ 0 → d ≡ 0 → e ≡ 0 → f ≡ 0 → a + b + c + d + e + f ≡ 0
-        none a b c d e f = omega arith
+        up : (j : ℕ) → j < length v → get_or v j 0 ≤ get_or next j 0
+        up j b = subst (λ m. get_or v j 0 ≤ m) (sym (s.each j (six j b))) (on (i + j) (get_or v j 0) (g.each j (six j b))).up
 
-    pub six-stops : (v : Six) → SixReached v → children_of c.true_child v ≡ 0 → values_of c.value v ≡ map (leaf_at features xs es) (from i 6)
-    unfolding from
-    six-stops v g z =
-        let (p, q, r, s, t, u) = each _ _ _ _ _ _ z in λ k. stops features n c w.tree xs i v.p g.p p k
-        ∷ at (i + 1) (suc i) (omega arith) v.q g.q q k
-        ∷ at (i + 2) (suc (suc i)) (omega arith) v.r g.r r k
-        ∷ at (i + 3) (suc (suc (suc i))) (omega arith) v.s g.s s k
-        ∷ at (i + 4) (suc (suc (suc (suc i)))) (omega arith) v.t g.t t k
-        ∷ at (i + 5) (suc (suc (suc (suc (suc i))))) (omega arith) v.u g.u u k
-        ∷ []
+        leaf : added next ≤ added v → (j : ℕ) → j < length v → get_or c.true_child (get_or v j 0) 0 ≤ 0
+        leaf h j b =
+            omega (arith, (on (i + j) (get_or v j 0) (g.each j (six j b))).still (sym (s.each j (six j b)) ∙ all-still v next (s.long ∙ sym g.long) up h j b))
+
+        no : added next ≤ added v → ⊥
+        no h = z (omega (arith, sum-low (λ k. get_or c.true_child k 0) 0 v (leaf h)))
+
+    pub six-stops : (v : List ℕ) → SixReached v → sum_by (λ k. get_or c.true_child k 0) v ≡ 0 → (r : List Float) → SixRead c.value v r → r ≡ map (leaf_at features xs es) (from i 6)
+    six-stops v g z r t =
+        subst (λ m. r ≡ map (leaf_at features xs es) (from i m)) t.long
+        (by-row (leaf_at features xs es) i r
+        (λ j b. let h = subst (λ m. j < m) t.long b in t.each j h ∙ stops features n c w.tree xs (i + j) (get_or v j 0) (g.each j h) (none j h)))
       where
-        each : (a b c d e f : ℕ) → a + b + c + d + e + f ≡ 0 → (a ≡ 0) × (b ≡ 0) × (c ≡ 0) × (d ≡ 0) × (e ≡ 0) × (f ≡ 0)
-        each a b c d e f h = (omega arith, omega arith, omega arith, omega arith, omega arith, omega arith)
-
-        at : (j m : ℕ) → j ≡ m → (k : ℕ) → Reached n es (row j) k → get_or c.true_child k 0 ≡ 0 → get_or c.value k nan ≡ leaf_at features xs es m
-        at j m e k g z = stops features n c w.tree xs j k g z ∙ ap (leaf_at features xs es) e
+        none : (j : ℕ) → j < 6 → get_or c.true_child (get_or v j 0) 0 ≡ 0
+        none j b = omega (arith, z, get_or-le-sum_by (λ k. get_or c.true_child k 0) v j 0 (subst (λ m. j < m) (sym g.long) b))

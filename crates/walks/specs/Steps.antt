@@ -10,15 +10,16 @@ use Rattle.tables.specs.Table.{TreeLies}
 use Rattle.walks.specs.Walks.{leaf_at, Reached, onward, walk-stops, walk-goes, sent, sent-up}
 
 -- from node k of a tree that is lent alone. At a leaf the feature may be any number: what is then looked at does not matter, but it must be there
-abbrev pub step_of : ℕ → List Float → List ℕ → List Float → List ℕ → ℕ → ℕ → ℕ
-step_of features xs fs ts ys i k = next_of k (cell features xs (min (get_or fs k 0) (features - 1)) i) (get_or ts k nan) (get_or ys k 0)
+abbrev pub step_of : ℕ → List Float → Columns → ℕ → ℕ → ℕ
+step_of features xs c i k = next_of k (cell features xs (min (get_or c.feature k 0) (features - 1)) i) (get_or c.threshold k nan) (get_or c.true_child k 0)
 
-pub record Steppable (features i k : ℕ) (xs : List Float) (fs : List ℕ) (ts : List Float) (ys : List ℕ) : Type 0 where
+-- row i's values and node k are there
+pub record Steppable (features i k : ℕ) (xs : List Float) (c : Columns) : Type 0 where
   pub some : 0 < features
   pub row : i * features + features ≤ length xs
-  pub known : k < length fs
-  pub cut : k < length ts
-  pub child : k < length ys
+  pub known : k < length c.feature
+  pub cut : k < length c.threshold
+  pub child : k < length c.true_child
 
 module _ (features n : ℕ) (c : Columns) (lies : TreeLies features 0 n c) (xs : List Float) where
   abbrev pub es : List Entry
@@ -75,7 +76,7 @@ module _ (features n : ℕ) (c : Columns) (lies : TreeLies features 0 n c) (xs :
             there = subst (Reached n es (row i)) (sym (goes z)) (walk-goes features 0 n c lies.good (row i) k r z);
           }
 
-  pub stepped : (i k : ℕ) → Reached n es (row i) k → Stepped i k k (step_of features xs c.feature c.threshold c.true_child i k)
+  pub stepped : (i k : ℕ) → Reached n es (row i) k → Stepped i k k (step_of features xs c i k)
   stepped i k r = subst (λ at. Stepped i k at (on_from at i k)) (zero-add k) (steps_on i k r)
 
   -- without a true child it has come to its leaf

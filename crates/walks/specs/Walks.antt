@@ -1,5 +1,5 @@
 -- A row's walk through a good tree that lies in the columns: where it is after some steps, and where it stops. Assumes nothing.
-use Prim.Native.Nat.{ℕ, zero, suc, ◌+◌, ◌*◌, ◌<◌, ◌≤◌}
+use Prim.Native.Nat.{ℕ, zero, suc, ◌+◌, ◌-◌, ◌*◌, ◌<◌, ◌≤◌}
 use native.Mathlib.Omega.{arith}
 use Rattle.std.specs.Prelude.{◌≡◌, refl, Bool, true, false, ◌&&◌, List, length, get_or, T, leb, ltb, Float}
 use Rattle.std.proofs.Math.Path.{sym, ap, subst}
@@ -12,12 +12,12 @@ use Rattle.std.specs.Float.Ieee.Fits.{and_l, and_r}
 use borrow.Author.Tests.{ne_eqb}
 use Rattle.rules.specs.declared.Shape.{Shape}
 use Rattle.rules.specs.Checks.{within, rows_in, features_in, shape_in}
-use Rattle.rules.specs.Lent.{Columns, Entry, values_at, entry_at, entries_at}
+use Rattle.rules.specs.Lent.{Columns, Entry, cell, values_at, entry_at, entries_at}
 use Rattle.rules.specs.Table.{is_leaf, good_from, good_tree}
 use Rattle.rules.specs.Reading.{no_entry, onto, walked, leaf_value}
 use Rattle.lemmas.specs.Lists.{get_d-from}
 use Rattle.lemmas.specs.Tables.{Onward, node-good, leaf-stays}
-use Rattle.lemmas.specs.Cells.{stretch-within}
+use Rattle.lemmas.specs.Cells.{cell_lies, stretch-within}
 use Rattle.tables.specs.Table.{TreeLies}
 use Rattle.lemmas.specs.Laid.{entries-long}
 
@@ -37,11 +37,6 @@ pub record Readable (rows features a n : ℕ) (xs : List Float) (c : Columns) (o
 pub walkable : (rows features a n : ℕ) (xs : List Float) (c : Columns) (out : List Float) → Readable rows features a n xs c out → (i : ℕ) → i < rows → Walkable features a n i xs c
 walkable rows features a n xs c out r i h =
     record { tree = r.tree; row = subst (λ m. i * features + features ≤ m) (sym r.long) (stretch-within i rows features h) }
-
--- after some of them are written
-pub still-readable : (rows features a n : ℕ) (xs : List Float) (c : Columns) (out new : List Float) → Readable rows features a n xs c out → length new ≡ length out
-    → Readable rows features a n xs c new
-still-readable rows features a n xs c out new r e = record { tree = r.tree; some = r.some; few = r.few; long = r.long; room = e ∙ r.room }
 
 pub features-some : (S : Shape) → shape_in S ≡ true → 0 < S.features
 unfolding within
@@ -152,3 +147,27 @@ module _ (features a n : ℕ) (c : Columns) (good : good_tree features (entries_
 
     pub walk-goes : (k : ℕ) → Reached n es xs k → ((node k).true_child ≡ 0 → ⊥) → Reached n es xs (sent k)
     walk-goes k r z = takes_step k r.inside z r.steps r.enough r.same
+
+-- ---- a step, by the value where it lies among those of all rows
+
+module _ (features a n : ℕ) (c : Columns) (good : good_tree features (entries_at c a n) ≡ true) (xs : List Float) (i k : ℕ) where
+  abbrev onto_by : ℕ
+  onto_by =
+      cond (le (get_or xs (i * features + get_or c.feature (a + k) 0) nan) (get_or c.threshold (a + k) nan)) (get_or c.true_child (a + k) 0) (suc (get_or c.true_child (a + k) 0))
+
+  pub row-goes : Reached n (entries_at c a n) (values_at features xs i) k → (get_or c.true_child (a + k) 0 ≡ 0 → ⊥) → (m : ℕ) → m ≡ onto_by
+      → (n - m < n - k) × Reached n (entries_at c a n) (values_at features xs i) m
+  unfolding cell
+  row-goes r z m e =
+      (less k m _ n same up.0 up.1, subst (Reached n (entries_at c a n) (values_at features xs i)) (sym same) (walk-goes features a n c good (values_at features xs i) k r z))
+    where
+      same : m ≡ sent features a n c good (values_at features xs i) k
+      same =
+          e ∙ ap (λ x. cond (le x (get_or c.threshold (a + k) nan)) (get_or c.true_child (a + k) 0) (suc (get_or c.true_child (a + k) 0)))
+          (sym (cell_lies features xs i (get_or c.feature (a + k) 0) (onward features a n c good k r.inside z).known))
+
+      up : (k < sent features a n c good (values_at features xs i) k) × (sent features a n c good (values_at features xs i) k < n)
+      up = sent-up features a n c good (values_at features xs i) k r.inside z
+
+      less : (k j m n : ℕ) → j ≡ m → k < m → m < n → n - j < n - k
+      less k j m n e h g = omega arith

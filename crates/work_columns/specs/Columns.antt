@@ -28,10 +28,12 @@ pub record Counted (rows : ℕ) (weights : List Float) (counts : List ℕ) : Typ
   pub counted : length counts ≡ rows
   pub weighed : 0 < length weights → length weights ≡ rows
 
+-- what the root's totals ask
 pub record RootAsks (rows : ℕ) (targets weights : List Float) (counts : List ℕ) : Type 0 where
   pub tables : Counted rows weights counts
   pub targeted : length targets ≡ rows
 
+-- what the root's count asks
 pub record CountAsks (rows : ℕ) (weights : List Float) (counts : List ℕ) : Type 0 where
   pub tables : Counted rows weights counts
   pub few : rows ≤ 65535
@@ -43,6 +45,7 @@ pub record KeptTo (p : ℕ → Bool) (listing column : List ℕ) (r : ℕ) : Typ
   pub count : r ≡ length (keep p listing)
   pub written : take r column ≡ keep p listing
 
+-- what the kept rows of a listing ask
 pub record KeepAsks (listing : List ℕ) (weights : List Float) (counts : List ℕ) (column : ℕ) : Type 0 where
   pub tables : Counted (length counts) weights counts
   pub below : Every (λ i. i < length counts) listing
@@ -54,6 +57,7 @@ pub record KeptAll (p : ℕ → Bool) (rows features : ℕ) (listings order : Li
   pub count : r ≡ length (keep p (from 0 rows))
   pub written : (j : ℕ) → j < features → part rows j 0 r order ≡ keep p (listing_at rows listings j)
 
+-- what those of every listing ask
 pub record KeepAllAsks (rows features : ℕ) (listings : List ℕ) (weights : List Float) (counts : List ℕ) (order : ℕ) : Type 0 where
   pub tables : Counted rows weights counts
   pub some : 0 < features

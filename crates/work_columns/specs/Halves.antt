@@ -4,19 +4,19 @@ use Rattle.std.proofs.Math.Decide.{ℕ_discrete}
 use Rattle.std.proofs.Common.{arith, sym, ap, ◌∙◌, inl, inr, length-set, get_or-set_same, get_or-set_other, take_at, drop_at, take_all}
 use Rattle.std.proofs.Math.Path.{refl, subst}
 use Rattle.std.proofs.Math.Bool.{false}
-use mathlib.Core.List.{List, [], ◌∷◌, ◌++◌, map}
+use mathlib.Core.List.{List, [], ◌∷◌, ◌++◌}
 use Rattle.std.proofs.Math.ListN.{length}
 use Rattle.rules.specs.declared.Cut.{Cut}
 use Rattle.rules.specs.Words.{keep, put_if, total, stretch}
-use Rattle.rules.specs.Search.{Element, tally}
+use Rattle.rules.specs.Search.{Element}
 use Rattle.rules.specs.Fit.{element_in}
 use Rattle.lemmas.specs.Lists.{Every, every-imp, every_append, every-keep, total-keep, length-total}
 use Rattle.lemmas.specs.Work.{part}
 use Rattle.work_columns.specs.declared.Sides.{Sides}
 use Rattle.sweeps.specs.Swept.{flagged, fails, parted}
 use Rattle.sweeps.specs.Fronts.{keep-both, parted-long}
-use Rattle.work_columns.specs.Columns.{changed, in_columns, parted_columns, Cleft, ColumnsAsk}
-use Rattle.work_columns.specs.Split.{Alike, goes, sides_of, marked, PassAsks, PassDone, SplitAsks, SplitDone}
+use Rattle.work_columns.specs.Columns.{changed, in_columns, parted_columns, ColumnsAsk}
+use Rattle.work_columns.specs.Split.{Alike, goes, sides_of, marked, PassDone, SplitAsks, SplitDone}
 use Rattle.work_columns.specs.Stretches.{column-end, Keeps, part_in, part_join, part-long, part-every, in-long, in-later, in-beside, in-here}
 
 -- ---- the same rows in another order
@@ -133,31 +133,19 @@ in-same rows a e g g' order (suc n) o h l y s =
 parted-keeps : (p : ℕ → Bool) (n m : ℕ) → Keeps (λ k. parted p) n m
 parted-keeps p n m k h l e = parted-long p l ∙ e
 
--- ---- the pass in code, along the split column lent from low to high
+-- ---- the pass in code, along the split column
 
 module _ (rows features a e : ℕ) (values targets weights : List Float) (counts : List ℕ) (c : Cut) (order : List ℕ) (n flags : ℕ)
-    (q : SplitAsks rows features a e values targets weights counts c order n flags) (j : ℕ) (is : j ≡ c.feature) where
+    (q : SplitAsks rows features a e values targets weights counts c order n flags) where
+  -- as it is lent: from its first row's place to its last one's
   abbrev lent : List ℕ
-  lent = stretch (j * rows + a) (j * rows + e - (j * rows + a)) order
+  lent = stretch (c.feature * rows + a) (c.feature * rows + e - (c.feature * rows + a)) order
 
   lent_is : lent ≡ part rows c.feature a e order
-  lent_is = ap (λ w. stretch (j * rows + a) w order) width ∙ ap (λ k. part rows k a e order) is
+  lent_is = ap (λ w. stretch (c.feature * rows + a) w order) width
     where
-      width : j * rows + e - (j * rows + a) ≡ e - a
+      width : c.feature * rows + e - (c.feature * rows + a) ≡ e - a
       width = omega arith
-
-  pub lent-ends : j * rows + rows ≤ length order
-  lent-ends = omega (arith, column-end rows features j (subst (λ k. k < features) (sym is) q.known), q.long)
-
-  pub pass-asks : PassAsks rows features values targets weights counts c lent n flags
-  pass-asks =
-      record {
-        shaped = q.shaped;
-        below = subst (Every (λ r. r < rows)) (sym lent_is) (q.below c.feature q.known);
-        count = subst (λ l. tally (map (element_in features values targets weights counts) l) < 4294967296) (sym lent_is) q.count;
-        room = q.flag_room;
-        cleft = subst (λ l. Cleft (goes (element_in features values targets weights counts) c) l n) (sym lent_is) q.cleft;
-      }
 
   pub split_done : (f f' : List Bool) (s : Sides) → length f ≡ flags → PassDone (element_in features values targets weights counts) c lent f f' s
       → SplitDone rows a e (element_in features values targets weights counts) c order f' s
@@ -187,6 +175,7 @@ columns-ask rows features a e values targets weights counts c order n scratch fl
 module _ (rows features a e : ℕ) (values targets weights : List Float) (counts : List ℕ) (c : Cut) (before after : List ℕ) (flags : List Bool) (s : Sides) (n : ℕ)
     (q : SplitAsks rows features a e values targets weights counts c before n (length flags))
     (d : SplitDone rows a e (element_in features values targets weights counts) c before flags s) (w : after ≡ parted_columns rows a e (flagged flags) features before) where
+  -- the rows
   abbrev el : ℕ → Element
   el = element_in features values targets weights counts
 

@@ -4,6 +4,8 @@
 pub mod Columns
 -- what the split pass promises
 pub mod Split
+-- what a fit is given, row by row, and what is asked of it
+pub mod Rows
 -- parts of parts, and the same places of every column changed
 pub mod Stretches
 -- root totals, counts and the kept rows of a listing, by their loops

@@ -1,10 +1,10 @@
 -- The split pass: each side row by row, and both together. Assumes nothing.
-use Rattle.std.specs.Prelude.{ℕ, ◌+◌, ◌-◌, ◌<◌, ◌≤◌, ◌≡◌, ◌⊎◌, Bool, true, false, not, length, get_or, set, take, drop, Float}
+use Rattle.std.specs.Prelude.{ℕ, ◌+◌, ◌<◌, ◌≤◌, ◌≡◌, ◌⊎◌, Bool, true, false, not, length, get_or, set, take, drop, Float}
 use Rattle.std.proofs.Math.Nat.{zero-add}
 use Rattle.std.proofs.Common.{add-one, arith, sym, ◌∙◌, subst, inl, inr, take-append-drop, drop-cons}
 use Rattle.std.proofs.Math.Path.{refl, ap}
 use mathlib.Core.List.{List, [], ◌∷◌, ◌++◌, map, map-append}
-use Rattle.std.proofs.Math.ListN.{drop_of_length-le, length-set}
+use Rattle.std.proofs.Math.ListN.{drop_of_length-le}
 use Rattle.rules.specs.declared.Totals.{Totals}
 use Rattle.rules.specs.declared.Cut.{Cut}
 use Rattle.rules.specs.Words.{keep, total}
@@ -18,14 +18,15 @@ use Rattle.work_columns.specs.declared.Gathered.{Gathered}
 use Rattle.sweeps.specs.Swept.{fails}
 use Rattle.work_columns.specs.Columns.{bare, Cleft}
 use Rattle.work_columns.specs.Split.{goes, marked, GatherAsks, GatherDone, PassAsks, PassDone}
+use Rattle.work_columns.specs.Setup.{totals-bare}
 use Rattle.work_columns.specs.Cleft.{front-keeps, rest-keeps, cleft-count}
 
 -- ---- one side, row by row
 
 module _ (el : ℕ → Element) (t : Bool) (start : Totals) (l : List ℕ) (before : List Bool) where
+  -- after i rows: what side, whole and flags become with the rest is what they become of all
   pub record Gathering (s : Side) (a : Totals) (flags : List Bool) (i : ℕ) : Type 0 where
     pub within : i ≤ length l
-    pub long : length flags ≡ length before
     pub room : s.count + tally (map el (drop i l)) ≡ tally (map el l)
     pub side : totals_of s.totals (map el (drop i l)) ≡ totals_of empty (map el l)
     pub all : totals_of a (map el (drop i l)) ≡ totals_of start (map el l)
@@ -36,7 +37,6 @@ module _ (el : ℕ → Element) (t : Bool) (start : Totals) (l : List ℕ) (befo
   gather-start e =
       record {
         within = omega arith;
-        long = refl;
         room = ap (λ (z : Side). z.count + tally (map el l)) e ∙ zero-add (tally (map el l));
         side = ap (λ (z : Side). totals_of z.totals (map el l)) e;
         all = refl;
@@ -60,7 +60,6 @@ module _ (el : ℕ → Element) (t : Bool) (start : Totals) (l : List ℕ) (befo
     gather-turn {r} {k} {y} {m} {s'} {a'} er ey em ek es ea =
         record {
           within = omega arith;
-          long = length-set flags r t ∙ q.long;
           room = omega (arith, q.room, ahead-count, ek, ap (λ (z : Side). z.count) es);
           side = ap (λ (z : Side). totals_of z.totals (map el (drop (i + 1) l))) es ∙ (λ z. totals_of (take_in s.totals (ey z) (em z)) (map el (drop (i + 1) l)))
               ∙ ap (λ z. totals_of s.totals (map el z)) (sym ahead) ∙ q.side;
@@ -98,22 +97,18 @@ totals-append t [] l = refl
 totals-append t (e ∷ k) l = totals-append (take_in t e.target e.mass) k l
 
 module _ (features : ℕ) (values targets weights : List Float) (counts : List ℕ) where
+  -- the rows with their values
   abbrev whole : ℕ → Element
   whole = element_in features values targets weights counts
 
-  -- totals and counts see nothing of a row's values
-  bare-totals : (t : Totals) (l : List ℕ) → totals_of t (map (bare targets weights counts) l) ≡ totals_of t (map whole l)
-  unfolding totals_of element_in
-  bare-totals t [] = refl
-  bare-totals t (r ∷ l) = bare-totals (take_in t (whole r).target (whole r).mass) l
-
+  -- counts see nothing of a row's values
   pub bare-tally : (l : List ℕ) → tally (map (bare targets weights counts) l) ≡ tally (map whole l)
   unfolding total element_in
   bare-tally [] = refl
   bare-tally (r ∷ l) = ap (λ n. (whole r).count + n) (bare-tally l)
 
   bare-side : (l : List ℕ) → side_on (map (bare targets weights counts) l) ≡ side_on (map whole l)
-  bare-side l = λ i. record { totals = bare-totals empty l i; count = bare-tally l i }
+  bare-side l = λ i. record { totals = sym (totals-bare features values targets weights counts empty l) i; count = bare-tally l i }
 
   module _ (c : Cut) (l : List ℕ) (n : ℕ) (w : Cleft (goes whole c) l n) where
     pub pass-done : (before between after : List Bool) (y f : Gathered) {k₁ k₂ : List ℕ} {t : Totals} → k₁ ≡ take n l → k₂ ≡ drop n l → t ≡ empty
@@ -142,30 +137,22 @@ module _ (features : ℕ) (values targets weights : List Float) (counts : List �
             ∙ (λ i. totals_of (totals_of (et i) (map (bare targets weights counts) (e₁ i))) (map (bare targets weights counts) (drop n l)))
             ∙ sym (totals-append empty (map (bare targets weights counts) (take n l)) (map (bare targets weights counts) (drop n l)))
             ∙ ap (totals_of empty) (sym (map-append (bare targets weights counts) (take n l) (drop n l)) ∙ ap (map (bare targets weights counts)) (take-append-drop n l))
-            ∙ bare-totals empty l
+            ∙ sym (totals-bare features values targets weights counts empty l)
 
 -- ---- a column lent in two
 
--- at n, which the code widened to k
-pub lent-front : (l : List ℕ) (n : ℕ) {k : ℕ} → k ≡ n → take (k - 0) l ≡ take n l
-lent-front l n {k} q = ap (λ m. take m l) (let e : k - 0 ≡ n = omega (arith, q) in e)
-
+-- what the whole asks, each part asks
 pub part-asks : {rows features : ℕ} {values targets weights : List Float} {counts : List ℕ} {c : Cut} {l : List ℕ} {n flags : ℕ}
     → PassAsks rows features values targets weights counts c l n flags
-    → {k : List ℕ} → (k ≡ take n l) ⊎ (k ≡ drop n l) → GatherAsks rows targets weights counts k flags
+    → {k : List ℕ} → (k ≡ take n l) ⊎ (k ≡ drop n l) → GatherAsks targets weights counts k flags
 part-asks {rows} {features} {values} {targets} {weights} {counts} {c} {l} {n} {flags} q {k} h =
+    let all = q.shaped.tables.counted in
     record {
-      tables = q.shaped.tables;
-      targeted = q.shaped.targeted;
+      tables = record { counted = refl; weighed = λ w. q.shaped.tables.weighed w ∙ sym all };
+      targeted = q.shaped.targeted ∙ sym all;
       below = rows_of k h;
-      count = omega (
-        arith,
-        q.count,
-        less k h,
-        bare-tally features
-            values targets weights counts l,
-      );
-      room = q.room;
+      count = omega (arith, q.count, less k h, bare-tally features values targets weights counts l);
+      room = omega (arith, all, q.room);
     }
   where
     tallied : List ℕ → ℕ
@@ -180,6 +167,9 @@ part-asks {rows} {features} {values} {targets} {weights} {counts} {c} {l} {n} {f
     less k (inl e) = omega (arith, both, ap tallied e)
     less k (inr e) = omega (arith, both, ap tallied e)
 
-    rows_of : (k : List ℕ) → (k ≡ take n l) ⊎ (k ≡ drop n l) → Every (λ r. r < rows) k
-    rows_of k (inl e) = subst (Every (λ r. r < rows)) (sym e) (every_take _ n l q.below)
-    rows_of k (inr e) = subst (Every (λ r. r < rows)) (sym e) (every_drop _ n l q.below)
+    below : Every (λ r. r < length counts) l
+    below = subst (λ m. Every (λ r. r < m) l) (sym q.shaped.tables.counted) q.below
+
+    rows_of : (k : List ℕ) → (k ≡ take n l) ⊎ (k ≡ drop n l) → Every (λ r. r < length counts) k
+    rows_of k (inl e) = subst (Every (λ r. r < length counts)) (sym e) (every_take _ n l below)
+    rows_of k (inr e) = subst (Every (λ r. r < length counts)) (sym e) (every_drop _ n l below)

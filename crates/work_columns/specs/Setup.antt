@@ -1,6 +1,6 @@
 -- Root totals and counts, and the kept rows of a listing, by the loops that make them. Assumes nothing.
 use Rattle.std.specs.Prelude.{ℕ, suc, ◌+◌, ◌-◌, ◌*◌, ◌<◌, ◌≤◌, ◌≡◌, refl, Bool, List, [], ◌∷◌, map, length, T, leb, Float}
-use Rattle.std.proofs.Common.{zero-add, add-zero, add_comm, zero-mul, suc-mul, add-one, arith, ◌∙◌, subst, leb→le}
+use Rattle.std.proofs.Common.{add-zero, add_comm, zero-mul, suc-mul, add-one, arith, ◌∙◌, subst, leb→le}
 use Rattle.std.proofs.Math.Path.{sym, ap}
 use Rattle.std.proofs.Math.Bool.{true, false}
 use Rattle.rules.specs.declared.Totals.{Totals}
@@ -10,12 +10,7 @@ use Rattle.rules.specs.Totals.{empty, take_in}
 use Rattle.rules.specs.Search.{Element, totals_of}
 use Rattle.rules.specs.Fit.{element_in}
 use Rattle.lemmas.specs.Lists.{Every, every-all, every-or, total-le, keep-short, length_from}
-use Rattle.criterion.specs.Bounds.{Weighed}
 use Rattle.work_columns.specs.Columns.{bare, Counted}
-
--- what a row's mass asks
-pub weighed-row : (rows : ℕ) (weights : List Float) (counts : List ℕ) (i : ℕ) → Counted rows weights counts → i < rows → Weighed i weights counts
-weighed-row rows weights counts i t h = record { counted = omega (arith, t.counted); weighed = λ w. omega (arith, t.weighed w) }
 
 -- a passed check says it so
 pub counted-passed : (rows : ℕ) (weights : List Float) (counts : List ℕ) → length counts ≡ rows → (unweighted weights ≡ false → length weights ≡ rows) → Counted rows weights counts
@@ -43,12 +38,6 @@ from_end i n h = ap (from i) (none i n h)
     none : (i n : ℕ) → n ≤ i → n - i ≡ 0
     none i n h = omega arith
 
-pub from_all : (n : ℕ) → from 0 (n - 0) ≡ from 0 n
-from_all n = ap (from 0) (same n)
-  where
-    same : (n : ℕ) → n - 0 ≡ n
-    same n = omega arith
-
 pub kept-few : (p : ℕ → Bool) (rows : ℕ) → length (keep p (from 0 rows)) ≤ rows
 kept-few p rows = omega (arith, keep-short p (from 0 rows), length_from 0 rows)
 
@@ -67,9 +56,6 @@ pub record Adding (el : ℕ → Element) (n : ℕ) (t : Totals) (i : ℕ) : Type
   pub so : totals_of t (map el (from i (n - i))) ≡ totals_of empty (map el (from 0 n))
 
 module _ (el : ℕ → Element) (n : ℕ) where
-  pub adding-start : {t : Totals} → t ≡ empty → Adding el n t 0
-  adding-start {t} e = record { within = omega arith; so = ap (λ l. totals_of t (map el l)) (from_all n) ∙ ap (λ s. totals_of s (map el (from 0 n))) e }
-
   pub adding-turn : (t u : Totals) (i : ℕ) → Adding el n t i → i < n → u ≡ take_in t (el i).target (el i).mass → Adding el n u (i + 1)
   unfolding totals_of
   adding-turn t u i s h e =
@@ -84,14 +70,12 @@ module _ (el : ℕ → Element) (n : ℕ) where
 
 -- ---- the kept counts' sum
 
+-- k and the kept rows from i on make the sum of all
 pub record Counting (f : ℕ → ℕ) (p : ℕ → Bool) (n k i : ℕ) : Type 0 where
   pub within : i ≤ n
   pub so : k + total f (keep p (from i (n - i))) ≡ total f (keep p (from 0 n))
 
 module _ (f : ℕ → ℕ) (p : ℕ → Bool) (n : ℕ) where
-  pub counting-start : Counting f p n 0 0
-  counting-start = record { within = omega arith; so = zero-add _ ∙ ap (λ l. total f (keep p l)) (from_all n) }
-
   module _ (k i : ℕ) (s : Counting f p n k i) (h : i < n) where
     rest : ℕ
     rest = total f (keep p (from (i + 1) (n - (i + 1))))

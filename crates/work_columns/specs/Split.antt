@@ -26,6 +26,7 @@ pub record Shaped (rows features : ℕ) (values targets weights : List Float) (c
 abbrev pub goes : (ℕ → Element) → Cut → ℕ → Bool
 goes el c r = goes_true c (el r)
 
+-- both sides of a stretch, its totals, and how many rows go to the true side
 abbrev pub sides_of : (ℕ → Element) → Cut → List ℕ → Sides
 sides_of el c l =
     record { trueside = side_on (true_side c (map el l)); falseside = side_on (false_side c (map el l)); all = totals_of empty (map el l); rows = length (keep (goes el c) l) }
@@ -35,18 +36,21 @@ unfoldable pub marked : (ℕ → Bool) → List Bool → List ℕ → List Bool
 marked p flags [] = flags
 marked p flags (r ∷ l) = marked p (set flags r (p r)) l
 
-pub record GatherAsks (rows : ℕ) (targets weights : List Float) (counts col : List ℕ) (flags : ℕ) : Type 0 where
-  pub tables : Counted rows weights counts
-  pub targeted : length targets ≡ rows
-  pub below : Every (λ r. r < rows) col
+-- what the pass over one side asks
+pub record GatherAsks (targets weights : List Float) (counts col : List ℕ) (flags : ℕ) : Type 0 where
+  pub tables : Counted (length counts) weights counts
+  pub targeted : length targets ≡ length counts
+  pub below : Every (λ r. r < length counts) col
   pub count : tally (map (bare targets weights counts) col) < 4294967296
-  pub room : rows ≤ flags
+  pub room : length counts ≤ flags
 
+-- and what it leaves: the side, the whole with it, and each row's flag
 pub record GatherDone (el : ℕ → Element) (t : Bool) (start : Totals) (col : List ℕ) (before after : List Bool) (r : Gathered) : Type 0 where
   pub side : r.side ≡ side_on (map el col)
   pub all : r.all ≡ totals_of start (map el col)
   pub flags : after ≡ marked (λ k. t) before col
 
+-- what the pass over a stretch asks
 pub record PassAsks (rows features : ℕ) (values targets weights : List Float) (counts : List ℕ) (c : Cut) (col : List ℕ) (n flags : ℕ) : Type 0 where
   pub shaped : Shaped rows features values targets weights counts
   pub below : Every (λ r. r < rows) col
@@ -54,6 +58,7 @@ pub record PassAsks (rows features : ℕ) (values targets weights : List Float) 
   pub room : rows ≤ flags
   pub cleft : Cleft (goes (element_in features values targets weights counts) c) col n
 
+-- and what it leaves
 pub record PassDone (el : ℕ → Element) (c : Cut) (col : List ℕ) (before after : List Bool) (s : Sides) : Type 0 where
   pub within : s.rows ≤ length col
   pub sides : s ≡ sides_of el c col
@@ -65,6 +70,7 @@ pub record PassDone (el : ℕ → Element) (c : Cut) (col : List ℕ) (before af
 abbrev pub Alike : List ℕ → List ℕ → Type 0
 Alike l m = (g : ℕ → ℕ) → total g l ≡ total g m
 
+-- what the pass of a node asks, whose rows lie from a to e of every column
 pub record SplitAsks (rows features a e : ℕ) (values targets weights : List Float) (counts : List ℕ) (c : Cut) (order : List ℕ) (n flags : ℕ) : Type 0 where
   pub shaped : Shaped rows features values targets weights counts
   pub known : c.feature < features

@@ -1,6 +1,7 @@
 -- Stretches of the work columns: parts of parts, and what a change of the same places of every column leaves. Assumes nothing.
 use Prim.Native.Nat.{ℕ, zero, suc, ◌+◌, ◌-◌, ◌*◌, ◌<◌, ◌≤◌}
-use Rattle.std.proofs.Common.{mul-le-mul_right, suc-mul, not-suc-le-zero, le_trans, lt_of_lt_of_le, add-one, ◌∙◌, subst, inl, inr, take-append-drop, length-take, length-drop, take-take, take-add, length-take-le}
+use Rattle.std.proofs.Common.{mul-le-mul_right, suc-mul, not-suc-le-zero, le_trans, lt_of_lt_of_le, add-one, ◌∙◌, subst}
+use Rattle.std.proofs.Common.{inl, inr, take-append-drop, length-take, length-drop, take-take, take-add, length-take-le}
 use Rattle.std.proofs.Math.Decide.{ℕ_discrete, dec_lt}
 use native.Mathlib.Omega.{arith}
 use Rattle.std.specs.Prelude.{◌≡◌, ◌⊎◌, ◌≢◌, take}
@@ -196,6 +197,7 @@ module _ (rows a e : ℕ) (g : ℕ → List ℕ → List ℕ) (order : List ℕ)
 
 -- ---- a loop over the columns: the first k are changed
 
+-- after k columns
 pub record Going (rows a e : ℕ) (g : ℕ → List ℕ → List ℕ) (n : ℕ) (order₀ order : List ℕ) (k : ℕ) : Type 0 where
   pub within : k ≤ n
   pub so : order ≡ in_columns rows a e g k order₀

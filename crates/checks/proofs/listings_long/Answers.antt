@@ -3,6 +3,5 @@ use Rattle.std.proofs.Common.{arith}
 use Rattle.lemmas.specs.Tests.{entries-low}
 use Rattle.checks.proofs.listings_long.Goals as goal
 
-pub overflow_mul-cells : goal.overflow_mul-cells
-overflow_mul-cells c =
-    omega (arith, entries-low c.args.shape c.requires)
+pub overflow_mul-result : goal.overflow_mul-result
+overflow_mul-result c = omega (arith, entries-low c.args.shape c.requires)

@@ -1,23 +1,15 @@
--- `errors::rows_with_mean` meets its contract: the rows counted so far, with those from i on, are all. Assumes nothing.
-use Rattle.std.proofs.Common.{arith, sym, ◌∙◌, true, false}
-use Rattle.errors.specs.Errors.{means-next, means-end}
+-- `errors::rows_with_mean` meets its contract: it counts what the test lets through. Assumes nothing.
+use Rattle.std.proofs.Common.{rules, ap, ◌∙◌, not, length, is_nan}
+use borrow.Author.Tests.{tests}
+use Rattle.std.proofs.lemmas.Iterator.{YieldsList-from_slice}
+use Rattle.std.proofs.lemmas.Iterator.Consumers.{YieldsList-from_filter, count_from_yields_List}
+use Rattle.rules.specs.OutOfBag.{rows_with_mean}
+use Rattle.slices.specs.Iter.{keep-filter}
 use Rattle.errors.proofs.rows_with_mean.Goals as goal
-use Rattle.errors.proofs.rows_with_mean.Goals.{then-is_mean, else-is_mean}
 
-pub loop-i-init : goal.loop-i-init
-loop-i-init c = (omega arith, omega arith)
-
-pub loop-i-preserved : goal.loop-i-preserved
-loop-i-preserved c =
-    let ms = c.args.means.now in
-    let l = c.loop-i in
-    let more = c.loop-i-test.true in
-    let tells = sym c.is_mean.ensures in
-    elim c.if-is_mean.branch [
-      | then-is_mean w ↦ (means-next ms l.n l.i c.if-is_mean.n true more l.invariant.0 (tells ∙ w.if-is_mean.true) w.n-is, omega (arith, w.n-is, l.invariant.1))
-      | else-is_mean w ↦ (means-next ms l.n l.i c.if-is_mean.n false more l.invariant.0 (tells ∙ w.if-is_mean.false) w.n-is, omega (arith, w.n-is, l.invariant.1))
-    ]
-
-pub returns : goal.returns
-returns c =
-    means-end c.args.means.now c.loop-i.n c.loop-i.i c.loop-i-test.false c.loop-i.invariant.0
+pub returns-clause-exact : goal.returns-clause-exact
+unfolding rows_with_mean
+returns-clause-exact c =
+    count_from_yields_List c.filter.result _ c.count.ensures.ran
+    (YieldsList-from_filter _ (λ m. not (is_nan m)) (YieldsList-from_slice c.args.means.now cc) c.filter.ensures.closure (λ x b q k. search (rules, tests)))
+    ∙ ap length (keep-filter (λ m. not (is_nan m)) c.args.means.now)

@@ -1,30 +1,39 @@
 -- `fields::header_in` meets its contract: the mark, the version, then both sizes. Assumes nothing.
-use Rattle.std.proofs.Common.{ℕ, ◌≡◌, sym, ap, ◌∙◌, eqb}
+use Rattle.std.proofs.Common.{arith, refl, ◌∙◌}
 use Rattle.rules.specs.Bytes.{number_in}
-use Rattle.rules.specs.Model.{mark, header_in}
-use Rattle.lemmas.specs.Fields.{goes_on}
-use Rattle.fields.specs.Fields.{ranged, sizes_at, header_field, ranged-one, is-misread, is_said, stops_at}
+use Rattle.rules.specs.Model.{header_in}
+use Rattle.lemmas.specs.Tests.{within-top}
+use Rattle.fields.specs.Fields.{passed-so, left_by, stops, goes}
 use Rattle.fields.proofs.header_in.Goals as goal
 
-is-mark : (x : ℕ) → ranged 0x46_4752 0x46_4753 x ≡ eqb (number_in mark) x
-unfolding number_in
-is-mark x = ranged-one 0x46_4752 x
+pub returns-in_err-_mark : goal.returns-in_err-_mark
+unfolding header_in number_in
+returns-in_err-_mark c = left_by _ c.from_residual.ensures.1 ∙ stops _ _ _ c.in_err-_mark.ensures
 
-pub returns-in-Misread : goal.returns-in-Misread
-unfolding header_in
-returns-in-Misread c = sym (ap header_field (stops_at _ (is-misread _ _ (sym (c.number_in-f.ensures (eqb (number_in mark)) is-mark) ∙ c.in-Misread.is))))
+pub returns-in_err-_version : goal.returns-in_err-_version
+unfolding header_in number_in
+returns-in_err-_version c =
+    left_by _ c.from_residual-in_err-_version.ensures.1 ∙ goes _ _ _ c.in_ok-_mark.ensures (stops _ _ _ c.in_err-_version.ensures)
 
-pub returns-in-Misread-g : goal.returns-in-Misread-g
-unfolding header_in
-returns-in-Misread-g c =
-    sym
-    (ap header_field
-    (goes_on _ (is_said _ _ _ (sym (c.number_in-f.ensures (eqb (number_in mark)) is-mark) ∙ c.in-Says.is))
-    ∙ stops_at _ (is-misread _ _ (sym (c.number_in-g.ensures (eqb 1) (ranged-one 1)) ∙ c.in-Misread-g.is))))
+pub returns-in_err-features : goal.returns-in_err-features
+unfolding header_in number_in
+returns-in_err-features c =
+    left_by _ c.from_residual-in_err-features.ensures.1
+    ∙ goes _ _ _ c.in_ok-_mark.ensures (goes _ _ _ c.in_ok-_version.ensures (stops _ _ _ c.in_err-features.ensures))
 
-pub returns-in-Says-g : goal.returns-in-Says-g
-unfolding header_in sizes_at
-returns-in-Says-g c =
-    c.sizes_in.ensures
-    ∙ sym (ap header_field (goes_on _ (is_said _ _ _ (sym (c.number_in-f.ensures (eqb (number_in mark)) is-mark) ∙ c.in-Says.is)) ∙ goes_on _
-    (is_said _ _ _ (sym (c.number_in-g.ensures (eqb 1) (ranged-one 1)) ∙ c.in-Says-g.is))))
+pub returns-in_err-trees : goal.returns-in_err-trees
+unfolding header_in number_in
+returns-in_err-trees c =
+    left_by _ c.from_residual-in_err-trees.ensures.1
+    ∙ goes _ _ _ c.in_ok-_mark.ensures (goes _ _ _ c.in_ok-_version.ensures (goes _ _ _ c.in_ok-features.ensures (stops _ _ _ c.in_err-trees.ensures)))
+
+pub overflow_cast-header : goal.overflow_cast-header
+overflow_cast-header c = omega (arith, within-top 1024 _ (passed-so _ _ _ _ _ c.in_ok-features.ensures))
+
+pub overflow_cast-header-2 : goal.overflow_cast-header-2
+overflow_cast-header-2 c = omega (arith, within-top 1024 _ (passed-so _ _ _ _ _ c.in_ok-trees.ensures))
+
+pub returns : goal.returns
+unfolding header_in number_in
+returns c =
+    goes _ _ _ c.in_ok-_mark.ensures (goes _ _ _ c.in_ok-_version.ensures (goes _ _ _ c.in_ok-features.ensures (goes _ _ _ c.in_ok-trees.ensures refl)))

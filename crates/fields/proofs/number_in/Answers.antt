@@ -1,23 +1,13 @@
--- `fields::number_in` meets its contract: the bytes are taken, then the number is held against both bounds. Assumes nothing.
-use Rattle.std.proofs.Common.{sym, ◌∙◌}
-use Rattle.fields.specs.Fields.{ranged-low, ranged-high, ranged-in, misread-so, said-so, failed-so}
+-- `fields::number_in` meets its contract: the bytes are taken, then the number is tested. Assumes nothing.
+use Rattle.std.proofs.Common.{sym, ◌∙◌, arith}
+use Rattle.fields.specs.Fields.{left_by, misread-so, said-so, failed-so}
 use Rattle.fields.proofs.number_in.Goals as goal
 
-pub returns-then-x-low : goal.returns-then-x-low
-returns-then-x-low c =
-    λ passes same. c.wrong.ensures
-    ∙ failed-so _ _ _ passes _ _ _ (sym c.take-f.ensures ∙ c.in-Says.is) (sym (same _) ∙ ranged-low _ _ _ c.if-x-low.true)
+pub returns-in_err-x : goal.returns-in_err-x
+returns-in_err-x g c = left_by _ c.from_residual.ensures.1 ∙ misread-so _ _ _ _ _ c.in_err-x.ensures
 
-pub returns-then-high-x : goal.returns-then-high-x
-returns-then-high-x c =
-    λ passes same. c.wrong-then-high-x.ensures
-    ∙ failed-so _ _ _ passes _ _ _ (sym c.take-f.ensures ∙ c.in-Says.is)
-    (sym (same _) ∙ ranged-high _ _ _ c.if-high-x.true)
+pub returns-then-good : goal.returns-then-good
+returns-then-good g c = said-so _ _ _ _ _ c.in_ok-x.ensures (sym (c.requires.1.1.1.met _ _ (omega arith) c.good.ensures) ∙ c.if-good.true)
 
-pub returns-in-Misread : goal.returns-in-Misread
-returns-in-Misread c = λ passes same. misread-so _ _ _ passes _ _ (sym c.take-f.ensures ∙ c.in-Misread.is)
-
-pub returns-else-high-x : goal.returns-else-high-x
-returns-else-high-x c =
-    λ passes same. said-so _ _ _ passes _ _ _ (sym c.take-f.ensures ∙ c.in-Says.is)
-    (sym (same _) ∙ ranged-in _ _ _ c.if-x-low.false c.if-high-x.false)
+pub returns : goal.returns
+returns g c = failed-so _ _ _ _ _ c.in_ok-x.ensures (sym (c.requires.1.1.1.met _ _ (omega arith) c.good.ensures) ∙ c.if-good.false)

@@ -1,17 +1,27 @@
 -- `fields::split_in` meets its contract: the feature, then threshold and score. Assumes nothing.
-use Rattle.std.proofs.Common.{arith, sym, ap, ◌∙◌, ltb-true}
-use Rattle.lemmas.specs.Fields.{goes_on}
-use Rattle.fields.specs.Fields.{split_from, node_field, ranged_below, is-misread, is_said, passed-so, stops_at}
+use Rattle.std.proofs.Common.{arith, add-one, refl, ◌∙◌, ltb-true}
+use Rattle.fields.specs.Fields.{split_from, passed-so, left_by, stops, goes}
 use Rattle.fields.proofs.split_in.Goals as goal
 
-pub overflow_cast-feature : goal.overflow_cast-feature
-overflow_cast-feature c = omega (arith, (ltb-true _ _ (passed-so _ _ _ _ _ _ _ (is_said _ _ _ (sym (c.number_in-f.ensures _ (ranged_below _)) ∙ c.in-Says.is)))), c.requires.1)
+pub overflow_cast-entry : goal.overflow_cast-entry
+overflow_cast-entry c = omega (arith, ltb-true _ _ (passed-so _ _ _ _ _ c.in_ok-feature.ensures), c.requires.features_below)
 
-pub returns-in-Misread : goal.returns-in-Misread
+pub returns-in_err-feature : goal.returns-in_err-feature
 unfolding split_from
-returns-in-Misread c = sym (ap node_field (stops_at _ (is-misread _ _ (sym (c.number_in-f.ensures _ (ranged_below _)) ∙ c.in-Misread.is))))
+returns-in_err-feature c = left_by _ c.from_residual.ensures.1 ∙ stops _ _ _ c.in_err-feature.ensures
 
-pub returns-in-Says : goal.returns-in-Says
+pub returns-in_err-threshold : goal.returns-in_err-threshold
 unfolding split_from
-returns-in-Says c =
-    c.scores_in.ensures ∙ sym (ap node_field (goes_on _ (is_said _ _ _ (sym (c.number_in-f.ensures _ (ranged_below _)) ∙ c.in-Says.is))))
+returns-in_err-threshold c =
+    left_by _ c.from_residual-in_err-threshold.ensures.1 ∙ goes _ _ _ c.in_ok-feature.ensures (stops _ _ _ c.in_err-threshold.ensures)
+
+pub returns-in_err-score : goal.returns-in_err-score
+unfolding split_from
+returns-in_err-score c =
+    left_by _ c.from_residual-in_err-score.ensures.1
+    ∙ goes _ _ _ c.in_ok-feature.ensures (goes _ _ _ c.in_ok-threshold.ensures (stops _ _ _ c.in_err-score.ensures))
+
+pub returns : goal.returns
+unfolding split_from
+returns c =
+    goes _ _ _ c.in_ok-feature.ensures (goes _ _ _ c.in_ok-threshold.ensures (goes _ _ _ c.in_ok-score.ensures (rw (c.float_of.ensures, c.float_of-2.ensures, add-one) refl)))

@@ -1,26 +1,18 @@
--- `listings::first_clear` meets its contract: all rows behind are marked. Assumes nothing.
-use Rattle.std.proofs.Common.{arith, ◌≡◌, sym, ap, ◌∙◌, ℕ, ◌-◌}
-use Rattle.rules.specs.Listing.{lowest_lacking, lacking_from}
-use Rattle.listings.specs.Walks.{lacking-here, lacking-goes, lacking-ends}
+-- `listings::first_clear` meets its contract: the place of the first that is not marked, or else how many there are. Assumes nothing.
+use Rattle.std.proofs.Common.{arith, rules, tests, ◌≡◌, ap, ◌∙◌, not, length, ℕ, ◌≤◌, ltb, Some, None, cond}
+use Rattle.std.proofs.lemmas.Bool.Decides.{nat_tests}
+use Rattle.std.proofs.lemmas.List.Sums.{prefix_len-le-length}
+use Rattle.std.specs.Option.{unwrap_or}
+use Rattle.std.proofs.lemmas.Iterator.{YieldsList-from_slice}
+use Rattle.std.proofs.lemmas.Iterator.Search.{position_from_yields_List}
 use Rattle.listings.proofs.first_clear.Goals as goal
 
-all : (n : ℕ) → n ≡ n - 0
-all n = omega arith
-
-pub loop-row-init : goal.loop-row-init
-unfolding lowest_lacking
-loop-row-init c = (omega arith, λ l h. ap (lacking_from l 0) (all c.args.rows))
-
-pub returns-then-not-seen-row : goal.returns-then-not-seen-row
-returns-then-not-seen-row c =
-    let a = c.args in
-    (omega arith, λ l h. lacking-here l a.rows c.loop-row.row (omega arith) (sym (h c.loop-row.row (omega arith)) ∙ c.if-not-seen-row.true) ∙ sym (c.loop-row.invariant.1 l h))
-
-pub loop-row-preserved : goal.loop-row-preserved
-loop-row-preserved c =
-    let a = c.args in
-    (omega arith, λ l h. c.loop-row.invariant.1 l h ∙ lacking-goes l a.rows c.loop-row.row (omega arith) (sym (h c.loop-row.row (omega arith)) ∙ c.if-not-seen-row.false))
+first : (n m : ℕ) → n ≤ m → unwrap_or (cond (ltb n m) (Some n) None) m ≡ n
+first n m h = grind (arith, nat_tests)
 
 pub returns : goal.returns
 returns c =
-    (omega arith, λ l h. lacking-ends l c.args.rows c.loop-row.row (omega arith) ∙ sym (c.loop-row.invariant.1 l h))
+    let s = c.args.seen.now in
+    c.unwrap_or.ensures ∙ ap (λ o. unwrap_or o (length s))
+    (position_from_yields_List (λ b. not b) _ _ _ c.position.ensures.ran (YieldsList-from_slice s cc) (λ x b q k. search (rules, tests)))
+    ∙ first _ _ (prefix_len-le-length (λ b. not (not b)) s)

@@ -1,36 +1,23 @@
 -- `model_check::tree_seen` meets its contract: the count, then as many nodes. Assumes nothing.
-use Rattle.std.proofs.Common.{arith, ◌≡◌, sym, ap, ◌∙◌}
-use Rattle.rules.specs.Model.{says, field, count_good}
-use Rattle.lemmas.specs.Lists.{is_true}
-use Rattle.lemmas.specs.Fields.{goes_on, field-met}
-use Rattle.fields.specs.Fields.{is-misread, is_said, stops_at}
-use Rattle.model_check.specs.Seen.{one_tree, tree_seen, ranged-count, count-few, nodes-misread, nodes-said}
+use Rattle.std.proofs.Common.{arith, sym, ap, ◌∙◌}
+use Rattle.lemmas.specs.Fields.{goes_on}
+use Rattle.fields.specs.Fields.{left_by, stops, goes, stops_at, passed-so}
+use Rattle.model_check.specs.Seen.{one_tree, tree_seen, count-few, nodes-misread, nodes-said}
 use Rattle.model_check.proofs.tree_seen.Goals as goal
 
-pub nodes_seen-nodes-requires : goal.nodes_seen-nodes-requires
-nodes_seen-nodes-requires c =
-    let count-said : field c.args.bytes.now 4 16 (count_good c.args.sofar) c.args.at ≡ says c.in-Says.n c.in-Says.next = is_said _ _ _
-    (sym (c.number_in-count.ensures (count_good c.args.sofar) (λ x. ranged-count c.args.sofar x c.requires.0)) ∙ c.in-Says.is) in
-    (omega (arith, count-few c.args.sofar _ (is_true _ (field-met _ _ _ _ _ _ _ count-said).passed)), c.requires.1)
+pub nodes_seen-requires-clause-nodes_below : goal.nodes_seen-requires-clause-nodes_below
+nodes_seen-requires-clause-nodes_below c = omega (arith, count-few c.args.sofar _ (passed-so _ _ _ _ _ c.in_ok-n.ensures))
 
-pub returns-in-Misread : goal.returns-in-Misread
+pub returns-in_err-n : goal.returns-in_err-n
 unfolding one_tree
-returns-in-Misread c =
-    sym (ap tree_seen (stops_at _ (is-misread _ _
-    (sym (c.number_in-count.ensures (count_good c.args.sofar) (λ x. ranged-count c.args.sofar x c.requires.0)) ∙ c.in-Misread.is))))
+returns-in_err-n c = left_by _ c.from_residual.ensures.1 ∙ stops _ _ _ c.in_err-n.ensures
 
-pub returns-in-Misread-nodes : goal.returns-in-Misread-nodes
+pub returns-in_err-end : goal.returns-in_err-end
 unfolding one_tree
-returns-in-Misread-nodes c =
-    let count-said : field c.args.bytes.now 4 16 (count_good c.args.sofar) c.args.at ≡ says c.in-Says.n c.in-Says.next = is_said _ _ _
-    (sym (c.number_in-count.ensures (count_good c.args.sofar) (λ x. ranged-count c.args.sofar x c.requires.0)) ∙ c.in-Says.is) in
-    sym (ap tree_seen (goes_on _ count-said
-    ∙ stops_at _ (nodes-misread _ _ (sym c.nodes_seen-nodes.ensures ∙ c.in-Misread-nodes.is))))
+returns-in_err-end c =
+    left_by _ c.from_residual-in_err-end.ensures.1
+    ∙ goes _ _ _ c.in_ok-n.ensures (sym (ap tree_seen (stops_at _ (nodes-misread _ c.in_err-end.ensures))))
 
-pub returns-in-Ends : goal.returns-in-Ends
+pub returns : goal.returns
 unfolding one_tree
-returns-in-Ends c =
-    let count-said : field c.args.bytes.now 4 16 (count_good c.args.sofar) c.args.at ≡ says c.in-Says.n c.in-Says.next = is_said _ _ _
-    (sym (c.number_in-count.ensures (count_good c.args.sofar) (λ x. ranged-count c.args.sofar x c.requires.0)) ∙ c.in-Says.is) in
-    sym (ap tree_seen (goes_on _ count-said
-    ∙ goes_on _ (nodes-said _ _ (sym c.nodes_seen-nodes.ensures ∙ c.in-Ends.is)).said))
+returns c = goes _ _ _ c.in_ok-n.ensures (sym (ap tree_seen (goes_on _ (nodes-said _ c.in_ok-end.ensures).said)))

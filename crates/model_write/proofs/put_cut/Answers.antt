@@ -3,6 +3,4 @@ use Rattle.model_write.specs.Puts.{cut-put}
 use Rattle.model_write.proofs.put_cut.Goals as goal
 
 pub returns : goal.returns
-returns c =
-    cut-put c.args.feature c.args.threshold c.args.score c.args.at c.args.file.now c.put_number.ensures
-    c.put_float.ensures c.put_float-2.ensures c.requires
+returns c = cut-put _ _ _ c.args.at c.args.file.now c.put_number.ensures c.put_float.ensures c.put_float-2.ensures c.requires.room

@@ -3,9 +3,6 @@ use Rattle.std.proofs.Common.{arith}
 use Rattle.model_write.specs.Puts.{count_room, nodes-fit, tree-put}
 use Rattle.model_write.proofs.put_tree.Goals as goal
 
-pub overflow_sub-n : goal.overflow_sub-n
-overflow_sub-n c = omega (arith, c.requires.order)
-
 pub put_number-requires : goal.put_number-requires
 put_number-requires c = count_room c.requires
 
@@ -16,5 +13,4 @@ pub put_nodes-requires : goal.put_nodes-requires
 put_nodes-requires c = nodes-fit c.requires c.put_number.ensures
 
 pub returns : goal.returns
-returns c =
-    tree-put c.requires c.put_number.ensures c.put_nodes.ensures
+returns c = tree-put c.requires c.put_number.ensures c.put_nodes.ensures

@@ -1,5 +1,5 @@
 -- `model_write::tree_size` meets its contract: the bytes of the nodes before k and of those from k on are all bytes. Assumes nothing.
-use Rattle.std.proofs.Common.{◌≡◌, List, ℕ, ◌+◌, ◌-◌, ◌*◌, ◌≤◌, get_or}
+use Rattle.std.proofs.Common.{◌≡◌, List, ℕ, ◌+◌, ◌*◌, ◌≤◌, get_or}
 use Rattle.lemmas.specs.Scans.{total_on}
 use Rattle.lemmas.specs.FileLength.{node_size}
 use Rattle.model_write.specs.Sizes.{tree_long}
@@ -9,7 +9,7 @@ abbrev pub long_of : List ℕ → ℕ → ℕ
 long_of ys k = node_size (get_or ys k 0)
 
 abbrev pub invariant-loop-k : goal.invariant-loop-k
-invariant-loop-k l = (l.sum ≤ 4 + 30 * l.k) × (tree_long l.truechild l.a l.e ≡ l.sum + total_on (long_of l.truechild) l.e l.k)
-
-abbrev pub decreases-loop-k : goal.decreases-loop-k
-decreases-loop-k l = l.e - l.k
+invariant-loop-k l = record {
+  few : l.sum ≤ 4 + 30 * l.k;
+  all : tree_long l.truechild l.a l.e ≡ l.sum + total_on (long_of l.truechild) l.e l.k;
+}

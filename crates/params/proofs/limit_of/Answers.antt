@@ -1,13 +1,14 @@
--- `params::limit_of` meets its contract: a match on the depth. Assumes nothing.
-use Rattle.std.proofs.Common.{arith, sym, ap, rules}
+-- `params::limit_of` meets its contract: the depth, or 65,535 in its stead. Assumes nothing.
+use Rattle.std.proofs.Common.{ℕ, ◌≡◌, refl, ◌∙◌}
+use Rattle.std.specs.Prelude.{Option, None, Some}
+use Rattle.std.specs.Option.{unwrap_or}
 use Rattle.rules.specs.Fit.{limit_of}
 use Rattle.params.proofs.limit_of.Goals as goal
 
-pub returns-in-Unlimited : goal.returns-in-Unlimited
+or_most : (h : Option ℕ) → unwrap_or h 65535 ≡ limit_of h
 unfolding limit_of
-returns-in-Unlimited c = (sym (ap limit_of c.in-Unlimited.is), omega arith)
+or_most None = refl
+or_most (Some d) = refl
 
-pub returns-in-AtMost : goal.returns-in-AtMost
-unfolding limit_of
-returns-in-AtMost c =
-    (sym (ap limit_of c.in-AtMost.is), search rules)
+pub returns-clause-value : goal.returns-clause-value
+returns-clause-value c = c.from.ensures ∙ c.unwrap_or.ensures ∙ or_most c.args.depth

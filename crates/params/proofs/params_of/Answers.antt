@@ -4,4 +4,4 @@ use Rattle.params.proofs.params_of.Goals as goal
 
 pub returns : goal.returns
 returns c =
-    params-made _ _ _ c.limit_of-limit.ensures
+    params-made _ _ _ (c.limit_of.ensures.value, c.limit_of.ensures.deep)

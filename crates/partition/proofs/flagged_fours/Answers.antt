@@ -3,17 +3,6 @@ use Rattle.std.proofs.Common.{arith}
 use Rattle.partition.specs.Stays.{front-four}
 use Rattle.partition.proofs.flagged_fours.Goals as goal
 
-pub loop-k-init : goal.loop-k-init
-loop-k-init c = c.requires.front
-
-pub returns-then-not-a-b : goal.returns-then-not-a-b
-returns-then-not-a-b c = c.loop-k.invariant
-
 pub loop-k-preserved : goal.loop-k-preserved
 loop-k-preserved c =
-    front-four _ _ c.loop-k.k c.loop-k.invariant (omega arith) c.flag_at-a.ensures c.flag_at-b.ensures
-    c.flag_at-c.ensures c.flag_at-d.ensures c.if-not-a-b.false
-
-pub returns : goal.returns
-returns c =
-    c.loop-k.invariant
+    front-four _ _ c.loop-k.k c.loop-k.invariant (omega arith) c.flag_at-a.ensures c.flag_at-b.ensures c.flag_at-c.ensures c.flag_at-d.ensures c.if-not-a-b.false

@@ -1,56 +1,15 @@
--- `predict::predict_rest` meets its contract: the places before row i hold their predictions. Assumes nothing.
-use Rattle.std.proofs.Common.{arith, ◌<◌, length}
-use Rattle.rules.specs.Lent.{entries_at, columns_of}
-use Rattle.walks.specs.Walks.{leaf_at, walkable}
-use Rattle.predict.specs.Rows.{further-none, further-next, further-last}
+-- `predict::predict_rest` meets its contract: the rows before i have their predictions. Assumes nothing.
+use Rattle.std.proofs.Common.{arith, ap, ◌∙◌}
+use Rattle.rules.specs.Lent.{entries_at}
+use Rattle.rules.specs.Table.{tree_in}
+use Rattle.rules.specs.Slices.{columns_in}
+use Rattle.walks.specs.Walks.{leaf_at}
+use Rattle.predict.specs.Front.{one-more}
 use Rattle.predict.proofs.predict_rest.Goals as goal
 
-pub loop-i-init : goal.loop-i-init
-loop-i-init c = (
-  c.requires.0,
-  further-none (λ k x. leaf_at c.args.features c.args.values.now
-      (entries_at (columns_of c.args.value.now c.args.feature.now c.args.threshold.now c.args.score.now c.args.truechild.now c.args.falsechild.now) 0 c.args.n) k) c.args.first
-      c.args.out.now,
-)
-
-pub row_value-requires : goal.row_value-requires
-row_value-requires c =
-    walkable c.args.rows c.args.features 0 c.args.n c.args.values.now
-    (columns_of c.args.value.now c.args.feature.now c.args.threshold.now c.args.score.now c.args.truechild.now c.args.falsechild.now) c.args.out.now c.requires.1 c.loop-i.i
-    c.loop-i-test.true
-
-pub offset_bounds-out-i : goal.offset_bounds-out-i
-offset_bounds-out-i c =
-    let placed : c.loop-i.i < length c.args.out.now = omega (arith, c.loop-i-test.true, c.requires.1.room) in
-    omega (arith, placed, c.loop-i.invariant.1.long)
-
-pub bounds-out-i : goal.bounds-out-i
-bounds-out-i c =
-    let placed : c.loop-i.i < length c.args.out.now = omega (arith, c.loop-i-test.true, c.requires.1.room) in
-    omega (arith, placed, c.loop-i.invariant.1.long)
-
-pub overflow_add-i : goal.overflow_add-i
-overflow_add-i c = omega (arith, c.loop-i-test.true, c.requires.1.few)
-
-pub loop-i-smaller : goal.loop-i-smaller
-loop-i-smaller c = omega (arith, c.loop-i-test.true)
-
 pub loop-i-preserved : goal.loop-i-preserved
+unfolding tree_in
 loop-i-preserved c =
-    let placed : c.loop-i.i < length c.args.out.now = omega (arith, c.loop-i-test.true, c.requires.1.room) in (
-      omega (arith, c.loop-i-test.true),
-      further-next (λ k x. leaf_at c.args.features c.args.values.now
-          (entries_at (columns_of c.args.value.now c.args.feature.now c.args.threshold.now c.args.score.now c.args.truechild.now c.args.falsechild.now) 0 c.args.n) k) c.args.first
-          c.loop-i.i c.args.out.now c.loop-i.out c.row_value.result placed
-          c.loop-i.invariant.1 c.row_value.ensures,
-    )
-
-pub shape_of-out : goal.shape_of-out
-shape_of-out c = c.loop-i.invariant.1.long
-
-pub returns : goal.returns
-returns c =
-    further-last (λ k x. leaf_at c.args.features c.args.values.now
-    (entries_at (columns_of c.args.value.now c.args.feature.now c.args.threshold.now c.args.score.now c.args.truechild.now c.args.falsechild.now) 0 c.args.n) k) c.args.first
-    c.loop-i.i c.args.rows c.args.out.now c.loop-i.out c.loop-i.invariant.0 c.loop-i-test.false
-    c.loop-i.invariant.1
+    let a = c.args in
+    one-more (leaf_at a.features a.values.now (tree_in (columns_in a.table.now))) c.loop-i.i c.loop-i.out c.row_value.result c.loop-i.invariant (omega arith)
+    (c.row_value.ensures ∙ ap (λ n. leaf_at a.features a.values.now (entries_at (columns_in a.table.now) 0 n) c.loop-i.i) c.len-n.ensures)

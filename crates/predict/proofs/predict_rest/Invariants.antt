@@ -1,13 +1,8 @@
--- `predict::predict_rest` meets its contract: the places before row i hold their predictions. Assumes nothing.
-use Rattle.std.proofs.Common.{◌-◌, ◌≤◌}
-use Rattle.rules.specs.Lent.{entries_at, columns_of}
-use Rattle.walks.specs.Walks.{leaf_at}
-use Rattle.predict.specs.Rows.{Further}
+-- `predict::predict_rest` meets its contract: the rows before i have their predictions. Assumes nothing.
+use Rattle.std.proofs.Common.{◌≡◌, take}
+use Rattle.rules.specs.Slices.{columns_in}
+use Rattle.predict.specs.Front.{foretold}
 use Rattle.predict.proofs.predict_rest.Given as goal
 
 abbrev pub invariant-loop-i : goal.invariant-loop-i
-invariant-loop-i l =
-    (l.i ≤ l.rows) × Further (λ k x. leaf_at l.features l.values (entries_at (columns_of l.value l.feature l.threshold l.score l.truechild l.falsechild) 0 l.n) k) l.first l.i l.initial.out l.out
-
-abbrev pub decreases-loop-i : goal.decreases-loop-i
-decreases-loop-i l = l.rows - l.i
+invariant-loop-i l = take l.i l.out ≡ foretold l.features l.values (columns_in l.table) l.i

@@ -1,33 +1,19 @@
--- `predict::predict_tree` meets its contract: refused as the verdict is, else each row's prediction. Assumes nothing.
-use Rattle.std.proofs.Common.{refl, sym, ap, ◌∙◌, subst, map}
-use Rattle.rules.specs.Words.{from}
-use Rattle.rules.specs.Lent.{shortest, entries_at, columns_of}
-use Rattle.rules.specs.Table.{tree_in}
-use Rattle.rules.specs.Reading.{predict_tree}
-use Rattle.lemmas.specs.Tests.{reads-refused, reads-done}
-use Rattle.walks.specs.Walks.{Readable, leaf_at}
-use Rattle.predict.specs.Passed.{predict-passed}
+-- `predict::predict_tree` meets its contract: refused as its checks are, else each row's prediction. Assumes nothing.
+use Rattle.std.proofs.lemmas.Result.{err_from_is_err_and}
+use Rattle.rules.specs.Slices.{columns_in}
+use Rattle.predict.specs.Passed.{predict-passed, predict-refused, predict-done}
 use Rattle.predict.proofs.predict_tree.Goals as goal
 
-pub returns-then-number-ne0 : goal.returns-then-number-ne0
-unfolding predict_tree tree_in
-returns-then-number-ne0 c =
-    reads-refused _ (map (leaf_at c.args.shape.features c.args.values.now
-    (entries_at (columns_of c.args.value.now c.args.feature.now c.args.threshold.now c.args.score.now c.args.truechild.now c.args.falsechild.now) 0
-    (shortest (columns_of c.args.value.now c.args.feature.now c.args.threshold.now c.args.score.now c.args.truechild.now c.args.falsechild.now)))) (from 0 c.args.shape.rows))
-    c.args.out.now (c.predict_verdict-number.ensures c.args.out.now refl) c.if-number-ne0.true
+pub returns-in_err-check_predict : goal.returns-in_err-check_predict
+returns-in_err-check_predict c =
+    let a = c.args in
+    let p = err_from_is_err_and c.from_residual.result c.from_residual.ensures.1 in
+    rw (p.1, p.2) (predict-refused a.shape a.values.now (columns_in a.table.now) a.out.now c.in_err-check_predict.ensures)
 
 pub predict_rows-requires : goal.predict_rows-requires
 predict_rows-requires c =
-    subst (λ n. Readable c.args.shape.rows c.args.shape.features 0 n c.args.values.now
-    (columns_of c.args.value.now c.args.feature.now c.args.threshold.now c.args.score.now c.args.truechild.now c.args.falsechild.now) c.args.out.now) (sym c.shortest_of-n.ensures)
-    (predict-passed c.args.shape c.args.values.now (columns_of c.args.value.now c.args.feature.now c.args.threshold.now c.args.score.now c.args.truechild.now c.args.falsechild.now)
-    c.args.out.now (sym (c.predict_verdict-number.ensures c.args.out.now refl) ∙ c.if-number-ne0.false))
+    let a = c.args in (predict-passed a.shape a.values.now (columns_in a.table.now) a.out.now c.in_ok-check_predict.ensures).0
 
 pub returns : goal.returns
-unfolding predict_tree tree_in
 returns c =
-    reads-done c.args.out.now (c.predict_verdict-number.ensures c.args.out.now refl) c.if-number-ne0.false
-    (c.predict_rows.ensures ∙ ap (λ n. map (leaf_at c.args.shape.features c.args.values.now
-    (entries_at (columns_of c.args.value.now c.args.feature.now c.args.threshold.now c.args.score.now c.args.truechild.now c.args.falsechild.now) 0 n)) (from 0 c.args.shape.rows))
-    c.shortest_of-n.ensures)
+    let a = c.args in predict-done a.shape a.values.now (columns_in a.table.now) a.out.now c.in_ok-check_predict.ensures c.predict_rows.new.out c.predict_rows.ensures

@@ -1,10 +1,7 @@
--- `scores::add_each` meets its contract: after i turns the first i are added. Assumes nothing.
-use Rattle.std.proofs.Common.{◌-◌, length}
-use Rattle.scores.specs.Lists.{Joining}
+-- `scores::add_each` meets its contract: the places so far are added to. Assumes nothing.
+use Rattle.std.proofs.Common.{◌≡◌}
+use Rattle.scores.specs.Lists.{joined}
 use Rattle.scores.proofs.add_each.Given as goal
 
 abbrev pub invariant-loop-i : goal.invariant-loop-i
-invariant-loop-i l = Joining l.w l.initial.v l.v l.i
-
-abbrev pub decreases-loop-i : goal.decreases-loop-i
-decreases-loop-i l = length l.initial.v - l.i
+invariant-loop-i l = l.v ≡ joined l.initial.v l.w l.i

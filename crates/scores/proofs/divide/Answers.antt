@@ -1,17 +1,11 @@
--- `scores::divide` meets its contract: after i turns the first i are divided. Assumes nothing.
+-- `scores::divide` meets its contract: the places so far are divided. Assumes nothing.
 use Rattle.std.proofs.Common.{arith}
-use Rattle.scores.specs.Lists.{write-start, divide-turn, divide-done}
+use Rattle.std.proofs.lemmas.List.{get_or_default}
+use Rattle.std.proofs.lemmas.List.Edits.{map_over_more}
+use Rattle.std.specs.Float.Ieee.{nan, div}
+use Rattle.std.specs.Float.{binary64}
 use Rattle.scores.proofs.divide.Goals as goal
 
-pub loop-i-init : goal.loop-i-init
-loop-i-init c = write-start _ _
-
-pub loop-i-preserved : goal.loop-i-preserved
-loop-i-preserved c = divide-turn _ _ _ _ c.loop-i.invariant (omega arith)
-
-pub shape_of-v : goal.shape_of-v
-shape_of-v c = c.loop-i.invariant.long
-
-pub returns : goal.returns
-returns c =
-    divide-done _ _ _ _ c.loop-i.invariant (omega arith)
+pub loop-x-preserved : goal.loop-x-preserved
+loop-x-preserved c =
+    map_over_more (λ x. div binary64 x c.args.by) _ _ _ _ (omega arith) c.loop-x.invariant (get_or_default c.loop-x.v c.loop-x.x-index nan _ (omega arith))

@@ -1,10 +1,7 @@
--- `scores::divide` meets its contract: after i turns the first i are divided. Assumes nothing.
-use Rattle.std.proofs.Common.{◌-◌, length}
-use Rattle.scores.specs.Lists.{Dividing}
+-- `scores::divide` meets its contract: the places so far are divided. Assumes nothing.
+use Rattle.std.proofs.Common.{◌≡◌, ◌++◌, take, drop}
+use Rattle.scores.specs.Lists.{divided_by}
 use Rattle.scores.proofs.divide.Given as goal
 
-abbrev pub invariant-loop-i : goal.invariant-loop-i
-invariant-loop-i l = Dividing l.by l.initial.v l.v l.i
-
-abbrev pub decreases-loop-i : goal.decreases-loop-i
-decreases-loop-i l = length l.initial.v - l.i
+abbrev pub invariant-loop-x : goal.invariant-loop-x
+invariant-loop-x l = l.v ≡ divided_by l.by (take l.x-index l.initial.v) ++ drop l.x-index l.initial.v

@@ -1,72 +1,58 @@
 -- `search::search_node` meets its contract: too few words or no permutation is a bad draw; else the features are tried and the tapes moved on. Assumes nothing.
-use Rattle.std.proofs.Common.{arith, sym, ap, ◌∙◌, subst, ◌+◌, ◌-◌, ◌≤◌, ◌<◌, min, length, drop, take}
-use Rattle.search.specs.Flat.{tables_of, node_rows_at, RowsTried}
-use Rattle.rules.specs.Words.{each_once}
-use Rattle.search.specs.Tries.{chosen_at, search-bad, search-short, search-stop, search-goes}
+use Rattle.std.proofs.Common.{arith, refl, sym, ap, subst, ◌∙◌, Err, Ok, length, min}
+use Rattle.std.proofs.lemmas.List.{take_rest, length-drop}
+use Rattle.std.proofs.lemmas.Result.{err_from_is_err_and}
+use Rattle.search.specs.Flat.{tables_in, node_rows_at, Attempt, RowsTried, Searched}
+use Rattle.search.specs.Tries.{chosen-once, chosen_at, search-bad, search-short, search-stop, search-goes}
 use Rattle.search.proofs.search_node.Goals as goal
+use Rattle.search.proofs.search_node.Goals.{then-words-features-via-then-words-features, then-words-features-via-else-words-features+then-not-choice_good}
 
-pub returns-then-words-at : goal.returns-then-words-at
-returns-then-words-at c =
+pub returns-then-words-features : goal.returns-then-words-features
+returns-then-words-features c =
     let a = c.args in
-    search-short a.p a.words.now a.thresholds.now
-    (node_rows_at a.rows a.features a.from a.to (tables_of c.args.values.now c.args.targets.now c.args.weights.now c.args.counts.now) a.order.now a.a) a.d c.requires.4
-    (subst (λ n. length a.words.now - a.d.words < n) c.requires.1 c.if-words-at.true)
+    let n = a.shape in
+    let W = a.tapes.now.words.now in
+    let q = c.requires in
+    let node = node_rows_at n.rows n.features a.from a.to (tables_in a.input.now) a.order.now a.a in
+    elim c.then-words-features.branch [
+      | then-words-features-via-then-words-features w ↦
+          search-short a.p W a.tapes.now.thresholds.now node a.d q.fair (omega (arith, q.same, ap length (take_rest W a.d.words), w.if-words-features.true)) _
+      | then-words-features-via-else-words-features+then-not-choice_good w ↦
+          search-bad a.p W a.tapes.now.thresholds.now node a.d q.fair
+          (sym (chosen-once n.features a.p.features a.d.words W q.same w.if-words-features.false w.choice_good.ensures) ∙ w.if-not-choice_good.true) _
+    ]
 
-pub choice_good-requires : goal.choice_good-requires
-choice_good-requires c = (c.requires.2, omega (arith, c.requires.4.0, c.if-words-at.false))
-
-pub try_all-r-requires : goal.try_all-r-requires
-try_all-r-requires c =
+pub try_all-requires-clause-features : goal.try_all-requires-clause-features
+try_all-requires-clause-features c =
     let a = c.args in
-    let k = c.least-k.ensures in
-    let room : a.d.words + a.features ≤ length a.words.now = omega (arith, c.requires.4.0, c.if-words-at.false) in record {
-      node_asks = c.requires.0;
-      k_in_bounds = (
-        omega (arith, k, room),
-        chosen_at a.features a.words.now a.d.words room (sym
-            c.choice_good.ensures ∙ c.if-choice_good.true) _ (omega (arith, k)),
-      );
-    }
+    let n = a.shape.features in
+    let W = a.tapes.now.words.now in
+    rw take_rest
+    (chosen_at n _ (sym (chosen-once n n a.d.words W refl c.if-words-features.false c.choice_good.ensures) ∙ c.if-not-choice_good.false) _ (omega (arith, c.min-tried.ensures)))
 
-pub returns-in_default : goal.returns-in_default
-returns-in_default c =
+pub returns-in_err-h : goal.returns-in_err-h
+returns-in_err-h c =
     let a = c.args in
-    search-stop a.p a.words.now a.thresholds.now
-    (node_rows_at a.rows a.features a.from a.to (tables_of c.args.values.now c.args.targets.now c.args.weights.now c.args.counts.now) a.order.now a.a) a.d c.requires.4 (sym (ap
-    (λ n. each_once n (take n (drop a.d.words a.words.now))) c.requires.1) ∙ sym c.choice_good.ensures ∙
-    c.if-choice_good.true) (c.least-k.ensures ∙ ap (λ z. min z a.features)
-    c.wide.ensures ∙ ap (min a.p.tried) c.requires.1) _ c.try_all-r.ensures.0
-    c.in_default.is
-
-pub overflow_add-result : goal.overflow_add-result
-overflow_add-result c = omega (arith, c.requires.4.0, c.if-words-at.false, c.well_formed.1.1.1.1.1.0.0)
-
-pub overflow_add-result-then-choice_good : goal.overflow_add-result-then-choice_good
-overflow_add-result-then-choice_good c =
-    omega (
-      arith,
-      c.requires.4.0,
-      c.requires.4.1,
-      c.requires.3,
-      c.if-words-at.false,
-      c.well_formed.1.1.1.1.1.0.0,
-    )
-
-pub returns-then-choice_good : goal.returns-then-choice_good
-returns-then-choice_good c =
-    let a = c.args in
-    search-goes a.p a.words.now a.thresholds.now
-    (node_rows_at a.rows a.features a.from a.to (tables_of c.args.values.now c.args.targets.now c.args.weights.now c.args.counts.now) a.order.now a.a) a.d c.requires.4
-    (sym (ap (λ n. each_once n (take n (drop a.d.words a.words.now))) c.requires.1) ∙ sym c.choice_good.ensures ∙ c.if-choice_good.true)
-    (c.least-k.ensures ∙ ap (λ z. min z a.features) c.wide.ensures ∙ ap (min a.p.tried) c.requires.1) _
-    c.try_all-r.ensures.0 _ _ c.in-Goes.is
-    (subst (λ n. RowsTried n (node_rows_at a.rows a.features a.from a.to (tables_of c.args.values.now c.args.targets.now c.args.weights.now c.args.counts.now) a.order.now a.a) c.try_all-r.result)
-    c.requires.1 c.try_all-r.ensures.1) a.features c.requires.1
-    (omega (arith, c.requires.4.0, c.if-words-at.false)) c.requires.3
+    let n = a.shape in
+    let W = a.tapes.now.words.now in
+    let M = a.tapes.now.thresholds.now in
+    let q = c.requires in
+    let node = node_rows_at n.rows n.features a.from a.to (tables_in a.input.now) a.order.now a.a in
+    let good = sym (chosen-once n.features a.p.features a.d.words W q.same c.if-words-features.false c.choice_good.ensures) ∙ c.if-not-choice_good.false in
+    subst (Searched a.p W M node a.d) (sym (err_from_is_err_and c.from_residual.result c.from_residual.ensures.1).1)
+    (search-stop a.p W M node a.d q.fair good (c.min-tried.ensures ∙ ap (min a.p.tried) q.same) (Err c.in_err-h.field-0.0)
+    (rw (take_rest W a.d.words) at c.in_err-h.ensures.tried) refl _)
 
 pub returns : goal.returns
 returns c =
     let a = c.args in
-    search-bad a.p a.words.now a.thresholds.now
-    (node_rows_at a.rows a.features a.from a.to (tables_of c.args.values.now c.args.targets.now c.args.weights.now c.args.counts.now) a.order.now a.a) a.d c.requires.4
-    (sym (ap (λ n. each_once n (take n (drop a.d.words a.words.now))) c.requires.1) ∙ sym c.choice_good.ensures ∙ c.if-choice_good.false)
+    let n = a.shape in
+    let W = a.tapes.now.words.now in
+    let M = a.tapes.now.thresholds.now in
+    let q = c.requires in
+    let node = node_rows_at n.rows n.features a.from a.to (tables_in a.input.now) a.order.now a.a in
+    let good = sym (chosen-once n.features a.p.features a.d.words W q.same c.if-words-features.false c.choice_good.ensures) ∙ c.if-not-choice_good.false in
+    let r : Attempt = Ok (c.in_ok-h.h, c.in_ok-h.m) in
+    search-goes a.p W M node a.d q.fair good (c.min-tried.ensures ∙ ap (min a.p.tried) q.same) r (rw (take_rest W a.d.words) at c.in_ok-h.ensures.tried) _ _ refl
+    (subst (λ k. RowsTried k node r) q.same c.in_ok-h.ensures.rows) n.features q.same
+    (omega (arith, length-drop a.d.words W, ap length (take_rest W a.d.words), c.if-words-features.false)) q.some

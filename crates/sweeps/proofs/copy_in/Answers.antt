@@ -1,5 +1,5 @@
 -- `sweeps::copy_in` meets its contract: after j turns the first j are pasted. Assumes nothing.
-use Rattle.std.proofs.Common.{rules, arith, ◌≡◌, refl, ◌∙◌, List, ℕ, ◌<◌, ◌+◌, add-one, length, get_or, set}
+use Rattle.std.proofs.Common.{arith, ◌≡◌, ◌∙◌, List, ℕ, ◌<◌, ◌+◌, add-one, length, get_or, set}
 use lib.Seq.{paste, paste-zero, paste-suc}
 use Rattle.sweeps.proofs.copy_in.Goals as goal
 
@@ -8,14 +8,12 @@ turn : (d : List ℕ) (at : ℕ) (s : List ℕ) (j : ℕ) (l : List ℕ) → l �
 turn d at s j l e h k = rw (e, add-one j, paste-suc)
 
 pub loop-j-init : goal.loop-j-init
-loop-j-init c = (paste-zero c.args.dst.now c.args.at c.args.src.now, omega arith, refl)
+loop-j-init c = paste-zero c.args.dst.now c.args.at c.args.src.now
 
 pub loop-j-preserved : goal.loop-j-preserved
-loop-j-preserved c =
-    let e = c.loop-j.invariant.0 in
-    (turn _ _ _ _ _ e (omega arith) (omega arith), omega arith, search rules)
+loop-j-preserved c = turn _ _ _ _ _ c.loop-j.invariant (omega arith) (omega arith)
 
 pub returns : goal.returns
 returns c =
     let e : c.loop-j.j ≡ c.args.n = omega arith in
-    c.loop-j.invariant.0 ∙ rw e
+    c.loop-j.invariant ∙ rw e

@@ -42,26 +42,22 @@ module _ (p : ℕ → Bool) (before col scratch : List ℕ) (i w : ℕ) (b : Beg
       }
 
 module _ (col₀ scratch₀ : List ℕ) (flags : List Bool) (start found : ℕ) (col scratch : List ℕ) (w i : ℕ) (s : Passed col₀ scratch₀ flags start found col scratch w i) where
-  more : (v : ℕ) → v ≤ i + 1 → i < length col₀ → length col₀ ≤ length scratch₀
+  more : (v : ℕ) → v ≤ i + 1 → i < length col₀ → length col₀ ≤ length scratch
       → ((before : List ℕ) → Begun (flagged flags) before col scratch i w → i < length before → length before ≤ length scratch
       → Begun (flagged flags) before (set col w (get_or col i 0)) (set scratch (i - w) (get_or col i 0)) (i + 1) v)
       → Passed col₀ scratch₀ flags start found (set col w (get_or col i 0)) (set scratch (i - w) (get_or col i 0)) v (i + 1)
   more v few h room turn =
       record {
-        after = omega (arith, s.after);
-        within = omega arith;
         few = few;
-        long = length-set col w _ ∙ s.long;
-        long-s = length-set scratch (i - w) _ ∙ s.long-s;
         rest = rest_more col col₀ w i _ s.few s.rest;
-        going = λ before q. turn before (s.going before q) (omega (arith, q.long)) (omega (arith, q.long, s.long-s));
+        going = λ before q. turn before (s.going before q) (omega (arith, q.long)) (omega (arith, q.long));
       }
 
-  swept : length col₀ ≤ i → SweepDone (flagged flags) col₀ scratch₀ start found col scratch w
-  swept h =
+  swept : i ≤ length col₀ → length col₀ ≤ i → SweepDone (flagged flags) col₀ scratch₀ start found col scratch w
+  swept within h =
       record {
-        within = omega (arith, s.few, s.within);
-        done = λ before q. subst (λ n. Begun (flagged flags) before col scratch n w) (let e : i ≡ length before = omega (arith, s.within, q.long) in e) (s.going before q);
+        within = omega (arith, s.few, within);
+        done = λ before q. subst (λ n. Begun (flagged flags) before col scratch n w) (let e : i ≡ length before = omega (arith, q.long) in e) (s.going before q);
       }
 
 flag-of : (flags a i : ℕ) (l : List ℕ) → Every (λ r. r < flags) (drop a l) → a ≤ i → i < length l → get_or l i 0 < flags
@@ -71,25 +67,19 @@ flag-of flags a i l q h k =
     subst (λ x. x < flags) (get_or-drop a l (i - a) 0 ∙ ap (λ j. get_or l j 0) e) (every-at _ (drop a l) 0 (i - a) q n)
 
 pub loop-i-init : goal.loop-i-init
-loop-i-init c =
-    let asks = c.requires in
-    record { after = omega arith; within = asks.within; few = asks.few; long = refl; long-s = refl; rest = refl; going = λ before b. b }
+loop-i-init c = record { few = c.requires.few; rest = refl; going = λ before b. b }
 
-pub overflow_cast-row : goal.overflow_cast-row
-overflow_cast-row c = omega (arith, c.type_inv.col c.loop-i.i)
-
-pub bounds-flags-row : goal.bounds-flags-row
-bounds-flags-row c =
-    let s = c.loop-i.invariant in
+pub bounds-flags-e : goal.bounds-flags-e
+bounds-flags-e c =
     let col = c.args.col.now in
-    let e = head-same c.loop-i.col col c.loop-i.i 0 s.rest in
-    omega (arith, e, flag-of (length c.args.flags.now) c.args.start c.loop-i.i col c.requires.below s.after (omega arith))
+    let e = head-same c.loop-i.col col c.loop-i.i 0 c.loop-i.invariant.rest in
+    omega (arith, e, flag-of (length c.args.flags.now) c.args.start c.loop-i.i col c.requires.below (omega arith) (omega arith))
 
 pub loop-i-preserved : goal.loop-i-preserved
 loop-i-preserved c =
     let s = c.loop-i.invariant in
     let h : c.loop-i.i < length c.args.col.now = omega arith in
-    let room = c.requires.room in
+    let room : length c.args.col.now ≤ length c.loop-i.scratch = omega (arith, c.requires.room) in
     elim c.if-t.branch [
       | then-t u ↦ rw u.w-is (more _ _ _ _ _ _ _ _ _ s _ (omega (arith, s.few)) h room (λ before b k l. kept-turn _ before _ _ _ _ b k l u.if-t.true))
       | else-t u ↦ rw u.w-is (more _ _ _ _ _ _ _ _ _ s _ (omega (arith, s.few)) h room (λ before b k l. left-turn _ before _ _ _ _ b k l u.if-t.false))
@@ -97,4 +87,4 @@ loop-i-preserved c =
 
 pub returns : goal.returns
 returns c =
-    swept _ _ _ _ _ _ _ _ _ c.loop-i.invariant (omega arith)
+    swept _ _ _ _ _ _ _ _ _ c.loop-i.invariant (omega arith) (omega arith)

@@ -1,19 +1,12 @@
 -- `sweeps::sweep` meets its contract: what was begun has gone on to the rows passed, and from i on the stretch is as it was. Assumes nothing.
-use Rattle.std.proofs.Common.{◌≡◌, List, Bool, ℕ, ◌≤◌, ◌-◌, length, drop}
+use Rattle.std.proofs.Common.{◌≡◌, List, Bool, ℕ, ◌≤◌, drop}
 use Rattle.sweeps.specs.Swept.{flagged, Begun}
 use Rattle.sweeps.proofs.sweep.Given as goal
 
 pub record Passed (col₀ scratch₀ : List ℕ) (flags : List Bool) (start found : ℕ) (col scratch : List ℕ) (w i : ℕ) : Type 0 where
-  pub after : start ≤ i
-  pub within : i ≤ length col₀
   pub few : w ≤ i
-  pub long : length col ≡ length col₀
-  pub long-s : length scratch ≡ length scratch₀
   pub rest : drop i col ≡ drop i col₀
   pub going : (before : List ℕ) → Begun (flagged flags) before col₀ scratch₀ start found → Begun (flagged flags) before col scratch i w
 
 abbrev pub invariant-loop-i : goal.invariant-loop-i
 invariant-loop-i l = Passed l.initial.col l.initial.scratch l.flags l.start l.found l.col l.scratch l.w l.i
-
-abbrev pub decreases-loop-i : goal.decreases-loop-i
-decreases-loop-i l = length l.initial.col - l.i

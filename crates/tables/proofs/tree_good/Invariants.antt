@@ -1,14 +1,11 @@
 -- `tables::tree_good` meets its contract: the nodes before k are good or not, and what is left to ask is asked of those from k on. Assumes nothing.
-use Rattle.std.proofs.Common.{◌≡◌, ◌&&◌, ◌≤◌, ◌-◌}
+use Rattle.std.proofs.Common.{◌≡◌, ◌&&◌}
 use Rattle.rules.specs.Table.{good_tree}
-use Rattle.rules.specs.Lent.{entries_at, columns_of}
+use Rattle.rules.specs.Lent.{entries_at}
+use Rattle.rules.specs.Slices.{columns_in}
 use Rattle.tables.specs.Laws.{good_on}
 use Rattle.tables.proofs.tree_good.Given as goal
 
 abbrev pub invariant-loop-k : goal.invariant-loop-k
 invariant-loop-k l =
-    (l.k ≤ l.n) × (good_tree l.features (entries_at (columns_of l.value l.feature l.threshold l.score l.truechild l.falsechild) l.a l.n) ≡ (l.good && good_on l.features
-    (columns_of l.value l.feature l.threshold l.score l.truechild l.falsechild) l.a l.n l.k))
-
-abbrev pub decreases-loop-k : goal.decreases-loop-k
-decreases-loop-k l = l.n - l.k
+    good_tree l.features (entries_at (columns_in l.table) l.a l.n) ≡ (l.good && good_on l.features (columns_in l.table) l.a l.n l.k)

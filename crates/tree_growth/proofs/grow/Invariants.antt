@@ -1,18 +1,20 @@
 -- `tree_growth::grow` meets its contract: a turn searches what is left to search and splits the last to join: one step of the waiting list, taken half a turn later.
--- What is left of the growth stays the same. Assumes nothing.
-use Rattle.std.proofs.Common.{◌-◌, length}
-use Rattle.node_entries.specs.Entries.{node_room_of}
-use Rattle.node_growth.specs.Rooms.{ground_of}
+-- What is left of the growth stays the same, and so do the node columns that it writes and their lengths. Assumes nothing.
+use Rattle.std.proofs.Common.{◌≡◌, ◌-◌, length}
+use Rattle.rules.specs.Slices.{SameNodes}
+use Rattle.node_entries.specs.Entries.{room_in, node_lengths}
+use Rattle.node_growth.specs.Rooms.{ground_in}
 use Rattle.tree_growth.specs.Loop.{Growing}
 use Rattle.tree_growth.proofs.grow.Given as goal
 
-abbrev pub invariant-loop-k : goal.invariant-loop-k
-invariant-loop-k l =
-    Growing (ground_of l.rows l.features l.values l.targets l.weights l.counts l.initial.order) l.p l.words l.thresholds l.most (length l.initial.scratch) (length l.initial.flags)
-    (node_room_of l.initial.value l.initial.feature l.initial.threshold l.initial.score l.initial.truechild l.initial.falsechild l.initial.nodecount l.initial.nodemass)
-    l.initial.wholes l.initial.reals l.initial.q l.initial.at
-    (ground_of l.rows l.features l.values l.targets l.weights l.counts l.order) (length l.scratch) (length l.flags)
-    (node_room_of l.value l.feature l.threshold l.score (l.truechild) (l.falsechild) (l.nodecount) (l.nodemass)) l.wholes l.reals l.q l.at
+abbrev pub invariant-turns : goal.invariant-turns
+invariant-turns l = record {
+  growing : Growing (ground_in l.shape l.input l.initial.order) l.p l.tapes.words.now l.tapes.thresholds.now l.most (room_in l.initial.nodes)
+      l.initial.wholes l.initial.reals l.initial.q l.initial.at
+      (ground_in l.shape l.input l.order) (length l.scratch) (length l.flags) (room_in l.nodes) l.wholes l.reals l.q l.at;
+  same_slices : SameNodes l.initial.nodes l.nodes;
+  nodes_long : node_lengths (room_in l.nodes) ≡ node_lengths (room_in l.initial.nodes);
+}
 
-abbrev pub decreases-loop-k : goal.decreases-loop-k
-decreases-loop-k l = l.most - l.at.nodes
+abbrev pub decreases-turns : goal.decreases-turns
+decreases-turns l = l.most - l.at.nodes

@@ -1,13 +1,13 @@
 -- `work_columns::partition_columns` meets its contract: after k turns the rows of the first k columns are parted, and column k is as it was; the column that is passed over is parted as it stands.
 -- Assumes nothing.
-use Rattle.std.proofs.Common.{rules, arith, ◌≡◌, refl, sym, ap, ◌∙◌, subst, Bool, List, ℕ, ◌≤◌, ◌<◌, ◌-◌, ◌+◌, ◌*◌, length}
+use Rattle.std.proofs.Common.{arith, ◌≡◌, refl, sym, ap, ◌∙◌, subst, Bool, List, ℕ, ◌<◌, ◌-◌, ◌+◌, ◌*◌, length}
 use Rattle.rules.specs.Words.{stretch}
 use Rattle.lemmas.specs.Lists.{Every}
 use Rattle.lemmas.specs.Work.{part}
 use Rattle.sweeps.specs.Swept.{flagged, parted, PartAsks}
 use Rattle.sweeps.specs.Fronts.{parted-long}
 use Rattle.work_columns.specs.Columns.{ColumnsAsk}
-use Rattle.work_columns.specs.Stretches.{column-end, part-long, Keeps, Going, going_start, going-turn, going_done, going-long, going-rest, going-past}
+use Rattle.work_columns.specs.Stretches.{part-long, Keeps, Going, going_start, going-turn, going_done, going-long, going-rest, going-past}
 use Rattle.work_columns.proofs.partition_columns.Invariants.{way}
 use Rattle.work_columns.proofs.partition_columns.Goals as goal
 use Rattle.work_columns.proofs.partition_columns.Goals.{then-k-but, else-k-but}
@@ -19,10 +19,6 @@ module _ (rows features a e : ℕ) (flags : List Bool) (order₀ order : List �
     (s : Going rows a e (way flags) features order₀ order k) where
   long : length order ≡ length order₀
   long = going-long rows a e (way flags) features order₀ q.ordered q.high q.long (keeps flags features (e - a)) order k s
-
-  -- the stretch lies in the columns, whose bytes fit
-  ends : k < features → length order₀ * 4 < 9223372036854775808 → (k * rows + e ≤ length order) × (length order * 4 < 9223372036854775808) × (a ≤ e)
-  ends h m = (omega (arith, column-end rows features k h, q.long, q.high, long), omega (arith, long), q.ordered)
 
   wide : k * rows + e - (k * rows + a) ≡ e - a
   wide = omega arith
@@ -43,73 +39,26 @@ module _ (rows features a e : ℕ) (flags : List Bool) (order₀ order : List �
   past h is p = going-past rows a e (way flags) features order₀ q.ordered q.high q.long (keeps flags features (e - a)) order k s h (rw is p)
 
 pub loop-k-init : goal.loop-k-init
-loop-k-init c = (going_start _ _ _ _ _ _, refl)
-
-pub overflow_mul-base : goal.overflow_mul-base
-overflow_mul-base c =
-    let r = (ends c.args.rows c.args.features c.args.start c.args.end c.args.flags.now c.args.order.now _ _ c.loop-k.k c.requires.columns_ask c.loop-k.invariant.0
-    c.loop-k-test.true c.well_formed.0.1) in search rules
-
-pub overflow_add-low : goal.overflow_add-low
-overflow_add-low c =
-    let r = (ends c.args.rows c.args.features c.args.start c.args.end c.args.flags.now c.args.order.now _ _ c.loop-k.k c.requires.columns_ask c.loop-k.invariant.0
-    c.loop-k-test.true c.well_formed.0.1) in search rules
-
-pub overflow_add-high : goal.overflow_add-high
-overflow_add-high c =
-    let r = (ends c.args.rows c.args.features c.args.start c.args.end c.args.flags.now c.args.order.now _ _ c.loop-k.k c.requires.columns_ask c.loop-k.invariant.0
-    c.loop-k-test.true c.well_formed.0.1) in search rules
-
-pub offset_bounds-order-low : goal.offset_bounds-order-low
-offset_bounds-order-low c =
-    let r = (ends c.args.rows c.args.features c.args.start c.args.end c.args.flags.now c.args.order.now _ _ c.loop-k.k c.requires.columns_ask c.loop-k.invariant.0
-    c.loop-k-test.true c.well_formed.0.1) in search rules
-
-pub slice_bounds-stable_partition-count : goal.slice_bounds-stable_partition-count
-slice_bounds-stable_partition-count c =
-    let r = (ends c.args.rows c.args.features c.args.start c.args.end c.args.flags.now c.args.order.now _ _ c.loop-k.k c.requires.columns_ask c.loop-k.invariant.0
-    c.loop-k-test.true c.well_formed.0.1) in search rules
-
-pub slice_bounds-stable_partition-start : goal.slice_bounds-stable_partition-start
-slice_bounds-stable_partition-start c =
-    let r = (ends c.args.rows c.args.features c.args.start c.args.end c.args.flags.now c.args.order.now _ _ c.loop-k.k c.requires.columns_ask c.loop-k.invariant.0
-    c.loop-k-test.true c.well_formed.0.1) in search rules
-
-pub slice_bounds-stable_partition-end : goal.slice_bounds-stable_partition-end
-slice_bounds-stable_partition-end c =
-    let r = (ends c.args.rows c.args.features c.args.start c.args.end c.args.flags.now c.args.order.now _ _ c.loop-k.k c.requires.columns_ask c.loop-k.invariant.0
-    c.loop-k-test.true c.well_formed.0.1) in search rules
+loop-k-init c = going_start _ _ _ _ _ _
 
 pub stable_partition-requires : goal.stable_partition-requires
 stable_partition-requires c =
-    let a = c.args in
-    asks a.rows a.features a.start a.end a.flags.now a.order.now _ _ c.loop-k.k c.requires.columns_ask c.loop-k.invariant.0
-    c.loop-k-test.true c.loop-k.invariant.1
+    asks c.args.shape.rows c.args.shape.features _ _ c.args.flags.now c.args.order.now _ _ c.loop-k.k c.requires.columns_ask c.loop-k.invariant (omega arith) c.loop-k.auto.scratch
 
 pub loop-k-preserved : goal.loop-k-preserved
 loop-k-preserved c =
     let a = c.args in
     let l = c.loop-k in
-    let low = l.k * a.rows + a.start in
+    let rows = a.shape.rows in
+    let features = a.shape.features in
+    let low = l.k * rows + a.start in
+    let h : l.k < features = omega arith in
     elim c.if-k-but.branch [
-      | then-k-but u ↦ (
-        rw u.order-is (going-turn a.rows a.start a.end (way a.flags.now) a.features a.order.now l.order u.stable_partition.new.col l.k low
-            (l.k * a.rows + a.end - low) l.invariant.0 c.loop-k-test.true refl (omega arith) u.stable_partition.ensures.parts),
-        ap length u.scratch-is ∙ u.stable_partition.auto.scratch ∙ l.invariant.1,
-      )
-      | else-k-but u ↦ (
-        rw u.order-is (past a.rows a.features a.start a.end a.flags.now a.order.now l.order _ l.k c.requires.columns_ask l.invariant.0
-            c.loop-k-test.true u.if-k-but.false c.requires.order_value),
-        ap length u.scratch-is ∙ l.invariant.1,
-      )
+      | then-k-but u ↦ rw u.order-is (going-turn rows a.start a.end (way a.flags.now) features a.order.now l.order u.stable_partition.new.col l.k low
+          (l.k * rows + a.end - low) l.invariant h refl (omega arith) u.stable_partition.ensures.parts)
+      | else-k-but u ↦ rw u.order-is (past rows features a.start a.end a.flags.now a.order.now l.order _ l.k c.requires.columns_ask l.invariant
+          h u.if-k-but.false c.requires.order_value)
     ]
 
-pub shape_of-order : goal.shape_of-order
-shape_of-order c =
-    let a = c.args in
-    long a.rows a.features a.start a.end a.flags.now a.order.now _ _ c.loop-k.k c.requires.columns_ask
-    c.loop-k.invariant.0
-
 pub returns : goal.returns
-returns c =
-    going_done _ _ _ _ _ _ _ _ c.loop-k.invariant.0 (omega arith)
+returns c = going_done _ _ _ _ _ _ _ _ c.loop-k.invariant (omega arith)

@@ -1,12 +1,8 @@
--- `checks::inputs::counts_low` meets its contract: no count is below 0. Assumes nothing.
-use Rattle.std.proofs.Common.{◌≡◌, ap, ◌∙◌, ◌&&◌, ℕ, leb}
-use lib.Dec.{leb-zero}
-use Rattle.lemmas.specs.Scans.{every-same}
+-- `checks::inputs::counts_low` meets its contract: `all` asks whether each is low. Assumes nothing.
+use Rattle.std.proofs.Common.{rules, tests}
+use Rattle.std.proofs.lemmas.Iterator.{YieldsList-from_slice}
+use Rattle.slices.specs.Iter.{every-from_all}
 use Rattle.checks.proofs.inputs.counts_low.Goals as goal
 
-low : (k : ℕ) → (leb 0 k && leb k 65535) ≡ leb k 65535
-low k = ap (λ b. b && leb k 65535) (leb-zero k)
-
 pub returns : goal.returns
-returns c =
-    c.counts_within.ensures ∙ every-same _ _ low _
+returns c = every-from_all _ _ _ _ c.all.ensures.ran (YieldsList-from_slice c.args.counts.now cc) (λ x b q k. search (rules, tests))

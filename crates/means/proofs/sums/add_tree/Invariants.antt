@@ -1,15 +1,8 @@
--- `means::sums::add_tree` meets its contract: the places before row i have taken the tree in, six more after each turn. Assumes nothing.
-use Rattle.std.proofs.Common.{◌-◌, ◌≤◌}
-use Rattle.rules.specs.Lent.{entries_at, columns_of}
-use Rattle.walks.specs.Walks.{leaf_at}
-use Rattle.predict.specs.Rows.{Further}
-use Rattle.means.specs.Sums.{with_tree}
+-- `means::sums::add_tree` meets its contract: the places of the first s sixes have taken the tree in. Assumes nothing.
+use Rattle.std.proofs.Common.{◌*◌}
+use Rattle.means.specs.Rows.{Further}
+use Rattle.means.specs.Sums.{with_tree_of}
 use Rattle.means.proofs.sums.add_tree.Given as goal
 
-abbrev pub invariant-loop-i : goal.invariant-loop-i
-invariant-loop-i l =
-    (l.i ≤ l.rows) × Further (with_tree l.counts l.base (leaf_at l.features l.values
-    (entries_at (columns_of l.value l.feature l.threshold l.score l.truechild l.falsechild) l.a l.n))) 0 l.i l.initial.out l.out
-
-abbrev pub decreases-loop-i : goal.decreases-loop-i
-decreases-loop-i l = l.end - l.i
+abbrev pub invariant-loop-s : goal.invariant-loop-s
+invariant-loop-s l = Further (with_tree_of l.sample l.tree) 0 (6 * l.s) l.initial.out l.out

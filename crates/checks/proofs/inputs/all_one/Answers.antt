@@ -1,0 +1,8 @@
+-- `checks::inputs::all_one` meets its contract: `all` asks whether each is 1. Assumes nothing.
+use Rattle.std.proofs.Common.{rules, tests}
+use Rattle.std.proofs.lemmas.Iterator.{YieldsList-from_slice}
+use Rattle.slices.specs.Iter.{every-from_all}
+use Rattle.checks.proofs.inputs.all_one.Goals as goal
+
+pub returns : goal.returns
+returns c = every-from_all _ _ _ _ c.all.ensures.ran (YieldsList-from_slice c.args.counts.now cc) (λ x b q k. search (rules, tests))

@@ -1,8 +1,0 @@
--- `exports::readers::tailboardy_out_of_bag_means` meets its contract: the call, and its answer as a number. Assumes nothing.
-use Rattle.rules.specs.Answers.{reply_told}
-use Rattle.exports.specs.Calls.{answer-told}
-use Rattle.exports.proofs.readers.tailboardy_out_of_bag_means.Goals as goal
-
-pub returns : goal.returns
-returns c =
-    answer-told reply_told c.out_of_bag_means-reply.ensures c.number_of.ensures

@@ -1,2 +1,0 @@
--- what the exported calls promise
-pub mod Calls

@@ -1,9 +1,0 @@
--- `replay::calls::as_reals` is safe and ends: i is within the room. Assumes nothing.
-use Rattle.std.proofs.Common.{◌≤◌, ◌-◌, ◌≡◌, length}
-use Rattle.replay.proofs.calls.as_reals.Given as goal
-
-abbrev pub invariant-loop-i : goal.invariant-loop-i
-invariant-loop-i l = (l.i ≤ length l.initial.into) × (length l.into ≡ length l.initial.into)
-
-abbrev pub decreases-loop-i : goal.decreases-loop-i
-decreases-loop-i l = length l.initial.into - l.i
