@@ -2,7 +2,6 @@
 use Rattle.std.specs.Prelude.{ℕ, suc, ◌*◌, ◌<◌, ◌≤◌, ◌≡◌, Bool, true, ◌&&◌, ◌||◌, List, [], ◌∷◌, ◌++◌, length, leb, eqb, Float}
 use Rattle.std.proofs.Common.{arith, sym, ap, ◌∙◌, eqb-true}
 use Rattle.rules.specs.declared.Shape.{Shape}
-use Rattle.rules.specs.declared.Tapes.{Tapes}
 use Rattle.rules.specs.declared.TapeStarts.{TapeStarts}
 use Rattle.rules.specs.Words.{from, total}
 use Rattle.rules.specs.Lent.{Given, TreeRooms, ForestRooms, WaitingRoom, waiting_room, unweighted, shortest_of_eight}
@@ -97,17 +96,16 @@ tree-same S G L C R h =
 -- ---- a forest
 
 -- the parts of both tapes start where they may
-abbrev pub parted : ℕ → Tapes → TapeStarts → Bool
-parted trees tapes parts =
-    good_tape_starts trees (length tapes.words.now) parts.words.now && good_tape_starts trees (length tapes.thresholds.now) parts.thresholds.now
+abbrev pub parted : ℕ → ℕ → ℕ → TapeStarts → Bool
+parted trees words thresholds parts = good_tape_starts trees words parts.words.now && good_tape_starts trees thresholds parts.thresholds.now
 
--- what a forest's checks are handed besides: both tapes with the starts of their parts, the lengths of the start table and of the report columns
-pub record ForestHas (S : Shape) (n : ℕ) (G : Given) (D : Tapes) (B : TapeStarts) (L : Lengths) (s : ℕ) (P : ReportLengths) (C : ForestCall) (R : ForestRooms WaitingRoom) : Type 0 where
+-- what a forest's checks are handed besides: how long both tapes are and the starts of their parts, the lengths of the start table and of the report columns
+pub record ForestHas (S : Shape) (n : ℕ) (G : Given) (w t : ℕ) (B : TapeStarts) (L : Lengths) (s : ℕ) (P : ReportLengths) (C : ForestCall) (R : ForestRooms WaitingRoom) : Type 0 where
   pub shape : S ≡ C.shape
   pub trees : n ≡ C.trees
   pub given : G ≡ C.given
-  pub words : length D.words.now ≡ length C.words
-  pub thresholds : length D.thresholds.now ≡ length C.thresholds
+  pub words : w ≡ length C.words
+  pub thresholds : t ≡ length C.thresholds
   pub word_starts : B.words.now ≡ C.word_starts
   pub threshold_starts : B.thresholds.now ≡ C.threshold_starts
   pub nodes : L.nodes ≡ shortest_of_eight R.nodes R.behind
@@ -123,14 +121,14 @@ forest-room-is C =
     ∙ sym (total-map room_for (one_tree_at C) (from 0 C.trees))
 
 -- its tests are the call's
-pub forest-same : (S : Shape) (n : ℕ) (G : Given) (D : Tapes) (B : TapeStarts) (L : Lengths) (s : ℕ) (P : ReportLengths) (C : ForestCall) (R : ForestRooms WaitingRoom)
-    → ForestHas S n G D B L s P C R
-    → checked (all_tests (shape_in S && trees_in n) (lengths S n G && parted n D B) (numbers_good G) (counts_good G && counts_one G)
+pub forest-same : (S : Shape) (n : ℕ) (G : Given) (w t : ℕ) (B : TapeStarts) (L : Lengths) (s : ℕ) (P : ReportLengths) (C : ForestCall) (R : ForestRooms WaitingRoom)
+    → ForestHas S n G w t B L s P C R
+    → checked (all_tests (shape_in S && trees_in n) (lengths S n G && parted n w t B) (numbers_good G) (counts_good G && counts_one G)
     (order_tests S G.inputs.values G.inputs.listings)
     (leb (rooms_in S.rows n G.weights G.counts) L.nodes && (work_enough waiting_room S R.work && (leb (suc n) s && reports_exact n R.reports))))
     ≡ checked (forest_tests waiting_room C R)
 unfolding forest_tests tapes_good rooms_good
-forest-same S n G D B L s P C R h =
+forest-same S n G w t B L s P C R h =
     (λ i. checked (all_tests (shape_in (h.shape i) && trees_in (h.trees i))
     (lengths (h.shape i) (h.trees i) (h.given i) && (good_tape_starts (h.trees i) (h.words i) (h.word_starts i) && good_tape_starts (h.trees i) (h.thresholds i) (h.threshold_starts i)))
     (numbers_good (h.given i)) (counts_good (h.given i) && counts_one (h.given i)) (order_tests (h.shape i) (h.given i).inputs.values (h.given i).inputs.listings)

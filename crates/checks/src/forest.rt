@@ -8,7 +8,7 @@ ghost use Rattle.checks.specs.Asks.{Ranges};
 ghost use Rattle.checks.specs.Verdicts.{ForestHas, parted};
 
 use crate::{Lengths, ReportLengths};
-use rules::{Checked, Input, Shape, TapeStarts, Tapes};
+use rules::{Checked, Input, Shape, TapeStarts};
 
 pub fn forest_in(shape: Shape, trees: usize) -> bool
     ensures { result ≡ (shape_in shape && trees_in trees) }
@@ -16,19 +16,26 @@ pub fn forest_in(shape: Shape, trees: usize) -> bool
     crate::shape_in(shape) && crate::trees_in(trees)
 }
 
-fn both_tapes(trees: usize, tapes: &Tapes, parts: &TapeStarts) -> bool
+fn both_tapes(trees: usize, words: usize, thresholds: usize, parts: &TapeStarts) -> bool
     requires { trees ≤ 1024 }
-    ensures { result ≡ parted trees tapes.now parts.now }
+    ensures { result ≡ parted trees words thresholds parts.now }
 {
-    crate::inputs::tape_starts_good(trees, tapes.words.len(), parts.words)
-        && crate::inputs::tape_starts_good(trees, tapes.thresholds.len(), parts.thresholds)
+    crate::inputs::tape_starts_good(trees, words, parts.words)
+        && crate::inputs::tape_starts_good(trees, thresholds, parts.thresholds)
 }
 
-fn forest_long(shape: Shape, trees: usize, input: &Input, tapes: &Tapes, parts: &TapeStarts) -> bool
+fn forest_long(
+    shape: Shape,
+    trees: usize,
+    input: &Input,
+    words: usize,
+    thresholds: usize,
+    parts: &TapeStarts,
+) -> bool
     requires { Ranges shape trees }
-    ensures { result ≡ (lengths shape trees (given_in input.now) && parted trees tapes.now parts.now) }
+    ensures { result ≡ (lengths shape trees (given_in input.now) && parted trees words thresholds parts.now) }
 {
-    crate::inputs::lengths_good(shape, trees, input) && both_tapes(trees, tapes, parts)
+    crate::inputs::lengths_good(shape, trees, input) && both_tapes(trees, words, thresholds, parts)
 }
 
 #[tactic(auto, unfolding(rules::specs::Checks::counts_good, rules::specs::Checks::counts_one))]
@@ -43,18 +50,22 @@ pub fn forest_verdict(
     shape: Shape,
     trees: usize,
     input: &Input,
-    tapes: &Tapes,
+    words: usize,
+    thresholds: usize,
     parts: &TapeStarts,
     room: Lengths,
     starts: usize,
     reports: ReportLengths,
 ) -> Checked
     ensures { (C : ForestCall) (R : ForestRooms WaitingRoom)
-        → ForestHas shape trees (given_in input.now) tapes.now parts.now room starts reports C R
+        → ForestHas shape trees (given_in input.now) words thresholds parts.now room starts reports C R
         → result ≡ checked (forest_tests waiting_room C R) }
 {
     crate::need(1, forest_in(shape, trees))?;
-    crate::need(2, forest_long(shape, trees, input, tapes, parts))?;
+    crate::need(
+        2,
+        forest_long(shape, trees, input, words, thresholds, parts),
+    )?;
     crate::need(3, crate::inputs::numbers_good(input))?;
     crate::need(4, forest_counts(input))?;
     listings::first_fault(shape, input.values, input.listings)?;

@@ -2,17 +2,18 @@
 #![tactic(auto)]
 
 use checks::Lengths;
+use console::Console;
 use rules::{Checked, Input, NodeReply, Refusal, Reply, Shape, Table, Trees};
-use std::io;
+use std::fmt::Write;
 
-fn tell(rt: &impl Print, n: u32) -> io::Result<()> {
-    println!(rt; "{n}")
+fn tell(out: &mut Console, n: u32) {
+    let _ = writeln!(out, "{n}");
 }
 
 // What a check tells: number, part, place and row.
-fn tell_all(rt: &impl Print, c: Checked) -> io::Result<()> {
+fn tell_all(out: &mut Console, c: Checked) {
     let Err(r) = c else {
-        return tell(rt, 0);
+        return tell(out, 0);
     };
     let Refusal {
         number,
@@ -20,7 +21,7 @@ fn tell_all(rt: &impl Print, c: Checked) -> io::Result<()> {
         place,
         row,
     } = r;
-    println!(rt; "{number} {part} {place} {row}")
+    let _ = writeln!(out, "{number} {part} {place} {row}");
 }
 
 fn number_of(r: Reply) -> u32 {
@@ -38,30 +39,28 @@ fn node_number(r: NodeReply) -> u32 {
 
 // ---- listings, over x = 1, 2, 3, 4
 
-fn listing(rt: &impl Print, l: [u32; 4]) -> io::Result<()> {
+fn listing(out: &mut Console, l: [u32; 4]) {
     let x = [1.0, 2.0, 3.0, 4.0];
     let shape = Shape {
         rows: 4,
         features: 1,
     };
-    tell_all(rt, checks::listing::check_listings(shape, &x, &l))?;
-    Ok(())
+    tell_all(out, checks::listing::check_listings(shape, &x, &l));
 }
 
-fn listings(rt: &impl Print) -> io::Result<()> {
-    listing(rt, [0, 1, 2, 3])?;
+fn listings(out: &mut Console) {
+    listing(out, [0, 1, 2, 3]);
     // P10
-    listing(rt, [0, 1, 1, 3])?;
+    listing(out, [0, 1, 1, 3]);
     // a row out of range
-    listing(rt, [0, 1, 2, 4])?;
+    listing(out, [0, 1, 2, 4]);
     // a value that falls
-    listing(rt, [0, 2, 1, 3])?;
-    Ok(())
+    listing(out, [0, 2, 1, 3]);
 }
 
 // ---- P1's input, by node room
 
-fn fitting(rt: &impl Print, nodes: usize, count: u32) -> io::Result<()> {
+fn fitting(out: &mut Console, nodes: usize, count: u32) {
     let input = Input {
         values: &[1.0, 2.0, 3.0, 4.0],
         targets: &[0.0, 0.0, 10.0, 10.0],
@@ -80,22 +79,20 @@ fn fitting(rt: &impl Print, nodes: usize, count: u32) -> io::Result<()> {
         flags: 4,
         waiting: 4,
     };
-    tell_all(rt, checks::tree::tree_verdict(shape, &input, room))?;
-    Ok(())
+    tell_all(out, checks::tree::tree_verdict(shape, &input, room));
 }
 
-fn fits(rt: &impl Print) -> io::Result<()> {
-    fitting(rt, 6, 1)?;
-    fitting(rt, 7, 1)?;
+fn fits(out: &mut Console) {
+    fitting(out, 6, 1);
+    fitting(out, 7, 1);
     // three rows kept
-    fitting(rt, 5, 0)?;
-    fitting(rt, 7, 65536)?;
-    Ok(())
+    fitting(out, 5, 0);
+    fitting(out, 7, 65536);
 }
 
 // ---- a tree of three nodes, over two features
 
-fn tree(rt: &impl Print, feature: u32, truechild: u32, falsechild: u32) -> io::Result<()> {
+fn tree(out: &mut Console, feature: u32, truechild: u32, falsechild: u32) {
     let table = Table {
         value: &[5.0, 0.0, 10.0],
         feature: &[feature, 0, 0],
@@ -104,27 +101,25 @@ fn tree(rt: &impl Print, feature: u32, truechild: u32, falsechild: u32) -> io::R
         truechild: &[truechild, 0, 0],
         falsechild: &[falsechild, 0, 0],
     };
-    tell(rt, number_of(tables::check_tree(2, &table)))?;
-    tell(rt, node_number(tables::read_node(2, &table, 2)))?;
-    Ok(())
+    tell(out, number_of(tables::check_tree(2, &table)));
+    tell(out, node_number(tables::read_node(2, &table, 2)));
 }
 
-fn trees(rt: &impl Print) -> io::Result<()> {
-    tree(rt, 1, 1, 2)?;
+fn trees(out: &mut Console) {
+    tree(out, 1, 1, 2);
     // one child 0
-    tree(rt, 1, 1, 0)?;
-    tree(rt, 1, 0, 2)?;
+    tree(out, 1, 1, 0);
+    tree(out, 1, 0, 2);
     // the false child is not the next
-    tree(rt, 1, 1, 1)?;
+    tree(out, 1, 1, 1);
     // a feature out of range
-    tree(rt, 2, 1, 2)?;
+    tree(out, 2, 1, 2);
     // children at the largest number
-    tree(rt, 1, 4294967295, 0)?;
-    tree(rt, 1, 4294967294, 4294967295)?;
-    Ok(())
+    tree(out, 1, 4294967295, 0);
+    tree(out, 1, 4294967294, 4294967295);
 }
 
-fn no_tree(rt: &impl Print) -> io::Result<()> {
+fn no_tree(out: &mut Console) {
     let table = Table {
         value: &[],
         feature: &[],
@@ -133,13 +128,12 @@ fn no_tree(rt: &impl Print) -> io::Result<()> {
         truechild: &[],
         falsechild: &[],
     };
-    tell(rt, number_of(tables::check_tree(1, &table)))?;
-    Ok(())
+    tell(out, number_of(tables::check_tree(1, &table)));
 }
 
 // ---- a forest of two leaves
 
-fn forest(rt: &impl Print, starts: [u32; 3]) -> io::Result<()> {
+fn forest(out: &mut Console, starts: [u32; 3]) {
     let reals = [0.0, 0.0];
     let wholes = [0u32, 0];
     let table = Table {
@@ -155,30 +149,26 @@ fn forest(rt: &impl Print, starts: [u32; 3]) -> io::Result<()> {
         starts: &starts,
         table,
     };
-    tell(rt, number_of(tables::check_forest(1, &forest)))?;
-    Ok(())
+    tell(out, number_of(tables::check_forest(1, &forest)));
 }
 
-fn forests(rt: &impl Print) -> io::Result<()> {
-    forest(rt, [0, 1, 2])?;
+fn forests(out: &mut Console) {
+    forest(out, [0, 1, 2]);
     // starts that fall, stay, go past the end, do not begin at 0
-    forest(rt, [0, 2, 1])?;
-    forest(rt, [0, 0, 2])?;
-    forest(rt, [0, 1, 3])?;
-    forest(rt, [1, 1, 2])?;
-    Ok(())
+    forest(out, [0, 2, 1]);
+    forest(out, [0, 0, 2]);
+    forest(out, [0, 1, 3]);
+    forest(out, [1, 1, 2]);
 }
 
-fn run(rt: &impl Print) -> io::Result<()> {
-    listings(rt)?;
-    fits(rt)?;
-    trees(rt)?;
-    no_tree(rt)?;
-    forests(rt)?;
-    Ok(())
+fn run(out: &mut Console) {
+    listings(out);
+    fits(out);
+    trees(out);
+    no_tree(out);
+    forests(out);
 }
 
-// An output that takes no more ends what is told, and is no error.
-fn main(rt: HostRuntime) {
-    let _ = run(&rt);
+fn main() {
+    run(&mut Console);
 }

@@ -1,10 +1,9 @@
 -- One tree of a forest: its own counts, its own part of both tapes, and the node columns from its place on. Assumes nothing.
 use Rattle.std.specs.Prelude.{ℕ, ◌+◌, ◌-◌, ◌*◌, ◌<◌, ◌≤◌, ◌≡◌, List, ◌++◌, length, take, drop, Result, Ok, Err, MatchResult, IsErrAnd}
-use Rattle.std.proofs.Common.{add-one, sym, ◌∙◌, append-nil, length-append, length-drop, drop_of_length-le, take_all, take_at, drop_at, length-take-le}
+use Rattle.std.proofs.Common.{add-one, sym, ◌∙◌, append-nil, length-drop, drop_of_length-le, take_all, take_at, drop_at, length-take-le}
 use native.Mathlib.Omega.{arith}
 use Rattle.std.proofs.Math.Path.{ap, subst}
 use Rattle.std.proofs.Math.ListN.{get_or}
-use Rattle.std.proofs.Math.Seq.{length_front}
 use Rattle.std.proofs.lemmas.Result.{err_from_is_err_and}
 use Rattle.rules.specs.declared.Place.{Place}
 use Rattle.rules.specs.declared.Report.{Report}
@@ -15,9 +14,9 @@ use Rattle.node_entries.specs.Entries.{NodeRoom, LongRoom}
 use Rattle.tree_growth.specs.Places.{WorkLengths}
 use Rattle.tree_report.specs.Report.{Planted}
 use Rattle.tree_build.specs.Plant.{one_tree_in, PlantDone}
-use Rattle.std.specs.declared.ops.Range.{Range}
+use Rattle.forest_parts.specs.declared.Span.{Span}
 use Rattle.forest_parts.specs.declared.Parts.{Parts}
-use Rattle.forest_parts.specs.Parts.{PartsAsk, parts_at}
+use Rattle.forest_parts.specs.Parts.{parts_at}
 use Rattle.forest_build.specs.Lot.{Lot, lot_tree, PlantIn}
 use Rattle.forest_build.specs.Columns.{columnwise, each, drop_all, take_each, columns-same}
 
@@ -75,7 +74,7 @@ columns-back : (at : ℕ) (c l : NodeRoom) → LongRoom at c → drop_all at (ba
 columns-back at c l h = columns-same (λ A k last. drop at (back at k last)) (λ A k last. last) at (λ A. back-drop at) c l h
 
 -- a part that the code lends of a list
-abbrev pub lent {ℓ} : {A : Type ℓ} → Range ℕ → List A → List A
+abbrev pub lent {ℓ} : {A : Type ℓ} → Span → List A → List A
 lent p l = take (p.end - p.start) (drop p.start l)
 
 -- the tree as the code lends it

@@ -8,6 +8,7 @@ ghost use Rattle.tree_growth.specs.Places.{work_lengths};
 ghost use Rattle.tree_build.specs.Plant.{tree_for, data_for, PlantDone};
 ghost use Rattle.forest_build.specs.Lot.{lot_in, PlantIn};
 ghost use Rattle.forest_build.specs.Next.{NextAsks, NextDone};
+ghost use Rattle.forest_build.specs.Told.{told_of};
 ghost use Rattle.forest_build.specs.All.{AllAsks, AllDone};
 
 use forest_parts::Parts;
@@ -21,8 +22,22 @@ pub struct GrownTree {
     pub end: u32,
 }
 
-// The trees that are grown, in as many places as there may be trees (there is no heap); or where a bad draw was met.
-pub type Told = Result<[GrownTree; 1024], Place>;
+// No tree yet.
+pub const BLANK: GrownTree = GrownTree {
+    report: Report {
+        nodes: 0,
+        depth: 0,
+        mass: 0.0,
+        searches: 0,
+        words: 0,
+        thresholds: 0,
+    },
+    end: 0,
+};
+
+// The trees are grown, and stand in the places that were lent for them; or where a bad draw was met. They are lent, as many as there may be trees (there is no heap): as an answer
+// they would be copied from caller to caller, each time to another part of the stack.
+pub type Told = Result<(), Place>;
 
 // A tree in node columns that come one by one: of a room that is lent the ends of its columns can be lent, but not as a room.
 fn plant_in<'a>(
@@ -88,12 +103,12 @@ pub fn plant_next(
         thresholds,
     } = forest_parts::parts_of(parts, shape.rows, t);
     let own = Input {
-        counts: &input.counts[counts],
+        counts: &input.counts[counts.start..counts.end],
         ..*input
     };
     let drawn = Tapes {
-        words: &tapes.words[words],
-        thresholds: &tapes.thresholds[thresholds],
+        words: &tapes.words[words.start..words.end],
+        thresholds: &tapes.thresholds[thresholds.start..thresholds.end],
     };
     plant_in(
         &mut nodes.value[at..],
@@ -118,6 +133,7 @@ pub fn plant_next(
 
 // Tree after tree, from the first to the last or to a bad draw.
 pub fn plant_all(
+    grown: &mut [GrownTree; 1024],
     nodes: &mut NodeRoom,
     work: &mut WorkRoom,
     input: &Input,
@@ -132,20 +148,8 @@ pub fn plant_all(
     ensures same_work { SameWork work.old work.new }
     ensures nodes_long { node_lengths (room_in nodes.new) ≡ node_lengths (room_in nodes.old) }
     ensures work_long { work_lengths work.new ≡ work_lengths work.old }
-    ensures done { AllDone trees (lot_in input.now tapes.now parts.now shape p) (room_in nodes.old) (room_in nodes.new) result }
+    ensures done { AllDone trees (lot_in input.now tapes.now parts.now shape p) (room_in nodes.old) (room_in nodes.new) (told_of result grown.new) }
 {
-    let blank = Report {
-        nodes: 0,
-        depth: 0,
-        mass: 0.0,
-        searches: 0,
-        words: 0,
-        thresholds: 0,
-    };
-    let mut grown = [GrownTree {
-        report: blank,
-        end: 0,
-    }; 1024];
     let mut at: usize = 0;
     for t in 0..trees {
         let report = plant_next(nodes, work, input, tapes, parts, shape, p, t, at)?;
@@ -155,5 +159,5 @@ pub fn plant_all(
             end: at as u32,
         };
     }
-    Ok(grown)
+    Ok(())
 }

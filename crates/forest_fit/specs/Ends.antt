@@ -117,8 +117,10 @@ report_lengths r =
     }
 
 -- the call and the rooms are as long as the checks are handed
-has : (d : Input) (w : Tapes) (p : TapeStarts) (shape : Shape) (trees : ℕ) (settings : Settings) (tried : Option ℕ) (n : N.NodeRoom) (starts : List ℕ) (r : ReportRoom) (k : WorkRoom)
-    → ForestHas shape trees (given_in d) w p (room_lengths n k) (length starts) (report_lengths r) (call_in d w p shape trees settings tried) (rooms_in n starts r k)
+has : (d : Input) (w : Tapes) (p : TapeStarts) (shape : Shape) (trees : ℕ) (settings : Settings) (tried : Option ℕ) (n : N.NodeRoom) (starts : List ℕ) (r : ReportRoom)
+    (k : WorkRoom)
+    → ForestHas shape trees (given_in d) (length w.words.now) (length w.thresholds.now) p (room_lengths n k) (length starts) (report_lengths r)
+    (call_in d w p shape trees settings tried) (rooms_in n starts r k)
 has d w p shape trees settings tried n starts r k =
     record {
       shape = refl;
@@ -144,14 +146,18 @@ module _ (C : ForestCall) (R : ForestRooms WaitingRoom) where
   ready-refused (Err r) h e is = let same : FitError.Refused r ≡ e = cc in subst (λ z. outcome_of (Err z) R ≡ fit_forest waiting_room C R) same (fit_refused C R r h)
 
 -- readiness is told of every call and rooms that are as long as the checks are handed, so of those that are lent
-module _ (d : Input) (w : Tapes) (p : TapeStarts) (shape : Shape) (trees : ℕ) (settings : Settings) (tried : Option ℕ) (n : N.NodeRoom) (starts : List ℕ) (r : ReportRoom) (k : WorkRoom)
+module _ (d : Input) (w : Tapes) (p : TapeStarts) (shape : Shape) (trees : ℕ) (settings : Settings) (tried : Option ℕ) (n : N.NodeRoom) (starts : List ℕ) (r : ReportRoom)
+    (k : WorkRoom)
     (L : Lengths) (el : L ≡ room_lengths n k) (P : ReportLengths) (ep : P ≡ report_lengths r) (o : Result Growing Refusal)
-    (h : (C : ForestCall) (R : ForestRooms WaitingRoom) → ForestHas shape trees (given_in d) w p L (length starts) P C R → settings ≡ C.settings → tried ≡ C.tried → Ready C R o) where
+    (h : (C : ForestCall) (R : ForestRooms WaitingRoom) → ForestHas shape trees (given_in d) (length w.words.now) (length w.thresholds.now) p L (length starts) P C R → settings
+    ≡ C.settings → tried ≡ C.tried → Ready C R o) where
   told : Ready (call_in d w p shape trees settings tried) (rooms_in n starts r k) o
   told =
       h (call_in d w p shape trees settings tried) (rooms_in n starts r k)
-      (subst (λ z. ForestHas shape trees (given_in d) w p z (length starts) P (call_in d w p shape trees settings tried) (rooms_in n starts r k)) (sym el)
-      (subst (λ z. ForestHas shape trees (given_in d) w p (room_lengths n k) (length starts) z (call_in d w p shape trees settings tried) (rooms_in n starts r k)) (sym ep)
+      (subst (λ z. ForestHas shape trees (given_in d) (length w.words.now) (length w.thresholds.now) p z (length starts) P (call_in d w p shape trees settings tried)
+      (rooms_in n starts r k)) (sym el)
+      (subst (λ z. ForestHas shape trees (given_in d) (length w.words.now) (length w.thresholds.now) p (room_lengths n k) (length starts) z
+      (call_in d w p shape trees settings tried) (rooms_in n starts r k)) (sym ep)
       (has d w p shape trees settings tried n starts r k))) refl refl
 
   pub grows-in : {a : Result Growing FitError} → a ≡ refused o → {g : Growing} → a ≡ Ok g → Grows (call_in d w p shape trees settings tried) (rooms_in n starts r k) g

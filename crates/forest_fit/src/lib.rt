@@ -65,7 +65,8 @@ pub fn fit_forest(
     let columns = report_lengths(reports);
     let ready = forest_ready::ready(
         input,
-        tapes,
+        tapes.words.len(),
+        tapes.thresholds.len(),
         parts,
         shape,
         trees,
@@ -77,7 +78,9 @@ pub fn fit_forest(
     );
     let growing = ready.map_err(FitError::Refused)?;
     rooms::values_fit(input.values);
+    let mut grown = [forest_build::BLANK; 1024];
     let told = forest_grow::grow(
+        &mut grown,
         nodes,
         work,
         input,
@@ -88,5 +91,5 @@ pub fn fit_forest(
         trees,
         growing.size,
     );
-    forest_reports::tell(starts, reports, trees, &told)
+    forest_reports::tell(starts, reports, &grown, trees, &told)
 }

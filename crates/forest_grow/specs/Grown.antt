@@ -1,12 +1,14 @@
 -- Grown trees, and the rooms as they are left. Assumes nothing.
-use Rattle.std.specs.Prelude.{ℕ, Bool, Float, ◌≤◌, ◌≡◌, List, length, Ok, Err}
+use Rattle.std.specs.Prelude.{ℕ, Bool, Float, ◌≤◌, ◌≡◌, refl, List, length, Result, Ok, Err}
 use Rattle.std.proofs.Common.{ap, ◌∙◌}
 use Rattle.rules.specs.Lent.{Work, WaitingRoom, waiting_room, zero_columns, zero_behind, zero_work}
 use Rattle.rules.specs.Forest.{stopped, grow_trees}
 use Rattle.rooms.specs.Zero.{WorkLong, nodes-zero, behind-zero, work-zero}
 use Rattle.node_entries.specs.Entries.{NodeRoom, NodeLengths, node_lengths}
 use Rattle.tree_growth.specs.Places.{WorkLengths}
-use Rattle.forest_build.specs.Told.{Told}
+use Rattle.rules.specs.declared.Place.{Place}
+use Rattle.forest_build.specs.declared.GrownTree.{GrownTree}
+use Rattle.forest_build.specs.Told.{Told, told_of}
 use Rattle.forest_build.specs.Lot.{Lot, lot_trees}
 use Rattle.forest_build.specs.All.{AllAsks, AllGrown, AllDone}
 
@@ -15,9 +17,9 @@ abbrev pub zero_nodes : NodeRoom → NodeRoom
 zero_nodes c = record { nodes = zero_columns c.nodes; behind = zero_behind c.behind }
 
 -- the node room as it is left
-abbrev pub nodes_left : Told → NodeRoom → NodeRoom
+abbrev pub nodes_left : {A : Type 0} → Result A Place → NodeRoom → NodeRoom
 nodes_left (Err d) c = zero_nodes c
-nodes_left (Ok gs) c = c
+nodes_left (Ok _) c = c
 
 -- how long work slices are
 abbrev pub lengths_of : List ℕ → List ℕ → List Bool → List (List ℕ) → List (List Float) → WorkLengths
@@ -63,6 +65,12 @@ left_by trees L c c₁ c' l (Err d) a e =
     (a, e ∙ room-zero c c₁ l)
 left_by trees L c c₁ c' l (Ok gs) a e = record { trees = a.trees; same = a.same; nodes = e ∙ a.nodes; reports = a.reports; starts = a.starts }
 
-pub grow-done : (trees : ℕ) (L : Lot) (c c₁ c' : NodeRoom) (w w₁ w' : Work WaitingRoom) (told : Told) → node_lengths c₁ ≡ node_lengths c → WorkLong w w₁ → AllDone trees L c c₁ told
-    → w' ≡ zero_work waiting_room w₁ → c' ≡ nodes_left told c₁ → GrowDone trees L c c' w w' told
-grow-done trees L c c₁ c' w w₁ w' told lc lw d ew ec = record { work = ew ∙ work-zero w w₁ lw; left = left_by trees L c c₁ c' lc told d ec }
+-- what is left goes by the answer alone
+by-answer : (r : Result (Unit {0}) Place) (gs : List GrownTree) (c : NodeRoom) → nodes_left r c ≡ nodes_left (told_of r gs) c
+by-answer (Ok u) gs c = refl
+by-answer (Err d) gs c = refl
+
+pub grow-done : (trees : ℕ) (L : Lot) (c c₁ c' : NodeRoom) (w w₁ w' : Work WaitingRoom) (r : Result (Unit {0}) Place) (gs : List GrownTree) → node_lengths c₁ ≡ node_lengths c → WorkLong w w₁
+    → AllDone trees L c c₁ (told_of r gs) → w' ≡ zero_work waiting_room w₁ → c' ≡ nodes_left r c₁ → GrowDone trees L c c' w w' (told_of r gs)
+grow-done trees L c c₁ c' w w₁ w' r gs lc lw d ew ec =
+    record { work = ew ∙ work-zero w w₁ lw; left = left_by trees L c c₁ c' lc (told_of r gs) d (ec ∙ by-answer r gs c₁) }

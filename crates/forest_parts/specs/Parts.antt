@@ -1,8 +1,5 @@
 -- From where to where a tree has the counts and both tapes. Assumes nothing.
-use Rattle.std.specs.Prelude.{ℕ, ◌+◌, ◌*◌, ◌<◌, ◌≤◌, ◌≡◌, List, length, get_or}
-use Rattle.std.proofs.Common.{arith, ap}
-use Rattle.lemmas.specs.Passed.{PartAt}
-use Rattle.std.specs.declared.ops.Range.{Range}
+use Rattle.std.specs.Prelude.{ℕ, ◌+◌, ◌*◌, ◌<◌, List, length, get_or}
 use Rattle.forest_parts.specs.declared.Parts.{Parts}
 
 -- what the parts of tree t ask: rows that fit, and starts up to the next tree's

@@ -5,14 +5,20 @@ ghost use Rattle.std.specs.Prelude.{◌≡◌, ◌+◌, ◌<◌};
 ghost use Rattle.forest_parts.specs.Parts.{PartsAsk, parts_at};
 
 use rules::TapeStarts;
-use std::ops::Range;
+
+// From where to where; no `Range`, which cannot be copied.
+#[derive(Clone, Copy)]
+pub struct Span {
+    pub start: usize,
+    pub end: usize,
+}
 
 // From where to where a tree has the counts, the words and the thresholds.
-#[derive(Drop)]
+#[derive(Clone, Copy)]
 pub struct Parts {
-    pub counts: Range<usize>,
-    pub words: Range<usize>,
-    pub thresholds: Range<usize>,
+    pub counts: Span,
+    pub words: Span,
+    pub thresholds: Span,
 }
 
 pub fn parts_of(starts: &TapeStarts, rows: usize, t: usize) -> Parts
@@ -23,9 +29,18 @@ pub fn parts_of(starts: &TapeStarts, rows: usize, t: usize) -> Parts
     let words = starts.words;
     let thresholds = starts.thresholds;
     Parts {
-        counts: count..count + rows,
-        words: words[t]..words[t + 1],
-        thresholds: thresholds[t]..thresholds[t + 1],
+        counts: Span {
+            start: count,
+            end: count + rows,
+        },
+        words: Span {
+            start: words[t],
+            end: words[t + 1],
+        },
+        thresholds: Span {
+            start: thresholds[t],
+            end: thresholds[t + 1],
+        },
     }
 }
 

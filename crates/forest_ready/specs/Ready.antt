@@ -9,7 +9,6 @@ use Rattle.rules.specs.declared.Params.{Params}
 use Rattle.rules.specs.declared.Settings.{Settings}
 use Rattle.rules.specs.declared.Shape.{Shape}
 use Rattle.rules.specs.declared.Refusal.{Refusal}
-use Rattle.rules.specs.declared.Tapes.{Tapes}
 use Rattle.rules.specs.declared.TapeStarts.{TapeStarts}
 use Rattle.rules.specs.Words.{nought}
 use Rattle.rules.specs.Lent.{Given, ForestRooms, WaitingRoom, waiting_room, columns_of, behind_of, reports_of, work_of, forest_rooms_of}
@@ -39,9 +38,9 @@ Ready C R (Ok g) = Grows C R g
 
 -- ---- what is known of the shape alone: some rooms are as long as was said
 
-module _ (S : Shape) (n : ℕ) (G : Given) (D : Tapes) (B : TapeStarts) (L : Lengths) (s : ℕ) (P : ReportLengths) where
+module _ (S : Shape) (n : ℕ) (G : Given) (w t : ℕ) (B : TapeStarts) (L : Lengths) (s : ℕ) (P : ReportLengths) where
   some_call : Settings → Option ℕ → ForestCall
-  some_call settings tried = forest_call S n settings tried G D.words.now D.thresholds.now B.words.now B.thresholds.now
+  some_call settings tried = forest_call S n settings tried G (replicate w 0) (replicate t nought) B.words.now B.thresholds.now
 
   some_rooms : ForestRooms WaitingRoom
   some_rooms =
@@ -52,15 +51,15 @@ module _ (S : Shape) (n : ℕ) (G : Given) (D : Tapes) (B : TapeStarts) (L : Len
       (reports_of (replicate P.nodes 0) (replicate P.depth 0) (replicate P.mass nought) (replicate P.searches 0) (replicate P.words 0) (replicate P.thresholds 0))
       (work_of (replicate L.order 0) (replicate L.scratch 0) (replicate L.flags false) (replicate L.waiting []) (replicate L.waiting []))
 
-  some-has : (settings : Settings) (tried : Option ℕ) → ForestHas S n G D B L s P (some_call settings tried) some_rooms
+  some-has : (settings : Settings) (tried : Option ℕ) → ForestHas S n G w t B L s P (some_call settings tried) some_rooms
   unfolding some_call some_rooms
   some-has settings tried =
       record {
         shape = refl;
         trees = refl;
         given = refl;
-        words = refl;
-        thresholds = refl;
+        words = sym (length-replicate w 0);
+        thresholds = sym (length-replicate t nought);
         word_starts = refl;
         threshold_starts = refl;
         nodes =
@@ -88,7 +87,7 @@ module _ (S : Shape) (n : ℕ) (G : Given) (D : Tapes) (B : TapeStarts) (L : Len
       two : (k : ℕ) {a b : ℕ} → a ≡ k → b ≡ k → min a b ≡ k
       two k a b = omega arith
 
-  module _ (h : (C : ForestCall) (R : ForestRooms WaitingRoom) → ForestHas S n G D B L s P C R → (Ok tt) ≡ checked (forest_tests waiting_room C R))
+  module _ (h : (C : ForestCall) (R : ForestRooms WaitingRoom) → ForestHas S n G w t B L s P C R → (Ok tt) ≡ checked (forest_tests waiting_room C R))
       (settings : Settings) (tried : Option ℕ) where
     right : ForestPassed waiting_room (some_call settings tried) some_rooms
     right = forest-passed waiting_room (some_call settings tried) some_rooms (sym (h (some_call settings tried) some_rooms (some-has settings tried)))

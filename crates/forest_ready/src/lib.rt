@@ -9,7 +9,7 @@ ghost use Rattle.checks.specs.Verdicts.{ForestHas};
 ghost use Rattle.forest_ready.specs.Ready.{Ready};
 
 use checks::{Lengths, ReportLengths};
-use rules::{Input, Params, Refusal, Settings, Shape, TapeStarts, Tapes, Tried};
+use rules::{Input, Params, Refusal, Settings, Shape, TapeStarts, Tried};
 
 // How much of the order the trees are lent, and what they grow by.
 #[derive(Clone, Copy)]
@@ -21,7 +21,8 @@ pub struct Growing {
 // A refusal, or what is to be grown.
 pub fn ready(
     input: &Input,
-    tapes: &Tapes,
+    words: usize,
+    thresholds: usize,
     parts: &TapeStarts,
     shape: Shape,
     trees: usize,
@@ -32,10 +33,12 @@ pub fn ready(
     reports: ReportLengths,
 ) -> Result<Growing, Refusal>
     ensures { (C : ForestCall) (R : ForestRooms WaitingRoom)
-        → ForestHas shape trees (given_in input.now) tapes.now parts.now room starts reports C R
+        → ForestHas shape trees (given_in input.now) words thresholds parts.now room starts reports C R
         → settings ≡ C.settings → tried ≡ C.tried → Ready C R result }
 {
-    checks::forest::forest_verdict(shape, trees, input, tapes, parts, room, starts, reports)?;
+    checks::forest::forest_verdict(
+        shape, trees, input, words, thresholds, parts, room, starts, reports,
+    )?;
     let m = criterion::tried_of(shape.features as u32, tried);
     Ok(Growing {
         size: shape.features * shape.rows,

@@ -1,6 +1,6 @@
 -- The start table and the report columns: one tree more, and all of them. Assumes nothing.
 use Rattle.std.specs.Prelude.{ℕ, suc, ◌+◌, ◌<◌, ◌≤◌, ◌≡◌, List, [], ◌∷◌, ◌++◌, map, length, get_or, set, take, drop, Ok, Err}
-use Rattle.std.proofs.Common.{add-one, arith, sym, ap, ◌∙◌, subst, append_assoc, length-append, length-set, drop-cons, drop-set-lt, take-suc, take_all, length-take-le}
+use Rattle.std.proofs.Common.{add-one, arith, sym, ap, ◌∙◌, subst, append_assoc, length-append, length-set, drop-cons, take-suc, length-take-le}
 use Rattle.std.proofs.lemmas.List.{map-append, length-map, set_at}
 use Rattle.std.specs.Float.{nan}
 use Rattle.rules.specs.declared.Report.{Report}

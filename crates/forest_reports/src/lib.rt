@@ -5,7 +5,7 @@ ghost use Rattle.std.specs.Prelude.{◌≡◌, ◌+◌, set, map, ◌∷◌};
 ghost use Rattle.rules.specs.Words.{front};
 ghost use Rattle.rules.specs.Lent.{write_reports};
 ghost use Rattle.rules.specs.Slices.{reports_in, SameReports};
-ghost use Rattle.forest_build.specs.Told.{report_of, end_of};
+ghost use Rattle.forest_build.specs.Told.{report_of, end_of, told_of};
 ghost use Rattle.forest_reports.specs.Reports.{put_report, NextAsks, AllAsk, TellAsks, left_of, leaves};
 
 use forest_build::{GrownTree, Told};
@@ -42,11 +42,17 @@ fn note_all(starts: &mut [u32], room: &mut ReportRoom, trees: &[GrownTree])
 }
 
 // The start table and the reports of grown trees; a bad draw leaves them zero.
-pub fn tell(starts: &mut [u32], room: &mut ReportRoom, trees: usize, told: &Told) -> ForestAnswer
+pub fn tell(
+    starts: &mut [u32],
+    room: &mut ReportRoom,
+    grown: &[GrownTree; 1024],
+    trees: usize,
+    told: &Told,
+) -> ForestAnswer
     requires { TellAsks trees starts.old (reports_in room.old) }
     ensures same { SameReports room.old room.new }
     ensures left { left_of result starts.new (reports_in room.new)
-        ≡ leaves trees told.now starts.old (reports_in room.old) }
+        ≡ leaves trees (told_of told.now grown.now) starts.old (reports_in room.old) }
 {
     match told {
         Err(place) => {
@@ -54,7 +60,7 @@ pub fn tell(starts: &mut [u32], room: &mut ReportRoom, trees: usize, told: &Told
             rooms::zero_reports(room);
             Err(FitError::BadDraw(*place))
         }
-        Ok(grown) => {
+        Ok(()) => {
             note_all(starts, room, &grown[..trees]);
             Ok(())
         }

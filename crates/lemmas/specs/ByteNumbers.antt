@@ -50,7 +50,7 @@ number-below (b ∷ bs) e = subst (λ m. number_in bs * 256 + b < m) (sym (pow-s
 abbrev pub pattern_of : Float → ℕ
 pattern_of x = cond (is_nan x) the_nan (to_bits binary64 x)
 
-pattern-is : (x : Float) → pattern_of x ≡ to_bits binary64 x
+pub pattern-is : (x : Float) → pattern_of x ≡ to_bits binary64 x
 unfolding is_nan to_bits
 pattern-is nan = refl
 pattern-is (inf s) = refl

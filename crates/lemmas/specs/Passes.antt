@@ -211,6 +211,10 @@ module _ (features : ℕ) (es : List Entry) (good : T (good_tree features es))
   unfolding passes
   passes-root xs = starts (length es) es xs 0
 
+  pub level-root : level_in es 0 ≡ 1
+  unfolding level_in
+  level-root = up_root (length es) es
+
   -- the split that sends to node k is the only one, so the first
   sender-is : (k p : ℕ) → p < length es → T (sends_to k (node_on p)) → sender_from k 0 es ≡ p
   sender-is k p h t = first-sender k es 0 p h t none ∙ zero-add p

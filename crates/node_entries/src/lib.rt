@@ -2,6 +2,7 @@
 #![tactic(auto)]
 
 ghost use Rattle.std.specs.Prelude.{◌≡◌, ◌+◌, ◌<◌, length, set};
+ghost use Rattle.rules.specs.Lent.{columns_of};
 ghost use Rattle.rules.specs.Slices.{table_in, SameTable, SameNodes};
 ghost use Rattle.node_entries.specs.Entries.{wholes_of, reals_of, waiting_at, LongAll, put_entry, room_in, LongRoom, put_node, put_leaf, split_for, wrote_split};
 
@@ -63,34 +64,64 @@ pub fn top(wholes: &[[u32; 6]], reals: &[[f64; 3]], i: usize) -> WaitingNode
     }
 }
 
+// The entry at place i of six columns, which both rooms lend: a node room holds no table room (rules).
 #[tactic(auto, unfolding(crate::specs::Entries::put_entry))]
+fn put_six(
+    value: &mut [f64],
+    feature: &mut [u32],
+    threshold: &mut [f64],
+    score: &mut [f64],
+    truechild: &mut [u32],
+    falsechild: &mut [u32],
+    i: usize,
+    r: NodeEntry,
+)
+    requires { LongAll (i + 1) (columns_of value.old feature.old threshold.old score.old truechild.old falsechild.old) }
+    ensures { columns_of value.new feature.new threshold.new score.new truechild.new falsechild.new
+        ≡ put_entry i r (columns_of value.old feature.old threshold.old score.old truechild.old falsechild.old) }
+{
+    value[i] = r.value;
+    feature[i] = r.feature;
+    threshold[i] = r.threshold;
+    score[i] = r.score;
+    truechild[i] = r.truechild;
+    falsechild[i] = r.falsechild;
+}
+
 pub fn put_entry(room: &mut TableRoom, i: usize, r: NodeEntry)
     requires { LongAll (i + 1) (table_in room.old) }
     ensures same_slices { SameTable room.old room.new }
     ensures entry { table_in room.new ≡ put_entry i r (table_in room.old) }
 {
-    room.value[i] = r.value;
-    room.feature[i] = r.feature;
-    room.threshold[i] = r.threshold;
-    room.score[i] = r.score;
-    room.truechild[i] = r.truechild;
-    room.falsechild[i] = r.falsechild;
+    put_six(
+        room.value,
+        room.feature,
+        room.threshold,
+        room.score,
+        room.truechild,
+        room.falsechild,
+        i,
+        r,
+    );
 }
 
 // A node's entry, its count and its mass, at place i.
-#[tactic(auto, unfolding(crate::specs::Entries::put_node, crate::specs::Entries::put_entry))]
-// The six are written as in `put_entry`, since a node room holds no table room (rules).
+#[tactic(auto, unfolding(crate::specs::Entries::put_node))]
 pub fn put_node(room: &mut NodeRoom, i: usize, r: NodeEntry, k: u32, m: f64)
     requires { LongRoom (i + 1) (room_in room.old) }
     ensures same_slices { SameNodes room.old room.new }
     ensures node { room_in room.new ≡ put_node i r k m (room_in room.old) }
 {
-    room.value[i] = r.value;
-    room.feature[i] = r.feature;
-    room.threshold[i] = r.threshold;
-    room.score[i] = r.score;
-    room.truechild[i] = r.truechild;
-    room.falsechild[i] = r.falsechild;
+    put_six(
+        room.value,
+        room.feature,
+        room.threshold,
+        room.score,
+        room.truechild,
+        room.falsechild,
+        i,
+        r,
+    );
     room.count[i] = k;
     room.mass[i] = m;
 }

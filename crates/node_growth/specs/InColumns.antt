@@ -1,5 +1,5 @@
 -- A node in the work columns: its columns by its stretch, what a split leaves of them and of those below, and what a good node gives the code. Assumes nothing.
-use Rattle.std.specs.Prelude.{ℕ, zero, suc, ◌+◌, ◌-◌, ◌*◌, ◌<◌, ◌≤◌, ◌≡◌, refl, Bool, true, false, not, List, [], ◌∷◌, map, length, get_or, T, Float, Some, None}
+use Rattle.std.specs.Prelude.{ℕ, zero, suc, ◌+◌, ◌-◌, ◌*◌, ◌<◌, ◌≤◌, ◌≡◌, refl, Bool, true, false, not, List, [], ◌∷◌, map, length, get_or, T, Float, Some, None, Ok, Err}
 use Rattle.std.proofs.Common.{le_refl, le_trans, zero-add, arith, sym, ap, ◌∙◌, subst, length-take}
 use Rattle.std.proofs.lemmas.Simd.{map-map}
 use Rattle.std.proofs.lemmas.List.{length-map}
@@ -22,10 +22,10 @@ use Rattle.work_columns.specs.Split.{Alike, goes}
 use Rattle.work_columns.specs.Stretches.{part-every}
 use Rattle.criterion.specs.declared.Side.{Side}
 use Rattle.criterion.specs.Sides.{side_on}
-use Rattle.search.specs.Flat.{Tables, Shaped, element_of, Sorted, RowsFor, NodeAsks}
+use Rattle.search.specs.Flat.{Search, Tables, Shaped, element_of, Sorted, RowsFor, RowsAfter, NodeAsks}
 use Rattle.node_entries.specs.declared.WaitingNode.{WaitingNode}
 use Rattle.node_entries.specs.Entries.{waiting_at}
-use Rattle.node_growth.specs.Rooms.{Ground, cut_of, split_rows, count_of, truly, node_rows, waiting_of, waiting_list, Laid, BelowTo, RowsUnder, HeldIn}
+use Rattle.node_growth.specs.Rooms.{Ground, cut_of, split_rows, count_of, truly, node_rows, waiting_of, waiting_list, Laid, BelowTo, RowsUnder, HeldIn, RowsTo, FoundIn}
 
 -- the same over other work columns
 abbrev pub with_order : Ground → List ℕ → Ground
@@ -194,10 +194,18 @@ module _ (g : Ground) (a e : ℕ) (q : Side) (n : NodeAsks g.rows g.features a e
   pub held_for : (f : ℕ) → g.features ≡ f → (h : Held) (m : ℕ) → RowsFor f (node_rows g a e q) h m → HeldIn g a e q h m
   held_for f sm h m r = held_in h m (subst (λ k. RowsFor k (node_rows g a e q) h m) (sym sm) r)
 
+  pub found_in : (f : ℕ) → g.features ≡ f → (r : Search) → RowsAfter f (node_rows g a e q) r → FoundIn g a e q r
+  found_in f sm (Err b) h = tt
+  found_in f sm (Ok (c, d)) h = held_for f sm c.held c.rows h
+
 pub held-short : (g : Ground) (a e : ℕ) (q : Side) (h : Held) (m : ℕ) → HeldIn g a e q h m → RowsUnder e h m
 held-short g a e q None m k = tt
 held-short g a e q (Some (c, p)) m k =
     omega (arith, k.1, keep-short (goes (element_of g.features g.tables) c) (part g.rows c.feature a e g.order), part-short g.rows g.order a e c.feature)
+
+pub found-short : (g : Ground) (a e : ℕ) (q : Side) (r : Search) → FoundIn g a e q r → RowsTo e r
+found-short g a e q (Err b) k = tt
+found-short g a e q (Ok (h, d)) k = held-short g a e q h.held h.rows k
 
 -- ---- rows of a stretch
 

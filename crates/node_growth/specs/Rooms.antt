@@ -19,7 +19,7 @@ use Rattle.work_columns.specs.Split.{goes}
 use Rattle.criterion.specs.declared.Side.{Side}
 use Rattle.candidates.specs.declared.Candidate.{Candidate}
 use Rattle.search.specs.declared.Drawn.{Drawn}
-use Rattle.search.specs.Flat.{Tables, tables_of, Shaped, NodeAsks, element_of, node_rows_at, draws_at, Fair}
+use Rattle.search.specs.Flat.{Search, Tables, tables_of, Shaped, NodeAsks, element_of, node_rows_at, draws_at, Fair, meant, FairAfter}
 use Rattle.node_entries.specs.declared.WaitingNode.{WaitingNode}
 use Rattle.node_entries.specs.Entries.{NodeRoom, waiting_at, wrote_split}
 use Rattle.node_growth.specs.declared.Stand.{Stand}
@@ -133,14 +133,33 @@ abbrev pub HeldIn : Ground → ℕ → ℕ → Side → Held → ℕ → Type 0
 HeldIn g a e q None n = Unit {0}
 HeldIn g a e q (Some (c, p)) n = (q.count ≡ count_of g (part g.rows c.feature a e g.order)) × (n ≡ truly g c (part g.rows c.feature a e g.order))
 
--- what the search of c found is at the top of the list, or nothing was found
-pub record PushDone (wholes : List (List ℕ)) (reals : List (List Float)) (wholes' : List (List ℕ)) (reals' : List (List Float)) (n : ℕ) (c : Stretch) (h : Candidate) (d : Drawn)
+-- of what a search answered: its rows are no more than e
+abbrev pub RowsTo : ℕ → Search → Type 0
+RowsTo e (Err b) = Unit {0}
+RowsTo e (Ok (h, d)) = RowsUnder e h.held h.rows
+
+-- and they are those that go true
+abbrev pub FoundIn : Ground → ℕ → ℕ → Side → Search → Type 0
+FoundIn g a e q (Err b) = Unit {0}
+FoundIn g a e q (Ok (h, d)) = HeldIn g a e q h.held h.rows
+
+-- what the search of c held is at the top of the list, or nothing was held
+pub record HeldDone (wholes : List (List ℕ)) (reals : List (List Float)) (wholes' : List (List ℕ)) (reals' : List (List Float)) (n : ℕ) (c : Stretch) (h : Candidate) (d : Drawn)
     (s : Stand) : Type 0 where
   pub same : (g : Ground) → HeldIn g c.from c.to c.side h.held h.rows
       → joins c.node c.level (node_rows g c.from c.to c.side) (found h.held) ++ waiting_list g wholes reals n ≡ waiting_list g wholes' reals' s.waiting
   pub laid : (g : Ground) (low : ℕ) → HeldIn g c.from c.to c.side h.held h.rows → Laid g wholes reals low n → n ≤ c.from → low ≤ c.from → c.from ≤ c.to → Laid g wholes' reals' c.to s.waiting
   pub most : s.waiting ≤ n + 1
   pub drawn : s.drawn ≡ d
+
+-- the same of what it answered, a bad draw too, where d is how far the tapes were used before it
+pub record PushDone (wholes : List (List ℕ)) (reals : List (List Float)) (wholes' : List (List ℕ)) (reals' : List (List Float)) (n : ℕ) (c : Stretch) (d : Drawn) (r : Search)
+    (s : Step) : Type 0 where
+  pub same : (g : Ground) (W : List ℕ) (M : List Float) → FoundIn g c.from c.to c.side r
+      → bind (meant W M d r) (λ o. ok (joins c.node c.level (node_rows g c.from c.to c.side) o.0 ++ waiting_list g wholes reals n, o.1)) ≡ meant_step g W M wholes' reals' s
+  pub laid : (g : Ground) (low : ℕ) → FoundIn g c.from c.to c.side r → Laid g wholes reals low n → n ≤ c.from → low ≤ c.from → c.from ≤ c.to → LaidStep g wholes' reals' c.to s
+  pub most : MostStep (n + 1) s
+  pub fair : (W : List ℕ) → FairAfter W r → FairStep W s
 
 -- what the search of a child asks
 pub record ChildAsks (g : Ground) (P : Params) (W : List ℕ) (c : Stretch) (s : Stand) (room_wholes room_reals : ℕ) : Type 0 where

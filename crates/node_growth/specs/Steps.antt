@@ -13,12 +13,12 @@ use Rattle.candidates.specs.declared.Candidate.{Candidate}
 use Rattle.candidates.specs.Held.{bare}
 use Rattle.search.specs.declared.Drawn.{Drawn}
 use Rattle.search.specs.declared.BadDraw.{BadDraw}
-use Rattle.search.specs.Flat.{draws_at, Fair, Searched}
+use Rattle.search.specs.Flat.{Search, draws_at, Fair, Searched}
 use Rattle.node_entries.specs.declared.WaitingNode.{WaitingNode}
 use Rattle.node_entries.specs.Entries.{wholes_of, reals_of, waiting_in, waiting_at}
 use Rattle.node_growth.specs.declared.Stand.{Stand}
 use Rattle.node_growth.specs.declared.Stretch.{Stretch}
-use Rattle.node_growth.specs.Rooms.{Ground, node_rows, waiting_of, waiting_list, Sized, Laid, RowsUnder, HeldIn, PushDone, ChildDone}
+use Rattle.node_growth.specs.Rooms.{Ground, node_rows, waiting_of, waiting_list, Sized, Laid, Step, FoundIn, HeldDone, PushDone, ChildDone}
 
 waiting_kept : (wholes : List (List ℕ)) (reals : List (List Float)) (n i : ℕ) (w : List ℕ) (r : List Float) → i < n → waiting_at (set wholes n w) (set reals n r) i ≡ waiting_at wholes reals i
 waiting_kept wholes reals n i w r h =
@@ -74,10 +74,10 @@ laid-new g wholes reals n low w h k l a b c z =
     (a, c, le_refl w.end, laid_kept g wholes reals n n w.start (wholes_of w) (reals_of w) (le_refl n) (laid_more g wholes reals n low w.start b l), z))
 
 module _ (wholes : List (List ℕ)) (reals : List (List Float)) (n : ℕ) (c : Stretch) (d : Drawn) where
-  pub push-uncut : (h : Candidate) → h.held ≡ None → PushDone wholes reals wholes reals n c h d (record { waiting = n; drawn = d })
+  pub push-uncut : (h : Candidate) → h.held ≡ None → HeldDone wholes reals wholes reals n c h d (record { waiting = n; drawn = d })
   unfolding joins
   push-uncut h eh =
-      subst (λ z. PushDone wholes reals wholes reals n c (record { held = z; rows = h.rows }) d (record { waiting = n; drawn = d })) (sym eh)
+      subst (λ z. HeldDone wholes reals wholes reals n c (record { held = z; rows = h.rows }) d (record { waiting = n; drawn = d })) (sym eh)
       (record { same = λ g f. refl; laid = λ g low f l x y z. laid_more g wholes reals n low c.to (le_trans y z) l; most = omega arith; drawn = refl })
 
   abbrev new_waiting : Cut → ℕ → WaitingNode
@@ -97,12 +97,12 @@ module _ (wholes : List (List ℕ)) (reals : List (List Float)) (n : ℕ) (c : S
   pub push-cut : n < length wholes → n < length reals → c.side.count < 4294967296 → (h : Candidate) {t : Cut} {p : Float} → h.held ≡ Some (t, p)
       → {wholes' : List (List ℕ)} {reals' : List (List Float)}
       → wholes' ≡ set wholes n (wholes_of (new_waiting t h.rows)) → reals' ≡ set reals n (reals_of (new_waiting t h.rows))
-      → PushDone wholes reals wholes' reals' n c h d (record { waiting = n + 1; drawn = d })
+      → HeldDone wholes reals wholes' reals' n c h d (record { waiting = n + 1; drawn = d })
   unfolding joins
   push-cut hw hr few h {t} {p} eh {wholes'} {reals'} ew er =
-      subst (λ z. PushDone wholes reals wholes' reals' n c (record { held = z; rows = h.rows }) d (record { waiting = n + 1; drawn = d })) (sym eh)
-      (subst (λ z. PushDone wholes reals z reals' n c held d (record { waiting = n + 1; drawn = d })) (sym ew)
-      (subst (λ z. PushDone wholes reals (set wholes n (wholes_of w)) z n c held d (record { waiting = n + 1; drawn = d })) (sym er)
+      subst (λ z. HeldDone wholes reals wholes' reals' n c (record { held = z; rows = h.rows }) d (record { waiting = n + 1; drawn = d })) (sym eh)
+      (subst (λ z. HeldDone wholes reals z reals' n c held d (record { waiting = n + 1; drawn = d })) (sym ew)
+      (subst (λ z. HeldDone wholes reals (set wholes n (wholes_of w)) z n c held d (record { waiting = n + 1; drawn = d })) (sym er)
       (record {
         same = λ g f.
             ap (λ m. record {
@@ -122,6 +122,24 @@ module _ (wholes : List (List ℕ)) (reals : List (List Float)) (n : ℕ) (c : S
 
       held : Candidate
       held = record { held = Some (t, p); rows = h.rows }
+
+  pub push-bad : {r : Search} {b : BadDraw} → r ≡ Err b → PushDone wholes reals wholes reals n c d r (Err (record { search = d.searches }))
+  unfolding bind
+  push-bad h =
+      subst (λ z. PushDone wholes reals wholes reals n c d z (Err (record { search = d.searches }))) (sym h)
+      (record { same = λ g W M f. refl; laid = λ g low f l x y z. tt; most = tt; fair = λ W f. tt })
+
+  pub push-goes : {r : Search} {h : Candidate} {e : Drawn} → r ≡ Ok (h, e) → {wholes' : List (List ℕ)} {reals' : List (List Float)} {s : Stand} → HeldDone wholes reals wholes' reals' n c h e s
+      → PushDone wholes reals wholes' reals' n c d r (Ok s)
+  unfolding bind
+  push-goes er {wholes'} {reals'} {s} hd =
+      subst (λ z. PushDone wholes reals wholes' reals' n c d z (Ok s)) (sym er)
+      (record {
+        same = λ g W M f i. ok (hd.same g f i, draws_at W M (sym hd.drawn i));
+        laid = hd.laid;
+        most = hd.most;
+        fair = λ W f. subst (Fair W) (sym hd.drawn) f;
+      })
 
 -- ---- a child is searched
 
@@ -155,19 +173,14 @@ module _ (g : Ground) (P : Params) (W : List ℕ) (M : List Float) (wholes : Lis
       ∙ bind-through (search (tape P.features) P (draws_at W M s.drawn) asked) join next
       ∙ ap (λ m. bind m (λ o. ok (joins c.node c.level asked o.0 ++ waiting_list g wholes reals s.waiting, o.1))) (sym e)
 
-  module _ (h : searchable P c.level (bare c.side) ≡ true) where
-    pub ask-bad : {b : BadDraw} → Searched P W M asked s.drawn (Err b) → ChildDone g P W M wholes reals wholes reals c s (Err (record { search = s.drawn.searches }))
-    unfolding bind next
-    ask-bad sd = record { same = sought-is h sd.same; laid = λ low l x y z. tt; most = tt; fair = tt }
-
-    pub ask-goes : {f : Candidate} {d : Drawn} → Searched P W M asked s.drawn (Ok (f, d)) → HeldIn g c.from c.to c.side f.held f.rows
-        → {wholes' : List (List ℕ)} {reals' : List (List Float)} {t : Stand} → PushDone wholes reals wholes' reals' s.waiting c f d t
-        → ChildDone g P W M wholes reals wholes' reals' c s (Ok t)
-    unfolding bind next
-    ask-goes {f} {d} sd held {wholes'} {reals'} {t} pd =
-        record {
-          same = sought-is h sd.same ∙ (λ i. ok (pd.same g held i, draws_at W M (sym pd.drawn i)));
-          laid = λ low l x y z. pd.laid g low held l x y z;
-          most = pd.most;
-          fair = subst (Fair W) (sym pd.drawn) sd.fair;
-        }
+  pub ask-goes : searchable P c.level (bare c.side) ≡ true → {r : Search} → Searched P W M asked s.drawn r → FoundIn g c.from c.to c.side r
+      → {wholes' : List (List ℕ)} {reals' : List (List Float)} {t : Step} → PushDone wholes reals wholes' reals' s.waiting c s.drawn r t
+      → ChildDone g P W M wholes reals wholes' reals' c s t
+  unfolding next
+  ask-goes h sd fi pd =
+      record {
+        same = sought-is h sd.same ∙ pd.same g W M fi;
+        laid = λ low l x y z. pd.laid g low fi l x y z;
+        most = pd.most;
+        fair = pd.fair W sd.fair;
+      }

@@ -6,14 +6,14 @@ ghost use Rattle.rules.specs.Slices.{SameNodes};
 ghost use Rattle.work_columns.specs.Split.{SplitDone};
 ghost use Rattle.work_columns.specs.Rows.{row_in, SplitAsksIn};
 ghost use Rattle.node_entries.specs.Entries.{room_in, LongRoom};
-ghost use Rattle.node_growth.specs.Rooms.{ground_in, RowsUnder, PushDone, ChildAsks, ChildDone, cut_of, wrote_sides};
+ghost use Rattle.node_growth.specs.Rooms.{ground_in, RowsUnder, HeldDone, RowsTo, PushDone, ChildAsks, ChildDone, cut_of, wrote_sides};
 ghost use Rattle.node_growth.specs.Pairs.{stretch_at, PairAsks, PairDone, root_sides, root_pair, child_sides, children_of, PartAsks, PartDone};
 
 use candidates::Candidate;
 use criterion::Side;
 use node_entries::WaitingNode;
 use rules::{Cut, Input, NodeRoom, Params, Shape, Tapes};
-use search::Drawn;
+use search::{Drawn, Search};
 use work_columns::Sides;
 
 // How many wait, and how far the tapes are used.
@@ -54,8 +54,8 @@ pub struct Stretch {
     pub side: Side,
 }
 
-// What a search of the node found joins the waiting list.
-pub fn push_found(
+// What a search of the node held joins the waiting list.
+pub fn push_held(
     wholes: &mut [[u32; 6]],
     reals: &mut [[f64; 3]],
     n: usize,
@@ -66,7 +66,7 @@ pub fn push_found(
     requires wholes_long { n < length wholes.old }
     requires reals_long { n < length reals.old }
     requires rows_small { RowsUnder c.to h.held h.rows }
-    ensures { PushDone wholes.old reals.old wholes.new reals.new n c h d result }
+    ensures { HeldDone wholes.old reals.old wholes.new reals.new n c h d result }
 {
     let Some((cut, _)) = h.held else {
         return Stand {
@@ -91,6 +91,26 @@ pub fn push_found(
         waiting: n + 1,
         drawn: d,
     }
+}
+
+// What a search of the node answers: a bad draw, met at the search whose number d has, or what it held.
+pub fn push_found(
+    wholes: &mut [[u32; 6]],
+    reals: &mut [[f64; 3]],
+    n: usize,
+    c: Stretch,
+    d: Drawn,
+    r: Search,
+) -> Result<Stand, BadSearch>
+    requires wholes_long { n < length wholes.old }
+    requires reals_long { n < length reals.old }
+    requires rows_small { RowsTo c.to r }
+    ensures { PushDone wholes.old reals.old wholes.new reals.new n c d r result }
+{
+    let Ok((h, e)) = r else {
+        return Err(BadSearch { search: d.searches });
+    };
+    Ok(push_held(wholes, reals, n, c, h, e))
 }
 
 // What the search of a child finds joins the waiting list.
@@ -123,10 +143,7 @@ pub fn search_child(
         c.side,
         d,
     );
-    let Ok((h, e)) = found else {
-        return Err(BadSearch { search: d.searches });
-    };
-    Ok(push_found(wholes, reals, s.waiting, c, h, e))
+    push_found(wholes, reals, s.waiting, c, d, found)
 }
 
 // A node's split: its rows get their flags, and the node and its children are written. The score takes totals that are added up afresh.

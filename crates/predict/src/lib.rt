@@ -1,7 +1,7 @@
 // The predictions of one tree.
 #![tactic(auto)]
 
-ghost use Rattle.std.specs.Prelude.{◌≡◌, ◌*◌, ◌≤◌, length, take};
+ghost use Rattle.std.specs.Prelude.{◌≡◌, ◌+◌, ◌*◌, ◌≤◌, ◌++◌, length, take};
 ghost use Rattle.rules.specs.Lent.{outcome_of};
 ghost use Rattle.rules.specs.Slices.{columns_in};
 ghost use Rattle.rules.specs.Checks.{first_failed, replies};
@@ -11,6 +11,17 @@ ghost use Rattle.predict.specs.Front.{Predictable, foretold};
 use rules::{Reply, Shape, Table};
 
 // ---- row by row
+
+// Six values from place i on; by places: what `copy_from_slice` reads as pairs has just been written one by one, and for a tree of few nodes the wait takes longer than its walks.
+fn put_six(out: &mut [f64], i: usize, six: [f64; 6])
+    requires room { i + 6 ≤ length out.old }
+    requires all { length six ≡ 6 }
+    ensures { take (i + 6) out.new ≡ take i out.old ++ six }
+{
+    for k in 0..6 {
+        out[i + k] = six[k];
+    }
+}
 
 // So many times six rows, from the first on, six at a time.
 fn predict_sixes(out: &mut [f64], sixes: usize, features: usize, values: &[f64], table: &Table)
@@ -22,7 +33,7 @@ fn predict_sixes(out: &mut [f64], sixes: usize, features: usize, values: &[f64],
     for b in 0..sixes {
         let i = 6 * b;
         let six = walks::six_values(i, features, 0, n, values, table);
-        out[i..i + 6].copy_from_slice(&six);
+        put_six(out, i, six);
     }
 }
 

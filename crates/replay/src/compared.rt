@@ -1,5 +1,7 @@
 // What a call tells and leaves, held against the answer.
 ghost use Rattle.std.specs.Prelude.{◌≡◌, length};
+ghost use Rattle.std.specs.Float.Ieee as Ieee;
+ghost use Rattle.std.specs.Float.{binary64};
 
 use crate::calls;
 use rules::Refusal;
@@ -14,19 +16,22 @@ pub enum Verdict {
     Malformed,
 }
 
+// What the line of a case ends with.
 impl fmt::Display for Verdict {
     fn fmt<W: fmt::Write>(&self, f: &mut fmt::Formatter<W>) -> fmt::Result {
         match self {
-            Verdict::Agrees => f.write_str(" agrees"),
-            Verdict::Number(n) => write!(f, ": number {n} differs"),
-            Verdict::Room(n) => write!(f, ": room {n} differs"),
-            Verdict::Malformed => f.write_str(" is malformed"),
+            Verdict::Agrees => f.write_str(" agrees\n"),
+            Verdict::Number(n) => write!(f, ": number {n} differs\n"),
+            Verdict::Room(n) => write!(f, ": room {n} differs\n"),
+            Verdict::Malformed => f.write_str(" is malformed\n"),
         }
     }
 }
 
 // The 64 bits of a float; each NaN has the same.
-pub fn pattern(x: f64) -> usize {
+pub fn pattern(x: f64) -> usize
+    ensures { result ≡ Ieee.to_bits binary64 x }
+{
     bits::pattern_of(x) as usize
 }
 

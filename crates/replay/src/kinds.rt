@@ -50,22 +50,23 @@ impl TryFrom<usize> for Kind {
     }
 }
 
+// What its line of the tally begins with.
 impl fmt::Display for Kind {
     fn fmt<W: fmt::Write>(&self, f: &mut fmt::Formatter<W>) -> fmt::Result {
         f.write_str(match self {
-            Kind::TreeFit => "fits of one tree",
-            Kind::ForestFit => "fits of a forest",
-            Kind::Predictions => "predictions",
-            Kind::ForestMeans => "means of a forest",
-            Kind::OutOfBagMeans => "means out of bag",
-            Kind::Normalised => "importances of a tree, normalised",
-            Kind::ByRootMass => "importances of a tree, by the root mass",
-            Kind::ForestImportances => "importances of a forest",
-            Kind::OutOfBagError => "errors out of bag",
-            Kind::Listings => "checks of listings",
-            Kind::TreeCheck => "checks of a tree's table",
-            Kind::ForestCheck => "checks of a forest's table",
-            Kind::NodeRead => "nodes read out",
+            Kind::TreeFit => "fits of one tree: ",
+            Kind::ForestFit => "fits of a forest: ",
+            Kind::Predictions => "predictions: ",
+            Kind::ForestMeans => "means of a forest: ",
+            Kind::OutOfBagMeans => "means out of bag: ",
+            Kind::Normalised => "importances of a tree, normalised: ",
+            Kind::ByRootMass => "importances of a tree, by the root mass: ",
+            Kind::ForestImportances => "importances of a forest: ",
+            Kind::OutOfBagError => "errors out of bag: ",
+            Kind::Listings => "checks of listings: ",
+            Kind::TreeCheck => "checks of a tree's table: ",
+            Kind::ForestCheck => "checks of a forest's table: ",
+            Kind::NodeRead => "nodes read out: ",
         })
     }
 }

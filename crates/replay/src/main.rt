@@ -17,7 +17,8 @@ use crate::calls::Call;
 use crate::compared::Verdict;
 use crate::kinds::Kind;
 use crate::tally::Tally;
-use std::io::Write;
+use console::Console;
+use std::fmt::Write;
 
 // No line has more numbers.
 const LONGEST: usize = 512;
@@ -77,45 +78,45 @@ fn read_case(text: &[u8], tally: &mut Tally) -> Verdict {
     v
 }
 
+// ---- what is told, in as many pieces as ever: one that cannot be written is passed over
+
 // The cases from the list's second line on. A verdict that is no agreement is told.
-fn read_cases(out: &mut impl Write, text: &[u8], tally: &mut Tally) -> std::io::Result<()> {
+fn read_cases(out: &mut Console, text: &[u8], tally: &mut Tally) {
     let mut line: usize = 2;
     let mut at = lines::find(text, 0, b'\n') + 1;
     while at < text.len() {
         let end = lines::find(text, at, b'\n');
         let v = read_case(&text[at..end], tally);
         if !matches!(v, Verdict::Agrees) {
-            writeln!(out, "line {line}{v}")?;
+            let _ = write!(out, "line {line}{v}");
         }
         line = line.saturating_add(1);
         at = end + 1;
     }
-    Ok(())
 }
 
 // How many cases the list's first line says there are.
-fn tell_said(out: &mut impl Write, text: &[u8]) -> std::io::Result<()> {
+fn tell_said(out: &mut Console, text: &[u8]) {
     let end = lines::find(text, 0, b' ');
-    out.write_all(b"cases: ")?;
-    out.write_all(&text[0..end])?;
-    writeln!(out)
+    let _ = write!(out, "cases: ");
+    io::write_all(1, &text[0..end]);
+    let _ = writeln!(out);
 }
 
-fn replay_all(out: &mut impl Write, text: &[u8]) -> std::io::Result<()> {
+fn replay_all(out: &mut Console, text: &[u8]) {
     let mut tally = Tally::none();
-    tell_said(out, text)?;
-    read_cases(out, text, &mut tally)?;
-    write!(out, "{tally}")
+    tell_said(out, text);
+    read_cases(out, text, &mut tally);
+    tally.tell(out);
 }
 
 // So long an array is passed on by its type: the list of its elements is too long to be computed.
-fn with_page(rt: &impl Print, text: &mut [u8; 1048576]) -> std::io::Result<()> {
+fn with_page(text: &mut [u8; 1048576]) {
     let n = io::read_full(0, text);
-    replay_all(&mut std::io::writer(rt), &text[..n])
+    replay_all(&mut Console, &text[..n]);
 }
 
-// An output that takes no more ends what is told, and is no error.
-fn main(rt: HostRuntime) {
+fn main() {
     let mut text = [0u8; 1048576];
-    let _ = with_page(&rt, &mut text);
+    with_page(&mut text);
 }

@@ -1,7 +1,9 @@
 // How many cases of each kind agree, differ and are malformed.
 use crate::compared::Verdict;
 use crate::kinds::{KINDS, Kind};
+use console::Console;
 use std::fmt;
+use std::fmt::Write;
 
 #[derive(Clone, Copy)]
 pub struct Counts {
@@ -21,12 +23,13 @@ impl Counts {
     }
 }
 
+// What the line of a kind ends with.
 impl fmt::Display for Counts {
     fn fmt<W: fmt::Write>(&self, f: &mut fmt::Formatter<W>) -> fmt::Result {
         let agree = self.agree;
         let differ = self.differ;
         let malformed = self.malformed;
-        write!(f, "{agree} agree, {differ} differ, {malformed} malformed")
+        write!(f, "{agree} agree, {differ} differ, {malformed} malformed\n")
     }
 }
 
@@ -59,14 +62,13 @@ impl Tally {
         let i = kind as usize - 1;
         self.counts[i].count(v);
     }
-}
 
-impl fmt::Display for Tally {
-    fn fmt<W: fmt::Write>(&self, f: &mut fmt::Formatter<W>) -> fmt::Result {
+    // A line for each kind, and one for the lines that are no case; a line that cannot be written is passed over.
+    pub fn tell(&self, out: &mut Console) {
         for (kind, counts) in KINDS.iter().zip(&self.counts) {
-            writeln!(f, "{kind}: {counts}")?;
+            let _ = write!(out, "{kind}{counts}");
         }
         let stray = self.stray;
-        writeln!(f, "lines that are no case: {stray}")
+        let _ = writeln!(out, "lines that are no case: {stray}");
     }
 }

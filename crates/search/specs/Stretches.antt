@@ -6,7 +6,11 @@ use Rattle.rules.specs.Search.{Column, NodeRows}
 use Rattle.rules.specs.Lent.{cell}
 use Rattle.search.specs.declared.column.Stretch.{Stretch}
 use Rattle.search.specs.declared.NodeView.{NodeView}
-use Rattle.search.specs.Flat.{tables_in, element_of, run_at, cuts_in, node_rows_at, NodeAsks}
+use Rattle.search.specs.Flat.{tables_in, Shaped, element_of, run_at, cuts_in, node_rows_at, NodeAsks}
+
+-- its tables are as long as rows and features say
+abbrev pub shaped_in : Stretch → Type 0
+shaped_in s = Shaped s.shape.rows s.shape.features (tables_in s.input)
 
 -- the elements that its rows stand for
 abbrev pub elements_in : Stretch → Column

@@ -3,7 +3,7 @@ ghost use Rattle.std.specs.Prelude.{◌≡◌, ℕ, ◌+◌, ◌≤◌, ◌<◌,
 ghost use Rattle.rules.specs.Search.{sweep, tally, best_in};
 ghost use Rattle.candidates.specs.Held.{bare, HeldAt};
 ghost use Rattle.search.specs.Flat.{step_in, cut_between, sweep_of, Sorted, Stepped, Stood, TriedOn};
-ghost use Rattle.search.specs.Stretches.{elements_in, values_in, run_in, cuts_of};
+ghost use Rattle.search.specs.Stretches.{shaped_in, elements_in, values_in, run_in, cuts_of};
 
 use crate::column::{Cell, Stretch};
 use candidates::{Candidate, Spot};
@@ -46,6 +46,7 @@ pub fn step_of(p: Params, a: Side, w: Run, e: Cell, place: usize) -> Run
 
 // The sweep of a column's stretch.
 pub fn sweep_column(col: &Stretch, p: Params, a: Side, w: Run) -> Run
+    requires shape { shaped_in col.now }
     requires room { w.count + tally (elements_in col.now) ≤ a.count }
     requires start { w.last ≡ run_in col.now 0 }
     ensures stood { Stood (values_in col.now) col.now.rows.now w.spot result.spot }
@@ -107,6 +108,7 @@ pub fn held_of(col: &Stretch, height: Height, h: Candidate, s: Spot) -> Candidat
 
 // The best splitter along a column's stretch.
 pub fn best_in(col: &Stretch, p: Params, a: Side, h: Candidate) -> Candidate
+    requires shape { shaped_in col.now }
     requires room { tally (elements_in col.now) ≤ a.count }
     requires sorted { Sorted col.now.feature (elements_in col.now) }
     ensures best { result.held ≡ best_in p (bare a) col.now.feature h.held (elements_in col.now) }

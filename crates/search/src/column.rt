@@ -1,5 +1,5 @@
 // A column's stretch: the rows of a node in the order of a feature's values, and what is read of them.
-ghost use Rattle.std.specs.Prelude.{◌≡◌, ◌<◌, length, get_or};
+ghost use Rattle.std.specs.Prelude.{◌≡◌, ◌*◌, ◌<◌, length, get_or};
 ghost use Rattle.rules.specs.Lent.{cell};
 ghost use Rattle.slices.specs.Cells.{Inside};
 ghost use Rattle.search.specs.Flat.{tables_in, Shaped, Below, Floats, element_of, cell_of};
@@ -16,14 +16,14 @@ pub struct Cell {
     pub value: f64,
 }
 
-// Its rows are among those of the input, and its feature among the features.
+// Its rows are among those of the input, and its feature among the features: each row's value can be read. That targets, counts and weights are as long is asked by those who read them.
 #[derive(Clone, Copy)]
 pub struct Stretch<'a> {
     pub input: Input<'a>,
     pub rows: &'a [u32],
     pub shape: Shape,
     pub feature: u32,
-    pub ghost shaped: { Shaped shape.rows shape.features (tables_in input) },
+    pub ghost wide: { length input.values.now ≡ shape.rows * shape.features },
     pub ghost below: { Below shape.rows rows.now },
     pub ghost one: { feature < shape.features },
 }
@@ -46,7 +46,8 @@ impl Stretch<'_> {
 
     // What a sweep learns of row r.
     pub fn cell(&self, r: usize) -> Cell
-        requires { r < self.now.shape.rows }
+        requires shape { Shaped self.now.shape.rows self.now.shape.features (tables_in self.now.input) }
+        requires row { r < self.now.shape.rows }
         ensures { result ≡ cell_of self.now.feature (element_of self.now.shape.features (tables_in self.now.input) r) }
     {
         cell_of(&self.input, self.shape, self.feature as usize, r)

@@ -109,3 +109,14 @@ module _ (p : ℕ → Bool) where
   four-begun (d ∷ e ∷ []) m h k a b c o q = absurd (omega arith)
   four-begun (d ∷ []) m h k a b c o q = absurd (omega arith)
   four-begun [] m h k a b c o q = absurd (omega arith)
+
+-- none of these places is before the end of the front
+pub four-behind : (s t u : Bool) → (front_end s t u ≤ third_place s t u) × (front_end s t u ≤ last_place s t u)
+four-behind true true true = (omega arith, omega arith)
+four-behind true true false = (omega arith, omega arith)
+four-behind true false true = (omega arith, omega arith)
+four-behind true false false = (omega arith, omega arith)
+four-behind false true true = (omega arith, omega arith)
+four-behind false true false = (omega arith, omega arith)
+four-behind false false true = (omega arith, omega arith)
+four-behind false false false = (omega arith, omega arith)

@@ -10,7 +10,7 @@ use Rattle.std.proofs.Math.Dec.{leb, ltb}
 use borrow.Author.Tests.{lt-ltb, le-ltb, leb-true}
 use Rattle.rules.specs.Words.{from, every, along}
 use Rattle.rules.specs.Lent.{Columns, Entry, shortest, entry_at, entries_at}
-use Rattle.rules.specs.Table.{good_entry, good_from, good_tree, ForestTable, starts_good, tree_at, trees_of, node_of, node_read}
+use Rattle.rules.specs.Table.{good_entry, good_from, good_tree, ForestTable, table_of, starts_good, tree_at, trees_of, node_of, node_read}
 use Rattle.lemmas.specs.Lists.{is_true, each, every-from, same-default, rising-at}
 use Rattle.lemmas.specs.Laid.{entries-long}
 use Rattle.lemmas.specs.Scans.{range-next, range-end}
@@ -83,6 +83,13 @@ starts_part F h =
 
     last : get_or F.starts F.trees (suc (shortest F.nodes)) ≡ get_or (take (F.trees + 1) F.starts) F.trees 0
     last = at F.trees (suc (shortest F.nodes)) (omega arith)
+
+-- the same of any columns that reach as far
+pub starts_told : (trees n : ℕ) (starts : List ℕ) → Started trees starts → (c : Columns) → shortest c ≡ n
+    → (eqb (get_or (take (trees + 1) starts) 0 0) 0 && (along ltb (take (trees + 1) starts) && leb (get_or (take (trees + 1) starts) trees 0) n)) ≡ starts_good (table_of trees starts c)
+starts_told trees n starts h c e =
+    ap (λ k. eqb (get_or (take (trees + 1) starts) 0 0) 0 && (along ltb (take (trees + 1) starts) && leb (get_or (take (trees + 1) starts) trees 0) k)) (sym e)
+    ∙ sym (starts_part (table_of trees starts c) h)
 
 -- ---- where the trees of a good start table lie
 

@@ -1,12 +1,12 @@
 // The table check: refusal 8, the calls that make it alone, and a node read out.
 #![tactic(auto)]
 
-ghost use Rattle.std.specs.Prelude.{◌≡◌, ◌&&◌, ltb};
+ghost use Rattle.std.specs.Prelude.{◌≡◌, ◌&&◌, ◌<◌, eqb, leb, ltb, length, get_or};
 ghost use Rattle.rules.specs.Words.{every, along};
-ghost use Rattle.rules.specs.Lent.{entries_at};
+ghost use Rattle.rules.specs.Lent.{Columns, entries_at, shortest};
 ghost use Rattle.rules.specs.Slices.{columns_in, forest_in};
 ghost use Rattle.rules.specs.Checks.{features_in, trees_in};
-ghost use Rattle.rules.specs.Table.{good_tree, starts_good, trees_of, good_forest, check_tree, check_forest, read_node};
+ghost use Rattle.rules.specs.Table.{good_tree, table_of, starts_good, trees_of, good_forest, check_tree, check_forest, read_node};
 ghost use Rattle.tables.specs.Table.{Within, Started, Lying};
 
 use rules::{NodeReply, Reply, Table, Trees};
@@ -38,15 +38,20 @@ fn starts_rise(starts: &[u32]) -> bool
     starts.is_sorted_by(|a, b| a < b)
 }
 
-// The start table's rule: from 0, each above the one before, the last no further than the columns reach.
-#[tactic(auto, using(crate::specs::Laws::starts_part))]
-pub fn starts_good(forest: &Trees) -> bool
-    requires { Started forest.now.number forest.now.starts.now }
-    ensures { result ≡ starts_good (forest_in forest.now) }
+// The start table's rule, over its part that is looked at: from 0, each above the one before, the last no further than n.
+fn rises_to(starts: &[u32], last: usize, n: usize) -> bool
+    requires { last < length starts.now }
+    ensures { result ≡ (eqb (get_or starts.now 0 0) 0 && (along ltb starts.now && leb (get_or starts.now last 0) n)) }
 {
-    let last = forest.number;
-    let starts = &forest.starts[..last + 1];
-    starts[0] == 0 && starts_rise(starts) && starts[last] as usize <= forest.table.len()
+    starts[0] == 0 && starts_rise(starts) && starts[last] as usize <= n
+}
+
+// n is how far the columns reach.
+pub fn starts_good(trees: usize, starts: &[u32], n: usize) -> bool
+    requires { Started trees starts.now }
+    ensures { (c : Columns) → shortest c ≡ n → result ≡ starts_good (table_of trees starts.now c) }
+{
+    rises_to(&starts[..trees + 1], trees, n)
 }
 
 // Each tree between its two starts.
@@ -69,7 +74,7 @@ pub fn forest_good(features: usize, forest: &Trees) -> bool
     requires { Started forest.now.number forest.now.starts.now }
     ensures { result ≡ good_forest features (forest_in forest.now) }
 {
-    starts_good(forest) && trees_good(features, forest)
+    starts_good(forest.number, forest.starts, forest.table.len()) && trees_good(features, forest)
 }
 
 // ---- the calls

@@ -66,5 +66,10 @@ pub fn plant(
     let grown = tree_growth::grow_tree(
         nodes, work, input, tapes, shape, root.most, p, root.kept, asked,
     );
-    tree_report::tell(grown, asked.totals.mass, tapes)
+    tree_report::tell(
+        grown,
+        asked.totals.mass,
+        tapes.words.len(),
+        tapes.thresholds.len(),
+    )
 }

@@ -1,17 +1,11 @@
 -- `forest_build::plant_all` meets its contract: each turn is one tree more, and what is left to grow makes up the whole. Assumes nothing.
 use Rattle.std.proofs.Common.{rules, refl, arith, Ok, Err}
 use Rattle.std.proofs.lemmas.Result.{err_from_is_err_and}
-use lib.ListN.{length-replicate}
-use Rattle.rules.specs.Words.{nought}
-use Rattle.forest_build.specs.declared.GrownTree.{GrownTree}
 use Rattle.forest_build.specs.All.{going-first, going-may, going-stop, going_on, going_end, end_fits}
 use Rattle.forest_build.proofs.plant_all.Goals as goal
 
-abbrev blank : GrownTree
-blank = record { report = record { nodes = 0; depth = 0; mass = nought; searches = 0; words = 0; thresholds = 0 }; end = 0 }
-
 pub loop-t-init : goal.loop-t-init
-loop-t-init c = record { nodes = search rules; work = search rules; going = going-first _ _ _ _ _ c.requires (length-replicate 1024 blank) }
+loop-t-init c = record { nodes = search rules; work = search rules; going = going-first _ _ _ _ _ c.requires c.told-grown }
 
 pub plant_next-requires : goal.plant_next-requires
 plant_next-requires c = going-may _ _ _ _ _ _ _ _ _ c.loop-t.invariant.going c.loop-t-test.true

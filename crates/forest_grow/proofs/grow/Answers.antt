@@ -5,4 +5,4 @@ use Rattle.forest_grow.proofs.grow.Goals as goal
 
 pub returns-clause-done : goal.returns-clause-done
 returns-clause-done c =
-    grow-done _ _ _ _ _ _ _ _ _ c.plant_in-told.ensures.nodes_long (search rules) c.plant_in-told.ensures.done c.zero_work.ensures.zero c.leave_nodes.ensures.left
+    grow-done _ _ _ _ _ _ _ _ _ _ c.plant_in-told.ensures.nodes_long (search rules) c.plant_in-told.ensures.done c.zero_work.ensures.zero c.leave_nodes.ensures.left

@@ -1,11 +1,9 @@
--- `node_growth::push_found` meets its contract: what the search found decides: nothing changes, or one more waits at the end of the list. Assumes nothing.
-use Rattle.std.proofs.Common.{arith}
-use Rattle.node_growth.specs.Steps.{push-uncut, push-cut}
+-- `node_growth::push_found` meets its contract: a bad draw leaves the list as it was, and else what was held joins it. Assumes nothing.
+use Rattle.node_growth.specs.Steps.{push-bad, push-goes}
 use Rattle.node_growth.proofs.push_found.Goals as goal
 
 pub returns-in_default : goal.returns-in_default
-returns-in_default c = push-uncut _ _ _ _ _ c.args.h c.in_default.is
+returns-in_default c = push-bad _ _ _ _ _ c.in_default.is
 
 pub returns : goal.returns
-returns c =
-    push-cut _ _ _ _ _ c.requires.wholes_long c.requires.reals_long (omega arith) c.args.h c.in-Some.is c.push.ensures.wholes_after c.push.ensures.reals_after
+returns c = push-goes _ _ _ _ _ c.in-Ok.is c.push_held.ensures

@@ -16,7 +16,6 @@ pub loop-b-preserved : goal.loop-b-preserved
 unfolding tree_in
 loop-b-preserved c =
     let a = c.args in
-    six-more (leaf_at a.features a.values.now (tree_in (columns_in a.table.now))) (6 * c.loop-b.b) _ c.loop-b.out c.copy_from_slice.new.self c.loop-b.invariant (omega arith)
-    (c.copy_from_slice.ensures.after ∙ c.six_values-six.ensures
-    ∙ ap (λ n. map (leaf_at a.features a.values.now (entries_at (columns_in a.table.now) 0 n)) (from (6 * c.loop-b.b) 6)) c.len-n.ensures)
-    (6 * (c.loop-b.b + 1)) (omega arith)
+    six-more (leaf_at a.features a.values.now (tree_in (columns_in a.table.now))) (6 * c.loop-b.b) c.loop-b.out _ c.six_values-six.result c.loop-b.invariant
+    (c.six_values-six.ensures ∙ ap (λ n. map (leaf_at a.features a.values.now (entries_at (columns_in a.table.now) 0 n)) (from (6 * c.loop-b.b) 6)) c.len-n.ensures)
+    c.put_six.ensures (6 * (c.loop-b.b + 1)) (omega arith)

@@ -30,20 +30,20 @@ forest_rooms-requires c =
 pub returns-in_err-need : goal.returns-in_err-need
 returns-in_err-need c =
     λ C R h. passed_on _ _ _ c.from_residual.ensures.1
-    (unmet 1 _ _ (asked 1 _ c.need.ensures c.forest_in.ensures) c.in_err-need.was ∙ forest-same _ _ _ _ _ _ _ _ C R h)
+    (unmet 1 _ _ (asked 1 _ c.need.ensures c.forest_in.ensures) c.in_err-need.was ∙ forest-same _ _ _ _ _ _ _ _ _ C R h)
 
 pub returns-in_err-need-2 : goal.returns-in_err-need-2
 returns-in_err-need-2 c =
     λ C R h. passed_on _ _ _ c.from_residual-in_err-need-2.ensures.1
     (met-on 1 _ _ (asked 1 _ c.need.ensures c.forest_in.ensures) c.in_ok-need.was
-    (unmet 2 _ _ (asked 2 _ c.need-2.ensures c.forest_long.ensures) c.in_err-need-2.was) ∙ forest-same _ _ _ _ _ _ _ _ C R h)
+    (unmet 2 _ _ (asked 2 _ c.need-2.ensures c.forest_long.ensures) c.in_err-need-2.was) ∙ forest-same _ _ _ _ _ _ _ _ _ C R h)
 
 pub returns-in_err-need-3 : goal.returns-in_err-need-3
 returns-in_err-need-3 c =
     λ C R h. passed_on _ _ _ c.from_residual-in_err-need-3.ensures.1
     (met-on 1 _ _ (asked 1 _ c.need.ensures c.forest_in.ensures) c.in_ok-need.was
     (met-on 2 _ _ (asked 2 _ c.need-2.ensures c.forest_long.ensures) c.in_ok-need-2.was
-    (unmet 3 _ _ (asked 3 _ c.need-3.ensures c.numbers_good.ensures) c.in_err-need-3.was)) ∙ forest-same _ _ _ _ _ _ _ _ C R h)
+    (unmet 3 _ _ (asked 3 _ c.need-3.ensures c.numbers_good.ensures) c.in_err-need-3.was)) ∙ forest-same _ _ _ _ _ _ _ _ _ C R h)
 
 pub returns-in_err-need-4 : goal.returns-in_err-need-4
 returns-in_err-need-4 c =
@@ -51,7 +51,7 @@ returns-in_err-need-4 c =
     (met-on 1 _ _ (asked 1 _ c.need.ensures c.forest_in.ensures) c.in_ok-need.was
     (met-on 2 _ _ (asked 2 _ c.need-2.ensures c.forest_long.ensures) c.in_ok-need-2.was
     (met-on 3 _ _ (asked 3 _ c.need-3.ensures c.numbers_good.ensures) c.in_ok-need-3.was
-    (unmet 4 _ _ (asked 4 _ c.need-4.ensures c.forest_counts.ensures) c.in_err-need-4.was))) ∙ forest-same _ _ _ _ _ _ _ _ C R h)
+    (unmet 4 _ _ (asked 4 _ c.need-4.ensures c.forest_counts.ensures) c.in_err-need-4.was))) ∙ forest-same _ _ _ _ _ _ _ _ _ C R h)
 
 pub returns-in_err-first_fault : goal.returns-in_err-first_fault
 returns-in_err-first_fault c =
@@ -61,7 +61,7 @@ returns-in_err-first_fault c =
     (met-on 3 _ _ (asked 3 _ c.need-3.ensures c.numbers_good.ensures) c.in_ok-need-3.was
     (met-on 4 _ _ (asked 4 _ c.need-4.ensures c.forest_counts.ensures) c.in_ok-need-4.was
     (all-stop (order_tests c.args.shape c.args.input.now.values.now c.args.input.now.listings.now) _ _ (sym c.first_fault.ensures ∙ c.in_err-first_fault.was)))))
-    ∙ forest-same _ _ _ _ _ _ _ _ C R h)
+    ∙ forest-same _ _ _ _ _ _ _ _ _ C R h)
 
 pub returns : goal.returns
 returns c =
@@ -70,4 +70,4 @@ returns c =
     (met-on 3 _ _ (asked 3 _ c.need-3.ensures c.numbers_good.ensures) c.in_ok-need-3.was
     (met-on 4 _ _ (asked 4 _ c.need-4.ensures c.forest_counts.ensures) c.in_ok-need-4.was
     (all-go-on (order_tests c.args.shape c.args.input.now.values.now c.args.input.now.listings.now) _ (sym c.first_fault.ensures ∙ c.in_ok-first_fault.was)
-    (asked 6 _ c.need-5.ensures (c.forest_rooms.ensures R.work R.reports h.work h.reports)))))) ∙ forest-same _ _ _ _ _ _ _ _ C R h
+    (asked 6 _ c.need-5.ensures (c.forest_rooms.ensures R.work R.reports h.work h.reports)))))) ∙ forest-same _ _ _ _ _ _ _ _ _ C R h
