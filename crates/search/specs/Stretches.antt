@@ -4,13 +4,10 @@ use Rattle.rules.specs.declared.Cut.{Cut}
 use Rattle.rules.specs.declared.Height.{Height}
 use Rattle.rules.specs.Search.{Column, NodeRows}
 use Rattle.rules.specs.Lent.{cell}
+use Rattle.search.specs.declared.column.Readable.{Readable}
 use Rattle.search.specs.declared.column.Stretch.{Stretch}
 use Rattle.search.specs.declared.NodeView.{NodeView}
 use Rattle.search.specs.Flat.{tables_in, Shaped, element_of, run_at, cuts_in, node_rows_at, NodeAsks}
-
--- its tables are as long as rows and features say
-abbrev pub shaped_in : Stretch → Type 0
-shaped_in s = Shaped s.shape.rows s.shape.features (tables_in s.input)
 
 -- the elements that its rows stand for
 abbrev pub elements_in : Stretch → Column
@@ -27,6 +24,20 @@ run_in s = run_at (values_in s) s.rows.now
 -- the cuts by their places: an earlier one, then those before each row
 abbrev pub cuts_of : Height → Stretch → Cut → ℕ → Cut
 cuts_of g s = cuts_in g s.shape.features s.input.values.now s.feature s.rows.now
+
+-- the same where the values alone are read
+abbrev pub values_read : Readable → ℕ → Float
+values_read s = cell s.shape.features s.input.values.now s.feature
+
+abbrev pub run_read : Readable → ℕ → Float
+run_read s = run_at (values_read s) s.rows.now
+
+abbrev pub cuts_read : Height → Readable → Cut → ℕ → Cut
+cuts_read g s = cuts_in g s.shape.features s.input.values.now s.feature s.rows.now
+
+-- all its tables are as long as rows and features say
+abbrev pub shaped_in : Readable → Type 0
+shaped_in s = Shaped s.shape.rows s.shape.features (tables_in s.input)
 
 -- the node's rows, column by column
 abbrev pub node_in : NodeView → NodeRows

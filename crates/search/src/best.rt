@@ -3,9 +3,9 @@ ghost use Rattle.std.specs.Prelude.{◌≡◌, ℕ, ◌+◌, ◌≤◌, ◌<◌,
 ghost use Rattle.rules.specs.Search.{sweep, tally, best_in};
 ghost use Rattle.candidates.specs.Held.{bare, HeldAt};
 ghost use Rattle.search.specs.Flat.{step_in, cut_between, sweep_of, Sorted, Stepped, Stood, TriedOn};
-ghost use Rattle.search.specs.Stretches.{shaped_in, elements_in, values_in, run_in, cuts_of};
+ghost use Rattle.search.specs.Stretches.{shaped_in, elements_in, values_in, run_in, cuts_of, run_read, cuts_read};
 
-use crate::column::{Cell, Stretch};
+use crate::column::{Cell, Readable, Stretch};
 use candidates::{Candidate, Spot};
 use criterion::{Side, no_rows, take_in, threshold_of};
 use rules::{Cut, Height, Params, Totals};
@@ -46,7 +46,6 @@ pub fn step_of(p: Params, a: Side, w: Run, e: Cell, place: usize) -> Run
 
 // The sweep of a column's stretch.
 pub fn sweep_column(col: &Stretch, p: Params, a: Side, w: Run) -> Run
-    requires shape { shaped_in col.now }
     requires room { w.count + tally (elements_in col.now) ≤ a.count }
     requires start { w.last ≡ run_in col.now 0 }
     ensures stood { Stood (values_in col.now) col.now.rows.now w.spot result.spot }
@@ -62,10 +61,28 @@ pub fn sweep_column(col: &Stretch, p: Params, a: Side, w: Run) -> Run
     v
 }
 
+impl<'a> Stretch<'a> {
+    // Its values, for those who read nothing else. It stands apart from the type, since what a type's file cites can't speak of that type.
+    pub fn readable(&self) -> Readable<'a>
+        ensures input { result.input ≡ self.now.input }
+        ensures rows { result.rows ≡ self.now.rows }
+        ensures shape { result.shape ≡ self.now.shape }
+        ensures feature { result.feature ≡ self.now.feature }
+        ensures shaped { shaped_in result }
+    {
+        Readable {
+            input: self.input,
+            rows: self.rows,
+            shape: self.shape,
+            feature: self.feature,
+        }
+    }
+}
+
 // The value of the run of equals that ends before place n, its first, from the column's start on.
-fn run_anew(col: &Stretch, n: usize) -> f64
+fn run_anew(col: &Readable, n: usize) -> f64
     requires { n < length col.now.rows.now }
-    ensures { result ≡ run_in col.now n }
+    ensures { result ≡ run_read col.now n }
 {
     let mut v = col.value(0);
     for i in 0..n {
@@ -75,9 +92,9 @@ fn run_anew(col: &Stretch, n: usize) -> f64
 }
 
 // The same. Values that are equal differ only where they are zeros: any other is the same as the last of its run, which is read first.
-fn run_before(col: &Stretch, n: usize) -> f64
+fn run_before(col: &Readable, n: usize) -> f64
     requires { n < length col.now.rows.now }
-    ensures { result ≡ run_in col.now n }
+    ensures { result ≡ run_read col.now n }
 {
     if 0 < n {
         let v = col.value(n - 1);
@@ -89,9 +106,9 @@ fn run_before(col: &Stretch, n: usize) -> f64
 }
 
 // What is held once the column is swept: if the place of s is in it, the values there are read again.
-pub fn held_of(col: &Stretch, height: Height, h: Candidate, s: Spot) -> Candidate
+pub fn held_of(col: &Readable, height: Height, h: Candidate, s: Spot) -> Candidate
     requires { s.place ≤ length col.now.rows.now }
-    ensures { (b : Cut) → HeldAt h s (cuts_of height col.now b s.place) result }
+    ensures { (b : Cut) → HeldAt h s (cuts_read height col.now b s.place) result }
 {
     if s.place == 0 {
         return h;
@@ -108,7 +125,6 @@ pub fn held_of(col: &Stretch, height: Height, h: Candidate, s: Spot) -> Candidat
 
 // The best splitter along a column's stretch.
 pub fn best_in(col: &Stretch, p: Params, a: Side, h: Candidate) -> Candidate
-    requires shape { shaped_in col.now }
     requires room { tally (elements_in col.now) ≤ a.count }
     requires sorted { Sorted col.now.feature (elements_in col.now) }
     ensures best { result.held ≡ best_in p (bare a) col.now.feature h.held (elements_in col.now) }
@@ -124,5 +140,5 @@ pub fn best_in(col: &Stretch, p: Params, a: Side, h: Candidate) -> Candidate
         spot: candidates::spot_of(h.held),
     };
     let v = sweep_column(col, p, a, w);
-    held_of(col, p.height, h, v.spot)
+    held_of(&col.readable(), p.height, h, v.spot)
 }

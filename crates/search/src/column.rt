@@ -16,9 +16,9 @@ pub struct Cell {
     pub value: f64,
 }
 
-// Its rows are among those of the input, and its feature among the features: each row's value can be read. That targets, counts and weights are as long is asked by those who read them.
+// The values of a column's stretch: its rows are among those of the input, and its feature among the features, so that each row's value can be read.
 #[derive(Clone, Copy)]
-pub struct Stretch<'a> {
+pub struct Readable<'a> {
     pub input: Input<'a>,
     pub rows: &'a [u32],
     pub shape: Shape,
@@ -28,7 +28,7 @@ pub struct Stretch<'a> {
     pub ghost one: { feature < shape.features },
 }
 
-impl Stretch<'_> {
+impl Readable<'_> {
     // The value of the row at place i.
     pub fn value(&self, i: usize) -> f64
         requires { i < length self.now.rows.now }
@@ -43,11 +43,33 @@ impl Stretch<'_> {
             self.feature as usize,
         )
     }
+}
+
+// Its rows are among those of the input, its feature among the features, and the tables are as long as rows and features say.
+#[derive(Clone, Copy)]
+pub struct Stretch<'a> {
+    pub input: Input<'a>,
+    pub rows: &'a [u32],
+    pub shape: Shape,
+    pub feature: u32,
+    pub ghost shaped: { Shaped shape.rows shape.features (tables_in input) },
+    pub ghost below: { Below shape.rows rows.now },
+    pub ghost one: { feature < shape.features },
+}
+
+impl Stretch<'_> {
+    // The value of the row at place i.
+    pub fn value(&self, i: usize) -> f64
+        requires { i < length self.now.rows.now }
+        ensures value { result ≡ cell self.now.shape.features self.now.input.values.now self.now.feature (get_or self.now.rows.now i 0) }
+        ensures floats { Floats self.now.input.values.now }
+    {
+        self.readable().value(i)
+    }
 
     // What a sweep learns of row r.
     pub fn cell(&self, r: usize) -> Cell
-        requires shape { Shaped self.now.shape.rows self.now.shape.features (tables_in self.now.input) }
-        requires row { r < self.now.shape.rows }
+        requires { r < self.now.shape.rows }
         ensures { result ≡ cell_of self.now.feature (element_of self.now.shape.features (tables_in self.now.input) r) }
     {
         cell_of(&self.input, self.shape, self.feature as usize, r)

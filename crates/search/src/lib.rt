@@ -18,6 +18,8 @@ use rules::{Cut, Input, Params, Shape, Splitter, Tapes, Totals};
 pub mod best;
 pub mod column;
 pub mod random;
+#[cfg(test)]
+mod tests;
 
 // The tapes do not have what a search takes from them, or have it wrong.
 #[derive(Clone, Copy)]

@@ -4,7 +4,7 @@ ghost use Rattle.rules.specs.Draws.{tape};
 ghost use Rattle.rules.specs.Search.{tally, random_in};
 ghost use Rattle.candidates.specs.Held.{bare};
 ghost use Rattle.search.specs.Flat.{side_step, true_on, meant_tries, left, draw_at, TriedBy};
-ghost use Rattle.search.specs.Stretches.{shaped_in, elements_in};
+ghost use Rattle.search.specs.Stretches.{elements_in};
 
 use crate::column::{Cell, Stretch};
 use crate::{Attempt, BadDraw};
@@ -37,7 +37,6 @@ pub fn joined_if(s: TrueSide, e: Cell, t: f64) -> TrueSide
 
 // The true side of a column's stretch, by threshold t.
 pub fn true_side(col: &Stretch, t: f64) -> TrueSide
-    requires shape { shaped_in col.now }
     requires room { tally (elements_in col.now) < 4294967296 }
     ensures same { result ≡ true_on (record { feature = col.now.feature; threshold = t }) (elements_in col.now) }
     ensures count { result.side.count ≤ tally (elements_in col.now) }
@@ -66,7 +65,6 @@ pub fn draw_in(
     lo: f64,
     hi: f64,
 ) -> Attempt
-    requires shape { shaped_in col.now }
     requires room { tally (elements_in col.now) ≤ a.count }
     ensures drawn { (W : List ℕ) (s : ℕ) → meant_tries W thresholds.now s result
         ≡ draw_at p (bare a) col.now.feature h.held (elements_in col.now) (left W thresholds.now s m) lo hi }
@@ -98,7 +96,6 @@ pub fn random_in(
     h: Candidate,
     m: usize,
 ) -> Attempt
-    requires shape { shaped_in col.now }
     requires room { tally (elements_in col.now) ≤ a.count }
     ensures drawn { (W : List ℕ) (s : ℕ) → meant_tries W thresholds.now s result ≡ random_in (tape p.features) p (bare a) col.now.feature (record {
       best = h.held;

@@ -2,7 +2,7 @@
 use Rattle.std.proofs.Common.{sym, ◌∙◌, cond}
 use lib.Ieee.{eq}
 use Rattle.search.specs.Flat.{run_at}
-use Rattle.search.specs.Stretches.{values_in}
+use Rattle.search.specs.Stretches.{values_read}
 use Rattle.search.specs.Runs.{run-next}
 use Rattle.search.proofs.best.run_anew.Goals as goal
 
@@ -14,4 +14,4 @@ pub loop-i-preserved : goal.loop-i-preserved
 loop-i-preserved c =
     let l = c.loop-i in
     let s = c.args.col.now in
-    c.run_on-v.ensures ∙ (λ k. cond (eq (c.value.ensures.value k) (l.invariant k)) (l.invariant k) (c.value.ensures.value k)) ∙ sym (run-next (values_in s) s.rows.now l.i)
+    c.run_on-v.ensures ∙ (λ k. cond (eq (c.value.ensures.value k) (l.invariant k)) (l.invariant k) (c.value.ensures.value k)) ∙ sym (run-next (values_read s) s.rows.now l.i)
